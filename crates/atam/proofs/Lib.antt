@@ -1,0 +1,13 @@
+pub mod Lists
+pub mod Boxes
+pub mod Cells
+pub mod Placements
+pub mod Systems
+pub mod Bonds
+pub mod Sequences
+pub mod Closure
+pub mod Canon
+pub mod Count
+pub mod Existence
+pub mod Open
+pub mod Examples

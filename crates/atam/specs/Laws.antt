@@ -1,0 +1,46 @@
+-- Laws of the model, over every system and all lists of placements.
+use Rattle.std.specs.Prelude.{◌≡◌, ◌≤◌, List, Option, None, Contains}
+use Rattle.atam.specs.declared.site.Site.{Site}
+use Rattle.atam.specs.declared.place.TypeId.{TypeId}
+use Rattle.atam.specs.declared.place.Place.{Place}
+use Rattle.atam.specs.TileSystem.{TileSystem}
+use Rattle.atam.specs.Placements.{HasDistinctSites, IsPartOf, SamePlacements, tile_at}
+use Rattle.atam.specs.Assembly.{pull, Attaches}
+use Rattle.atam.specs.Growth.{IsProducible, IsLeastOpen, IsLeastOpenOutside}
+use Rattle.atam.specs.Canonical.{IsCanonical}
+
+-- pulls never fall as tiles are added
+abbrev pub PullsNeverFall : Type 0
+PullsNeverFall = (sys : TileSystem) (part whole : List Place) (m : Site) (t : TypeId) →
+    HasDistinctSites whole → IsPartOf part whole → pull sys part m t ≤ pull sys whole m t
+
+-- a type that attaches still does after more tiles were added, as long as the site is empty
+abbrev pub AttachmentLasts : Type 0
+AttachmentLasts = (sys : TileSystem) (part whole : List Place) (m : Site) (t : TypeId) →
+    HasDistinctSites whole → IsPartOf part whole → Attaches sys part m t → tile_at whole m ≡ None → Attaches sys whole m t
+
+-- a part of a producible assembly that holds the seeds, and to which no tile of the assembly attaches at its own site, is all of it
+abbrev pub ClosedPartIsWhole : Type 0
+ClosedPartIsWhole = (sys : TileSystem) (whole part : List Place) →
+    HasDistinctSites sys.seeds → HasDistinctSites whole → HasDistinctSites part →
+    IsProducible sys whole → IsPartOf part whole → IsPartOf sys.seeds part →
+    ((p : Place) → Contains whole p → ¬ Attaches sys part p.site p.tile) → SamePlacements part whole
+
+-- tiles that hold the seeds have a canonical sequence
+abbrev pub HasCanonicalSequence : Type 0
+HasCanonicalSequence = (sys : TileSystem) (tiles : List Place) → HasDistinctSites sys.seeds → HasDistinctSites tiles →
+    IsPartOf sys.seeds tiles → (s : List Place) × IsCanonical sys tiles s
+
+-- and no other one
+abbrev pub HasOneCanonicalSequence : Type 0
+HasOneCanonicalSequence = (sys : TileSystem) (tiles s t : List Place) → HasDistinctSites tiles →
+    IsCanonical sys tiles s → IsCanonical sys tiles t → s ≡ t
+
+-- there is one least open site, or none, over the plane and over the sites outside the box
+abbrev pub HasOneLeastOpenSite : Type 0
+HasOneLeastOpenSite = (sys : TileSystem) (tiles : List Place) (f g : Option (Site × TypeId)) →
+    IsLeastOpen sys tiles f → IsLeastOpen sys tiles g → f ≡ g
+
+abbrev pub HasOneLeastOpenSiteOutside : Type 0
+HasOneLeastOpenSiteOutside = (sys : TileSystem) (tiles : List Place) (f g : Option (Site × TypeId)) →
+    IsLeastOpenOutside sys tiles f → IsLeastOpenOutside sys tiles g → f ≡ g

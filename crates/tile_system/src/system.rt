@@ -1,0 +1,136 @@
+// A valid system.
+ghost use Rattle.std.specs.Prelude.{◌≡◌, ◌<◌, ◌≤◌, length, slice_get, Some, IfSome};
+ghost use Rattle.atam.specs.TileSystem.{TileSystem, IsValid, IsType, is_pair_of, pair_strength, type_name, side_glue, strength_of, strength_between};
+ghost use Rattle.atam.specs.Sites.{IsBox};
+ghost use Rattle.atam.specs.Assembly.{Fits};
+ghost use Rattle.atam.specs.Growth.{IsLegal};
+ghost use Rattle.atam.specs.Placements.{HasDistinctSites};
+
+use crate::entries::{GlueEntry, TypeEntry};
+use atam::{BoxArea, GlueId, GluePair, Place, Side, TypeId};
+use std::marker::Model;
+
+/// A valid system: names are distinct, indices are in range, and each limit holds.
+#[derive(Drop)]
+pub struct System {
+    glues: Vec<GlueEntry>,
+    pairs: Vec<GluePair>,
+    types: Vec<TypeEntry>,
+    tau: u32,
+    seeds: Vec<Place>,
+    area: BoxArea,
+}
+
+impl Model for System {
+    ghost use Rattle.atam.specs.TileSystem.{TileSystem, IsValid};
+
+    ghost Value = { TileSystem };
+
+    ghost view = { λ s. record { glues = s.glues.items; pairs = s.pairs.items; types = s.types.items; tau = s.tau; seeds = s.seeds.items; area = s.area } };
+
+    ghost invariant = { λ s. IsValid (record { glues = s.glues.items; pairs = s.pairs.items; types = s.types.items; tau = s.tau; seeds = s.seeds.items; area = s.area }) };
+}
+
+impl System {
+    pub fn tau(&self) -> u32
+        ensures tau { result ≡ self.now.tau }
+        ensures valid { IsValid self.now }
+    {
+        self.tau
+    }
+
+    pub fn glue_count(&self) -> u32
+        ensures count { result ≡ length self.now.glues }
+    {
+        self.glues.len() as u32
+    }
+
+    pub fn type_count(&self) -> u32
+        ensures count { result ≡ length self.now.types }
+    {
+        self.types.len() as u32
+    }
+
+    pub fn strength(&self, glue: GlueId) -> u32
+        requires { glue.0 < length self.now.glues }
+        ensures strength { result ≡ strength_of self.now glue }
+        ensures bound { result ≤ 250 }
+    {
+        let entry = &self.glues[glue.0 as usize];
+        entry.strength()
+    }
+
+    pub fn type_name(&self, tile: TypeId) -> &[u8]
+        requires { IsType self.now tile }
+        ensures { result.now ≡ type_name self.now tile }
+    {
+        let entry = &self.types[tile.0 as usize];
+        entry.name()
+    }
+
+    pub fn side(&self, tile: TypeId, side: Side) -> Option<GlueId>
+        requires { IsType self.now tile }
+        ensures glue { result ≡ side_glue self.now tile side }
+        ensures in_range { IfSome result (λ g. g.0 < length self.now.glues) }
+    {
+        let entry = &self.types[tile.0 as usize];
+        entry.side(side)
+    }
+
+    pub fn area(&self) -> BoxArea
+        ensures area { result ≡ self.now.area }
+        ensures box_limits { IsBox result }
+        ensures valid { IsValid self.now }
+    {
+        self.area
+    }
+
+    /// The seeds, in their order.
+    pub fn seeds(&self) -> &[Place]
+        ensures seeds { result.now ≡ self.now.seeds }
+        ensures some { 1 ≤ length result.now }
+        ensures distinct { HasDistinctSites result.now }
+        ensures fits { Fits self.now result.now }
+        ensures legal { IsLegal self.now result.now }
+    {
+        self.seeds.as_slice()
+    }
+
+    /// The first seed.
+    pub fn seed(&self) -> Place
+        ensures first { slice_get self.now.seeds 0 ≡ Some result }
+    {
+        self.seeds[0]
+    }
+
+    /// The strength of two glues: that of the glue where they are one, else that of their pair.
+    #[tactic(auto, unfolding(atam::specs::TileSystem::strength_between))]
+    pub fn between(&self, first: GlueId, second: GlueId) -> u32
+        requires first { first.0 < length self.now.glues }
+        ensures strength { result ≡ strength_between self.now first second }
+        ensures bound { result ≤ 250 }
+    {
+        if first == second {
+            return self.strength(first);
+        }
+        pair_strength(self.pairs.as_slice(), first, second)
+    }
+}
+
+/// The strength of the pair of two glues; 0 where they aren't paired.
+fn pair_strength(pairs: &[GluePair], first: GlueId, second: GlueId) -> u32
+    ensures { result ≡ pair_strength pairs.now first second }
+{
+    pairs
+        .iter()
+        .find(|pair| is_pair_of(pair, first, second))
+        .map(|pair| pair.strength)
+        .unwrap_or(0)
+}
+
+/// Whether a pair is of these two glues, in either order.
+fn is_pair_of(pair: &GluePair, first: GlueId, second: GlueId) -> bool
+    ensures { result ≡ is_pair_of pair.now first second }
+{
+    (pair.first == first && pair.second == second) || (pair.first == second && pair.second == first)
+}
