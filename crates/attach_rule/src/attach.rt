@@ -1,0 +1,85 @@
+// Pull and attachment over any assembly.
+ghost use Rattle.std.specs.Prelude.{◌≡◌, ◌≤◌, ◌≤ℤ◌, ◌↔◌, ◌<◌, IsTrue, IfSome, length};
+ghost use Rattle.atam.specs.TileSystem.{IsType};
+ghost use Rattle.atam.specs.Sites.{IsNearSite};
+ghost use Rattle.atam.specs.Assembly.{Attaches, Fits};
+ghost use Rattle.atam.specs.Assembly as model;
+ghost use Rattle.attach_rule.specs.Searches.{IsFirstType};
+
+use tile_system::{GlueId, Placed, Side, Site, System, TypeId};
+
+// The strength with which two sides interact.
+fn interaction(sys: &System, own: Option<GlueId>, other: Option<GlueId>) -> u32
+    requires { IfSome own (λ g. g.0 < length sys.now.glues) }
+    ensures value { result ≡ model.interaction sys.now own other }
+    ensures bound { result ≤ 250 }
+{
+    match (own, other) {
+        (Some(glue), Some(beside)) => sys.between(glue, beside),
+        _ => 0,
+    }
+}
+
+// The glue on a side of the tile at a site.
+fn glue_at<P: Placed>(sys: &System, placed: &P, site: Site, side: Side) -> Option<GlueId>
+    requires { Fits sys.now (P.placements placed.now) }
+    ensures { result ≡ model.glue_at sys.now (P.placements placed.now) site side }
+{
+    match placed.at(site) {
+        Some(tile) => sys.side(tile, side),
+        None => None,
+    }
+}
+
+/// The strength that a tile of this type at the site has with the tile beside it.
+#[tactic(auto, unfolding(atam::specs::Assembly::bond))]
+pub fn bond<P: Placed>(sys: &System, placed: &P, site: Site, tile: TypeId, side: Side) -> u32
+    requires kind { IsType sys.now tile }
+    requires near { IsNearSite site }
+    requires fits { Fits sys.now (P.placements placed.now) }
+    ensures value { result ≡ model.bond sys.now (P.placements placed.now) site tile side }
+    ensures bound { result ≤ 250 }
+{
+    let own = sys.side(tile, side);
+    let other = glue_at(sys, placed, site.step(side), side.opposite());
+    interaction(sys, own, other)
+}
+
+/// The pull on a type at a site, whether or not the site is empty.
+#[tactic(auto, unfolding(atam::specs::Assembly::pull))]
+pub fn pull<P: Placed>(sys: &System, placed: &P, site: Site, tile: TypeId) -> u32
+    requires kind { IsType sys.now tile }
+    requires near { IsNearSite site }
+    requires fits { Fits sys.now (P.placements placed.now) }
+    ensures value { result ≡ model.pull sys.now (P.placements placed.now) site tile }
+    ensures bound { result ≤ 1000 }
+{
+    bond(sys, placed, site, tile, Side::North)
+        + bond(sys, placed, site, tile, Side::East)
+        + bond(sys, placed, site, tile, Side::South)
+        + bond(sys, placed, site, tile, Side::West)
+}
+
+/// Whether a tile of this type attaches at the site.
+pub fn can_attach<P: Placed>(sys: &System, placed: &P, site: Site, tile: TypeId) -> bool
+    requires kind { IsType sys.now tile }
+    requires near { IsNearSite site }
+    requires fits { Fits sys.now (P.placements placed.now) }
+    ensures { IsTrue result ↔ Attaches sys.now (P.placements placed.now) site tile }
+{
+    placed.at(site).is_none() && pull(sys, placed, site, tile) >= sys.tau()
+}
+
+/// The first type, by index, that attaches at the site.
+pub fn first_type<P: Placed>(sys: &System, placed: &P, site: Site) -> Option<TypeId>
+    requires near { IsNearSite site }
+    requires fits { Fits sys.now (P.placements placed.now) }
+    ensures { IsFirstType sys.now (P.placements placed.now) site result }
+{
+    for index in 0..sys.type_count() {
+        if can_attach(sys, placed, site, TypeId(index)) {
+            return Some(TypeId(index));
+        }
+    }
+    None
+}

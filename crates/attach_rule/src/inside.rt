@@ -1,0 +1,68 @@
+// The least open site of the box.
+ghost use Rattle.std.specs.Prelude.{◌≡◌, ◌≤ℤ◌, ◌+ℤ◌, ◌-ℤ◌, ◌↔◌, pos, IsTrue};
+ghost use Rattle.atam.specs.Sites.{IsNearSite, HasCorners, InBox};
+ghost use Rattle.atam.specs.Assembly.{Fits};
+ghost use Rattle.atam.specs.Growth.{IsClosedInBox, IsLeastOpenAmong};
+ghost use Rattle.attach_rule.specs.Searches.{row_at};
+
+use crate::first_type;
+use tile_system::{BoxArea, Placed, Site, System, TypeId};
+
+// The site, if it is open, with the first type that attaches there.
+pub(crate) fn open_at<P: Placed>(sys: &System, placed: &P, site: Site) -> Option<(Site, TypeId)>
+    requires near { IsNearSite site }
+    requires fits { Fits sys.now (P.placements placed.now) }
+    ensures { IsLeastOpenAmong sys.now (P.placements placed.now) (λ m. m ≡ site) result }
+{
+    match first_type(sys, placed, site) {
+        Some(tile) => Some((site, tile)),
+        None => None,
+    }
+}
+
+// The least open site in the columns of the box, in a row of the box or beside it.
+pub(crate) fn least_in_row<P: Placed>(
+    sys: &System,
+    placed: &P,
+    area: &BoxArea,
+    y: i32,
+) -> Option<(Site, TypeId)>
+    requires corners { HasCorners area.now }
+    requires bottom { (area.now.y0 -ℤ pos 1) ≤ℤ y }
+    requires top { y ≤ℤ (area.now.y1 +ℤ pos 1) }
+    requires fits { Fits sys.now (P.placements placed.now) }
+    ensures { IsLeastOpenAmong sys.now (P.placements placed.now) (InBox (row_at area.now y)) result }
+{
+    for column in 0..area.width() {
+        let site = Site {
+            x: area.x0 + column as i32,
+            y,
+        };
+        if let Some(found) = open_at(sys, placed, site) {
+            return Some(found);
+        }
+    }
+    None
+}
+
+/// The least site of the box where a type attaches, with the first such type.
+pub fn least_open_inside<P: Placed>(sys: &System, placed: &P) -> Option<(Site, TypeId)>
+    requires { Fits sys.now (P.placements placed.now) }
+    ensures { IsLeastOpenAmong sys.now (P.placements placed.now) (InBox sys.now.area) result }
+{
+    let area = sys.area();
+    for row in 0..area.height() {
+        if let Some(found) = least_in_row(sys, placed, &area, area.y0 + row as i32) {
+            return Some(found);
+        }
+    }
+    None
+}
+
+/// Whether no type attaches at any site of the box.
+pub fn closed_in_box<P: Placed>(sys: &System, placed: &P) -> bool
+    requires { Fits sys.now (P.placements placed.now) }
+    ensures { IsTrue result ↔ IsClosedInBox sys.now (P.placements placed.now) }
+{
+    least_open_inside(sys, placed).is_none()
+}

@@ -1,0 +1,10 @@
+//! The pull on a type at a site, attachment, closed assemblies and the least open site.
+#![tactic(auto)]
+
+mod attach;
+mod inside;
+mod outside;
+
+pub use attach::{bond, can_attach, first_type, pull};
+pub use inside::{closed_in_box, least_open_inside};
+pub use outside::least_open_outside;
