@@ -1,0 +1,11 @@
+use Rattle.std.proofs.Common.{take, Ok}
+use Rattle.tile_io.specs.declared.outside.Failed.{Failed}
+use Rattle.tile_io.specs.Chunks.{PassesOn}
+use Rattle.seq_text.specs.GrowthLines.{place_lines}
+use Rattle.seq_text.proofs.places.put_places.Given as goal
+
+-- the lines so far have been taken
+abbrev pub invariant-loop-place : goal.invariant-loop-place
+invariant-loop-place g l =
+    PassesOn {T = Unit {0}} {E = Failed} (g.K.Sink.written l.initial.sink) (g.K.Sink.written l.sink) (g.K.Sink.faults l.initial.sink) (g.K.Sink.faults l.sink) l.initial.chunk l.chunk (Ok tt)
+    (place_lines l.sys (take l.place-index l.places))

@@ -1,0 +1,43 @@
+// The last line of a growth.
+ghost use Rattle.std.specs.Prelude.{IfSome, Some};
+ghost use Rattle.atam.specs.TileSystem.{IsType};
+ghost use Rattle.tile_io.specs.Prints.{Prints};
+ghost use Rattle.seq_text.specs.GrowthLines.{closed_line};
+
+use itoa::Buffer;
+use tile_io::{Failed, Sink, print_line};
+use tile_system::{Site, System, TypeId};
+
+/// Writes the `closed` line for what is open outside the box. It takes no memory.
+pub fn print_closed<K: Sink>(
+    sys: &System,
+    found: Option<(Site, TypeId)>,
+    sink: &mut K,
+) -> Result<(), Failed>
+    requires { IfSome found (λ open_site. IsType sys.now open_site.1) }
+    ensures { Prints (K.written sink.old) (K.written sink.new) (K.faults sink.old) (K.faults sink.new) result
+        (closed_line sys.now found) }
+{
+    match found {
+        Some((site, tile)) => print_clipped(sys, site, tile, sink),
+        None => print_line(sink, b"closed", &[b"terminal"]),
+    }
+}
+
+// Writes the line of an open site.
+fn print_clipped<K: Sink>(
+    sys: &System,
+    site: Site,
+    tile: TypeId,
+    sink: &mut K,
+) -> Result<(), Failed>
+    requires { IsType sys.now tile }
+    ensures { Prints (K.written sink.old) (K.written sink.new) (K.faults sink.old) (K.faults sink.new) result
+        (closed_line sys.now (Some (site, tile))) }
+{
+    let mut x = Buffer::new();
+    let mut y = Buffer::new();
+    let x = x.format(site.x).as_bytes();
+    let y = y.format(site.y).as_bytes();
+    print_line(sink, b"closed", &[b"clipped", x, y, sys.type_name(tile)])
+}

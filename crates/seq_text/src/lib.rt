@@ -1,0 +1,8 @@
+//! Growths as text.
+#![tactic(auto)]
+
+mod closed;
+mod places;
+
+pub use closed::print_closed;
+pub use places::print_places;
