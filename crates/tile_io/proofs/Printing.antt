@@ -44,6 +44,11 @@ Prints-then {a = a} {b = b} {c = c} {f = f} {g = g} {h = h} {p = p} {q = q} (Err
       failed = Rose-later f g h first.later second.failed;
     }
 
+-- a text and then another, neither failing
+pub Prints-both : {T U E F : Type 0} {a b c : Option (List ℕ)} {f g h : ℕ} {x : T} {y : U} {p q : List ℕ} →
+    Prints {T = T} {E = E} a b f g (Ok x) p → Prints {E = F} b c g h (Ok y) q → Prints {E = F} a c f h (Ok y) (p ++ q)
+Prints-both {y = y} first second = Prints-then (Ok y) first second
+
 -- a text and then another that fails
 pub Prints-fails : {T U E F : Type 0} {a b c : Option (List ℕ)} {f g h : ℕ} {x : T} {e : F} {p q : List ℕ} →
     Prints {T = T} {E = E} a b f g (Ok x) p → Prints {T = U} b c g h (Err e) q → Prints {T = U} a c f h (Err e) (p ++ q)
@@ -92,6 +97,11 @@ PassesOn-then {a = a} {b = b} {c = c} {f = f} {g = g} {h = h} {i = i} {j = j} {k
       later = le_trans first.later second.later;
       failed = Rose-later f g h first.later second.failed;
     }
+
+-- a piece and then another, neither failing
+pub PassesOn-both : {T U E F : Type 0} {a b c : Option (List ℕ)} {f g h : ℕ} {i j k : List ℕ} {x : T} {y : U} {p q : List ℕ} →
+    PassesOn {T = T} {E = E} a b f g i j (Ok x) p → PassesOn {E = F} b c g h j k (Ok y) q → PassesOn {E = F} a c f h i k (Ok y) (p ++ q)
+PassesOn-both {y = y} first second = PassesOn-then (Ok y) first second
 
 -- a piece and then another that fails
 pub PassesOn-fails : {T U E F : Type 0} {a b c : Option (List ℕ)} {f g h : ℕ} {i j k : List ℕ} {x : T} {e : F} {p q : List ℕ} →
@@ -158,7 +168,7 @@ module _ {R : Type 0} (text : R → List ℕ) where
   pub Prints-next : {T U E F : Type 0} {a b c : Option (List ℕ)} {f g h : ℕ} {x : T} {y : U} (xs : List R) (k : ℕ) (d : R) → k < length xs →
       Prints {T = T} {E = E} a b f g (Ok x) (flat_map text (take k xs)) → Prints {T = U} {E = F} b c g h (Ok y) (text (get_or xs k d)) →
       Prints {T = U} {E = F} a c f h (Ok y) (flat_map text (take (k + 1) xs))
-  Prints-next {y = y} xs k d within first second = Prints-text (flat_map-next xs k d within) (Prints-then (Ok y) first second)
+  Prints-next xs k d within first second = Prints-text (flat_map-next xs k d within) (Prints-both first second)
 
   -- and stops where one fails
   pub Prints-halted : {T U V E F G : Type 0} {a b c : Option (List ℕ)} {f g h : ℕ} {x : T} {e : F} {z : G} (xs : List R) (k : ℕ) (d : R) → k < length xs →
@@ -172,7 +182,7 @@ module _ {R : Type 0} (text : R → List ℕ) where
   pub PassesOn-next : {T U E F : Type 0} {a b c : Option (List ℕ)} {f g h : ℕ} {i j l : List ℕ} {x : T} {y : U} (xs : List R) (k : ℕ) (d : R) → k < length xs →
       PassesOn {T = T} {E = E} a b f g i j (Ok x) (flat_map text (take k xs)) → PassesOn {T = U} {E = F} b c g h j l (Ok y) (text (get_or xs k d)) →
       PassesOn {T = U} {E = F} a c f h i l (Ok y) (flat_map text (take (k + 1) xs))
-  PassesOn-next {y = y} xs k d within first second = PassesOn-text (flat_map-next xs k d within) (PassesOn-then (Ok y) first second)
+  PassesOn-next xs k d within first second = PassesOn-text (flat_map-next xs k d within) (PassesOn-both first second)
 
   -- and stops where one fails
   pub PassesOn-halted : {T U V E F G : Type 0} {a b c : Option (List ℕ)} {f g h : ℕ} {i j l : List ℕ} {x : T} {e : F} {z : G} (xs : List R) (k : ℕ) (d : R) → k < length xs →

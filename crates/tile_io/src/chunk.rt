@@ -111,7 +111,8 @@ impl Chunk {
     }
 }
 
-/// Prints a line: words with single spaces between them, and a newline.
+/// Prints a line: words with single spaces between them, and a newline. A line of up to 8192 bytes goes out in one
+/// call of a sink that takes it whole.
 pub fn print_line<K: Sink>(sink: &mut K, first: &[u8], rest: &[&[u8]]) -> Result<(), Failed>
     ensures { Prints (K.written sink.old) (K.written sink.new)
         (K.faults sink.old) (K.faults sink.new) result

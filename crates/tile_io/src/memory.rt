@@ -67,14 +67,14 @@ impl Source for MemorySource {
         ensures bytes { ReadConsumes (Some self.old.left) (Some self.new.left) result buf.new }
         ensures rest { KeepsRest (Some self.old.left) result buf.old buf.new }
         ensures cause { HasCause self.old.faults self.new.faults result }
-        ensures listed { IsErr result ↔ FailsAt self.old.fails self.old.calls }
+        ensures fails { IsErr result ↔ FailsAt self.old.fails self.old.calls }
         ensures count { IfOk result (λ n.
             n ≡ min (min self.old.most (length buf.new)) (length self.old.left)) }
-        ensures ok { IfOk result (λ n. self.new ≡ record self.old {
+        ensures taken { IfOk result (λ n. self.new ≡ record self.old {
           left = drop n self.old.left;
           calls = next_count self.old.calls;
         }) }
-        ensures err { OnErr result (self.new ≡ record self.old {
+        ensures counted { OnErr result (self.new ≡ record self.old {
           calls = next_count self.old.calls;
           faults = next_count self.old.faults;
         }) }
@@ -193,15 +193,15 @@ impl Sink for MemorySink {
         ensures some { TakesSome result piece.now }
         ensures bytes { WriteAppends (Some self.old.written) (Some self.new.written) result piece.now }
         ensures cause { HasCause self.old.faults self.new.faults result }
-        ensures listed { IsErr result
+        ensures fails { IsErr result
             ↔ (FailsAt self.old.fails self.old.calls ⊎ IsFullFor self.old piece.now) }
         ensures count { IfOk result (λ n.
             n ≡ min (min self.old.most (length piece.now)) (self.old.room - length self.old.written)) }
-        ensures ok { IfOk result (λ n. self.new ≡ record self.old {
+        ensures taken { IfOk result (λ n. self.new ≡ record self.old {
           written = self.old.written ++ take n piece.now;
           calls = next_count self.old.calls;
         }) }
-        ensures err { OnErr result (self.new ≡ record self.old {
+        ensures counted { OnErr result (self.new ≡ record self.old {
           calls = next_count self.old.calls;
           faults = next_count self.old.faults;
         }) }
