@@ -10,4 +10,6 @@ pub mod Canon
 pub mod Count
 pub mod Existence
 pub mod Open
+pub mod Worked
 pub mod Examples
+pub mod ExamplesOfBonds

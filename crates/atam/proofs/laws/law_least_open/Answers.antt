@@ -1,4 +1,3 @@
-use Rattle.atam.specs.declared.site.Site.{Site}
 use Rattle.atam.specs.Sites.{InBox}
 use Rattle.atam.proofs.Open.{least_open_unique}
 use Rattle.atam.proofs.laws.law_least_open.Goals as goal
