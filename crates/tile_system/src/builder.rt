@@ -46,6 +46,7 @@ impl Model for SystemBuilder {
 
 impl SystemBuilder {
     /// Starts a system of this temperature. The seed's room is taken here.
+    #[tactic(auto, unfolding(crate::specs::Refusals::make_refusal))]
     pub fn make(alloc: Global, tau: u32) -> Result<SystemBuilder, BuildStop>
         ensures refusal { refusal_of result ≡ make_refusal tau }
         ensures ok { IfOk result (λ draft. draft
@@ -190,6 +191,7 @@ impl SystemBuilder {
     }
 
     // Why this glue is refused.
+    #[tactic(auto, unfolding(crate::specs::Refusals::glue_refusal))]
     fn glue_refusal(&self, name: &[u8], strength: u32) -> Option<BuildStop>
         ensures { result ≡ glue_refusal self.now name.now strength }
     {
@@ -207,6 +209,7 @@ impl SystemBuilder {
     }
 
     // Why this type is refused.
+    #[tactic(auto, unfolding(crate::specs::Refusals::tile_refusal))]
     fn tile_refusal(&self, name: &[u8], sides: [Option<GlueId>; 4]) -> Option<BuildStop>
         ensures { result ≡ tile_refusal self.now name.now sides }
     {
@@ -237,7 +240,9 @@ impl SystemBuilder {
         ensures unchanged { OnErr result (self.new ≡ self.old) }
     {
         let name = name.to_vec(self.alloc)?;
-        self.glues.push(self.alloc, GlueEntry::new(name, strength))
+        self.glues
+            .push(self.alloc, GlueEntry::new(name, strength))?;
+        Ok(())
     }
 
     fn push_type(&mut self, name: &[u8], sides: [Option<GlueId>; 4]) -> Result<(), NoMemory>
@@ -246,7 +251,8 @@ impl SystemBuilder {
         ensures unchanged { OnErr result (self.new ≡ self.old) }
     {
         let name = name.to_vec(self.alloc)?;
-        self.types.push(self.alloc, TypeEntry::new(name, sides))
+        self.types.push(self.alloc, TypeEntry::new(name, sides))?;
+        Ok(())
     }
 }
 
