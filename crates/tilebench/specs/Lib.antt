@@ -1,0 +1,5 @@
+pub mod Commands
+pub mod GrowthText
+pub mod Replies
+pub mod Statuses
+pub mod Stops

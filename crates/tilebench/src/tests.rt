@@ -1,0 +1,219 @@
+// Worked examples, run over memory.
+ghost use Rattle.std.specs.Prelude.{◌≤◌};
+
+use crate::{Status, tilebench};
+use std::alloc::Global;
+use std::test::Fail;
+use std::thread::Threads;
+use tile_io::{MemorySink, MemorySource, OpenGate};
+
+const CHAIN: &str = "tiles 1\ntau 2\nglue a 2\nglue b 2\ntile S - a - -\ntile B - b - a\n\
+    tile C - - - b\nbox 0 0 2 0\nseed 0 0 S\nend\n";
+
+const SINGLE: &str = "tiles 1\ntau 1\ntile S - - - -\nbox 0 0 0 0\nseed 0 0 S\nend\n";
+
+// How a run ended, and what its sinks hold.
+#[derive(Drop)]
+struct Outcome {
+    status: Status,
+    out: Vec<u8>,
+    err: Vec<u8>,
+}
+
+// The call of each object that fails, of calls that move a byte each.
+#[derive(Clone, Copy)]
+struct Failures {
+    source: u32,
+    out: u32,
+    err: u32,
+}
+
+const NEVER: u32 = u32::MAX;
+
+// Runs the words on a text; each object fails at its call, and a call moves at most so many bytes.
+fn run<R: Threads + Sync>(
+    rt: &R,
+    alloc: Global,
+    words: &[&str],
+    text: &str,
+    most: usize,
+    failures: Failures,
+) -> Result<Outcome, Fail>
+    requires { 1 ≤ most }
+{
+    let mut list = Vec::new(alloc);
+    for word in words {
+        list.push(String::from_str(alloc, word)?)?;
+    }
+    let input = text.as_bytes().to_vec(alloc)?;
+    let mut source = MemorySource::make(input, most, [failures.source].to_vec(alloc)?);
+    let mut out = MemorySink::make(alloc, 65536, most, [failures.out].to_vec(alloc)?)?;
+    let mut err = MemorySink::make(alloc, 65536, most, [failures.err].to_vec(alloc)?)?;
+    let ran = tilebench(
+        rt,
+        alloc,
+        &list,
+        &mut source,
+        &mut out,
+        &mut err,
+        &OpenGate,
+    );
+    Ok(Outcome {
+        status: ran.status,
+        out: out.bytes().to_vec(alloc)?,
+        err: err.bytes().to_vec(alloc)?,
+    })
+}
+
+// Runs `grow` with nothing that fails.
+fn grown<R: Threads + Sync>(rt: &R, alloc: Global, text: &str) -> Result<Outcome, Fail> {
+    let failures = Failures {
+        source: NEVER,
+        out: NEVER,
+        err: NEVER,
+    };
+    run(rt, alloc, &["grow"], text, 4096, failures)
+}
+
+#[test]
+fn grows_worked_examples(rt: HostRuntime) -> Result<(), Fail> {
+    for (text, status, out) in [
+        (SINGLE, Status::Done, "place 0 0 S\nclosed terminal\n"),
+        (
+            CHAIN,
+            Status::Done,
+            "place 0 0 S\nplace 1 0 B\nplace 2 0 C\nclosed terminal\n",
+        ),
+        // the box ends before C
+        (
+            "tiles 1\ntau 2\nglue a 2\nglue b 2\ntile S - a - -\ntile B - b - a\n\
+             tile C - - - b\nbox 0 0 1 0\nseed 0 0 S\nend\n",
+            Status::No,
+            "place 0 0 S\nplace 1 0 B\nclosed clipped 2 0 C\n",
+        ),
+        // the first of two rivals
+        (
+            "tiles 1\ntau 1\nglue a 1\ntile S - a - -\ntile A - - - a\ntile B - - - a\n\
+             box 0 0 1 0\nseed 0 0 S\nend\n",
+            Status::Done,
+            "place 0 0 S\nplace 1 0 A\nclosed terminal\n",
+        ),
+        // null beside null, and equal glues of strength 0
+        (
+            "tiles 1\ntau 1\nglue z 0\ntile S - z - -\ntile A - - - z\ntile B - - - -\n\
+             box 0 0 1 0\nseed 0 0 S\nend\n",
+            Status::Done,
+            "place 0 0 S\nclosed terminal\n",
+        ),
+        // the strongest glue at the highest temperature
+        (
+            "tiles 1\ntau 1000\nglue a 250\ntile S - a - -\ntile A - - - a\n\
+             box 0 0 1 0\nseed 0 0 S\nend\n",
+            Status::Done,
+            "place 0 0 S\nclosed terminal\n",
+        ),
+        // T mismatches R's side, and is held by two others
+        (
+            "tiles 1\ntau 2\nglue a 2\nglue c 2\nglue p 2\nglue q 2\nglue u 1\nglue w 1\n\
+             glue n 1\nglue m 1\ntile S p a - -\ntile B u c - a\ntile D q - - c\n\
+             tile L - w p -\ntile T - n u w\ntile R - - q m\nbox 0 0 2 1\nseed 0 0 S\nend\n",
+            Status::Done,
+            "place 0 0 S\nplace 1 0 B\nplace 2 0 D\nplace 0 1 L\nplace 1 1 T\nplace 2 1 R\n\
+             closed terminal\n",
+        ),
+        // a seed in the middle of a box with negative corners
+        (
+            "tiles 1\ntau 1\nglue a 1\ntile S - a - a\ntile A - - - a\ntile B - a - -\n\
+             box -3 -7 -1 -7\nseed -2 -7 S\nend\n",
+            Status::Done,
+            "place -2 -7 S\nplace -3 -7 B\nplace -1 -7 A\nclosed terminal\n",
+        ),
+    ] {
+        let ran = grown(&rt, rt.alloc(), text)?;
+        assert_eq!(rt; ran.status, status, "{text}");
+        assert_eq!(rt; ran.out.as_slice(), out.as_bytes(), "{text}");
+        assert_eq!(rt; ran.err.len(), 0, "{text}");
+    }
+    Ok(())
+}
+
+// One site outside is open on one edge of the box; where all four are, the southern one is the least.
+#[test]
+fn names_the_least_open_site_outside(rt: HostRuntime) -> Result<(), Fail> {
+    for (sides, open) in [
+        ("a - - -", "0 1 N"),
+        ("- a - -", "1 0 E"),
+        ("- - a -", "0 -1 S"),
+        ("- - - a", "-1 0 W"),
+        ("a a a a", "0 -1 S"),
+        ("a a - a", "-1 0 W"),
+        ("a a - -", "1 0 E"),
+    ] {
+        let alloc = rt.alloc();
+        let text = format!(in alloc; "tiles 1\ntau 1\nglue a 1\ntile O {sides}\ntile N - - a -\n\
+            tile E - - - a\ntile S a - - -\ntile W - a - -\nbox 0 0 0 0\nseed 0 0 O\nend\n")?;
+        let out = format!(in alloc; "place 0 0 O\nclosed clipped {open}\n")?;
+        let ran = grown(&rt, rt.alloc(), text.as_str())?;
+        assert_eq!(rt; ran.status, Status::No, "{sides}");
+        assert_eq!(rt; ran.out.as_slice(), out.as_bytes(), "{sides}");
+    }
+    Ok(())
+}
+
+#[test]
+fn fills_a_box(rt: HostRuntime) -> Result<(), Fail> {
+    let alloc = rt.alloc();
+    let mut out = String::new(alloc);
+    for y in 0..8 {
+        for x in 0..8 {
+            let line = format!(in alloc; "place {x} {y} T\n")?;
+            out.push_str(line.as_str())?;
+        }
+    }
+    out.push_str("closed clipped 0 -1 T\n")?;
+    let text = "tiles 1\ntau 1\nglue a 1\ntile T a a a a\nbox 0 0 7 7\nseed 0 0 T\nend\n";
+    let ran = grown(&rt, rt.alloc(), text)?;
+    assert_eq!(rt; ran.status, Status::No);
+    assert_eq!(rt; ran.out.as_slice(), out.as_bytes());
+    Ok(())
+}
+
+#[test]
+fn refuses_words_and_texts(rt: HostRuntime) -> Result<(), Fail> {
+    let failures = Failures {
+        source: NEVER,
+        out: NEVER,
+        err: NEVER,
+    };
+    for (words, text, status, err) in [
+        (&[][..], CHAIN, Status::Words, "refused words NoCommand\n"),
+        (&["gorw"][..], CHAIN, Status::Words, "refused words NoCommand\n"),
+        (&["grow", "x"][..], CHAIN, Status::Words, "refused words Usage\n"),
+        (&["grow"][..], "", Status::Text, "refused text line 1 NoHeader\n"),
+        (&["grow"][..], "tiles 1\ntau 0\n", Status::Text, "refused text line 2 OutOfRange\n"),
+        (&["grow"][..], "tiles 1\ntau 1", Status::Text, "refused text line 2 NoEnd\n"),
+    ] {
+        let ran = run(&rt, rt.alloc(), words, text, 4096, failures)?;
+        assert_eq!(rt; ran.status, status, "{err}");
+        assert_eq!(rt; ran.err.as_slice(), err.as_bytes());
+        assert_eq!(rt; ran.out.len(), 0, "{err}");
+    }
+    Ok(())
+}
+
+// A failing call of each object, where each call moves a byte.
+#[test]
+fn tells_faults(rt: HostRuntime) -> Result<(), Fail> {
+    for (words, source, out, err, status, written) in [
+        (&["grow"][..], NEVER, NEVER, NEVER, Status::Done, "place 0 0 S\nclosed terminal\n"),
+        (&["grow"][..], NEVER, 1, NEVER, Status::WriteFault, "p"),
+        (&["grow"][..], 1, NEVER, NEVER, Status::ReadFault, ""),
+        (&[][..], NEVER, NEVER, 0, Status::WriteFault, ""),
+    ] {
+        let ran = run(&rt, rt.alloc(), words, SINGLE, 1, Failures { source, out, err })?;
+        assert_eq!(rt; ran.status, status, "{written}");
+        assert_eq!(rt; ran.out.as_slice(), written.as_bytes());
+        assert_eq!(rt; ran.err.len(), 0, "{written}");
+    }
+    Ok(())
+}
