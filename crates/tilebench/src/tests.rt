@@ -123,8 +123,8 @@ fn grows_worked_examples(rt: HostRuntime) -> Result<(), Fail> {
         ),
         // a seed in the middle of a box with negative corners
         (
-            "tiles 1\ntau 1\nglue a 1\ntile S - a - a\ntile A - - - a\ntile B - a - -\n\
-             box -3 -7 -1 -7\nseed -2 -7 S\nend\n",
+            "tiles 1\ntau 1\nglue a 1\nglue b 1\ntile S - a - b\ntile A - - - a\n\
+             tile B - b - -\nbox -3 -7 -1 -7\nseed -2 -7 S\nend\n",
             Status::Done,
             "place -2 -7 S\nplace -3 -7 B\nplace -1 -7 A\nclosed terminal\n",
         ),
@@ -141,17 +141,17 @@ fn grows_worked_examples(rt: HostRuntime) -> Result<(), Fail> {
 #[test]
 fn names_the_least_open_site_outside(rt: HostRuntime) -> Result<(), Fail> {
     for (sides, open) in [
-        ("a - - -", "0 1 N"),
-        ("- a - -", "1 0 E"),
-        ("- - a -", "0 -1 S"),
-        ("- - - a", "-1 0 W"),
-        ("a a a a", "0 -1 S"),
-        ("a a - a", "-1 0 W"),
-        ("a a - -", "1 0 E"),
+        ("n - - -", "0 1 N"),
+        ("- e - -", "1 0 E"),
+        ("- - s -", "0 -1 S"),
+        ("- - - w", "-1 0 W"),
+        ("n e s w", "0 -1 S"),
+        ("n e - w", "-1 0 W"),
+        ("n e - -", "1 0 E"),
     ] {
         let alloc = rt.alloc();
-        let text = format!(in alloc; "tiles 1\ntau 1\nglue a 1\ntile O {sides}\ntile N - - a -\n\
-            tile E - - - a\ntile S a - - -\ntile W - a - -\nbox 0 0 0 0\nseed 0 0 O\nend\n")?;
+        let text = format!(in alloc; "tiles 1\ntau 1\nglue n 1\nglue e 1\nglue s 1\nglue w 1\n\
+            tile O {sides}\ntile N - - n -\ntile E - - - e\ntile S s - - -\ntile W - w - -\nbox 0 0 0 0\nseed 0 0 O\nend\n")?;
         let out = format!(in alloc; "place 0 0 O\nclosed clipped {open}\n")?;
         let ran = grown(&rt, rt.alloc(), text.as_str())?;
         assert_eq!(rt; ran.status, Status::No, "{sides}");
