@@ -1,99 +1,281 @@
 // A system is built up, item by item.
-ghost use Rattle.std.specs.Prelude.{◌≡◌, ◌<◌, ◌↔◌, [], ◌∷◌, ◌++◌, length, OnErr, IfOk, IsTrue};
-ghost use Rattle.std.specs.List.{list_all};
-ghost use Rattle.atam.specs.TileSystem.{Glue, IsName, is_name, is_name_byte};
-ghost use Rattle.tile_system.specs.Draft.{Draft, HasGlue};
+ghost use Rattle.std.specs.Prelude.{◌≡◌, ◌<◌, ◌≤ℤ◌, pos, negsuc, nat_le, false, [], ◌∷◌, length, None, Some, option_map, IsTrue, ◌↔◌, OnOk, OnErr, IfOk, IfErr};
+ghost use Rattle.std.specs.Option.{option_map_or, option_to_list};
+ghost use Rattle.std.specs.List.{list_any};
+ghost use Rattle.atam.specs.Sites.{HasCorners, IsBox};
+ghost use Rattle.atam.specs.TileSystem.{IsValid};
+ghost use Rattle.tile_system.specs.Draft.{with_glue, with_type, system_of};
+ghost use Rattle.tile_system.specs.Names.{glue_named, type_named};
+ghost use Rattle.tile_system.specs.Refusals.{refusal_of, StopsUnless, LacksFirst, make_refusal, glue_refusal, tile_refusal, is_unknown};
 
-use crate::entries::GlueEntry;
-use atam::GlueId;
+use crate::entries::{GlueEntry, TypeEntry};
+use crate::named::NamedList;
+use crate::{BuildStop, NoMemory, System, is_name};
+use atam::{BoxArea, GlueId, Place, TypeId};
 use std::alloc::Global;
 use std::marker::Model;
-use thiserror::Error;
 
-/// Why an item was refused.
-#[derive(Debug, Drop, PartialEq, Eq, Error)]
-pub enum BuildStop {
-    #[error("bad name")]
-    BadName,
-    #[error("double name")]
-    DoubleName,
-    #[error("out of range")]
-    OutOfRange,
-    #[error("too many")]
-    TooMany,
-    #[error("no memory")]
-    NoMemory,
-}
+const MOST_GLUES: u32 = 8192;
 
-/// Whether these bytes are a name: 1 to 40 letters, digits, `_`, `:` and `.`.
-#[tactic(auto, unfolding(atam::specs::TileSystem::is_name))]
-pub fn is_name(name: &[u8]) -> bool
-    ensures { result ≡ is_name name.now }
-{
-    !name.is_empty() && name.len() <= 40 && are_name_bytes(name)
-}
+const MOST_TYPES: u32 = 16384;
 
-fn are_name_bytes(bytes: &[u8]) -> bool
-    ensures { result ≡ list_all is_name_byte bytes.now }
-{
-    bytes.iter().all(|byte| is_name_byte(*byte))
-}
-
-fn is_name_byte(byte: u8) -> bool
-    ensures { result ≡ is_name_byte byte }
-{
-    byte.is_ascii_alphanumeric() || byte == b'_' || byte == b':' || byte == b'.'
-}
+const MOST_STRENGTH: u32 = 250;
 
 /// A system in the making.
 #[derive(Drop)]
 pub struct SystemBuilder {
     alloc: Global,
+    glues: NamedList<GlueEntry>,
+    types: NamedList<TypeEntry>,
     tau: u32,
-    glues: Vec<GlueEntry>,
+    area: Option<BoxArea>,
+    seeds: Vec<Place>,
 }
 
 impl Model for SystemBuilder {
-    ghost use Rattle.atam.specs.TileSystem.{Glue};
+    ghost use Rattle.std.specs.Prelude.{◌≤◌, vec_capacity};
     ghost use Rattle.tile_system.specs.Draft.{Draft, IsDraft};
 
     ghost Value = { Draft };
 
-    ghost view = { λ b. record { tau = b.tau; glues = b.glues.items } };
+    ghost view = { λ b. record { glues = b.glues; types = b.types; tau = b.tau; area = b.area; seeds = b.seeds.items } };
 
-    ghost invariant = { λ b. IsDraft (record { tau = b.tau; glues = b.glues.items }) };
+    ghost invariant = { λ b. IsDraft (record { glues = b.glues; types = b.types; tau = b.tau; area = b.area; seeds = b.seeds.items })
+        × (1 ≤ vec_capacity b.seeds) };
 }
 
 impl SystemBuilder {
-    /// Adds a glue.
-    pub fn glue(&mut self, name: &[u8], strength: u32) -> Result<GlueId, BuildStop>
-        ensures too_many { (result ≡ Err BuildStop.TooMany) ↔ (length self.old.glues ≡ 8192) }
-        ensures bad_name { (result ≡ Err BuildStop.BadName) ↔ ((length self.old.glues < 8192) × ¬ IsName name.now) }
-        ensures double_name { (result ≡ Err BuildStop.DoubleName) ↔
-            ((length self.old.glues < 8192) × IsName name.now × HasGlue self.old.glues name.now) }
-        ensures out_of_range { (result ≡ Err BuildStop.OutOfRange) ↔
-            ((length self.old.glues < 8192) × IsName name.now × ¬ HasGlue self.old.glues name.now × (250 < strength)) }
-        ensures no_unknown { OnErr result (self.new ≡ self.old) }
-        ensures ok { IfOk result (λ g. (g.0 ≡ length self.old.glues)
-            × (self.new ≡ record self.old { glues = self.old.glues ++ record { name = name.now; strength = strength } ∷ [] })) }
+    /// Starts a system of this temperature. The seed's room is taken here.
+    pub fn make(alloc: Global, tau: u32) -> Result<SystemBuilder, BuildStop>
+        ensures refusal { refusal_of result ≡ make_refusal tau }
+        ensures ok { IfOk result (λ draft. draft
+            ≡ record { glues = []; types = []; tau = tau; area = None; seeds = [] }) }
     {
-        if self.glues.len() == 8192 {
-            return Err(BuildStop::TooMany);
-        }
-        if !is_name(name) {
-            return Err(BuildStop::BadName);
-        }
-        if self.glues.iter().any(|glue| glue.has_name(name)) {
-            return Err(BuildStop::DoubleName);
-        }
-        if strength > 250 {
+        if tau < 1 || tau > 1000 {
             return Err(BuildStop::OutOfRange);
         }
-        let id = GlueId(self.glues.len() as u32);
-        let owned = name.to_vec(self.alloc).map_err(|_| BuildStop::NoMemory)?;
-        self.glues
-            .push(GlueEntry::new(owned, strength))
-            .map_err(|_| BuildStop::NoMemory)?;
+        let mut seeds = Vec::new(alloc);
+        seeds.reserve(1).map_err(|_| BuildStop::NoMemory)?;
+        Ok(SystemBuilder {
+            alloc,
+            glues: NamedList::new(alloc),
+            types: NamedList::new(alloc),
+            tau,
+            area: None,
+            seeds,
+        })
+    }
+
+    /// Adds a glue.
+    pub fn glue(&mut self, name: &[u8], strength: u32) -> Result<GlueId, BuildStop>
+        ensures refusal { refusal_of result ≡ glue_refusal self.old name.now strength }
+        ensures id { IfOk result (λ glue. glue.0 ≡ length self.old.glues) }
+        ensures ok { OnOk result (self.new ≡ with_glue self.old name.now strength) }
+        ensures unchanged { OnErr result (self.new ≡ self.old) }
+    {
+        if let Some(stop) = self.glue_refusal(name, strength) {
+            return Err(stop);
+        }
+        let id = GlueId(self.glue_count());
+        self.push_glue(name, strength)?;
         Ok(id)
     }
+
+    /// Adds a tile type, with its sides in the order north, east, south, west.
+    pub fn tile(&mut self, name: &[u8], sides: [Option<GlueId>; 4]) -> Result<TypeId, BuildStop>
+        ensures refusal { refusal_of result ≡ tile_refusal self.old name.now sides }
+        ensures id { IfOk result (λ tile. tile.0 ≡ length self.old.types) }
+        ensures ok { OnOk result (self.new ≡ with_type self.old name.now sides) }
+        ensures unchanged { OnErr result (self.new ≡ self.old) }
+    {
+        if let Some(stop) = self.tile_refusal(name, sides) {
+            return Err(stop);
+        }
+        let id = TypeId(self.type_count());
+        self.push_type(name, sides)?;
+        Ok(id)
+    }
+
+    /// Gives the box, in place of an earlier one.
+    pub fn area(&mut self, area: BoxArea) -> Result<(), BuildStop>
+        ensures refusal { StopsUnless (IsBox area) BuildStop.OutOfRange result }
+        ensures ok { OnOk result (self.new ≡ record self.old { area = Some area }) }
+        ensures unchanged { OnErr result (self.new ≡ self.old) }
+    {
+        if !is_box(area) {
+            return Err(BuildStop::OutOfRange);
+        }
+        self.area = Some(area);
+        Ok(())
+    }
+
+    /// Gives the seed, in place of an earlier one.
+    pub fn seed(&mut self, place: Place) -> Result<(), BuildStop>
+        ensures refusal { StopsUnless (place.tile.0 < length self.old.types) BuildStop.UnknownType result }
+        ensures ok { OnOk result (self.new ≡ record self.old { seeds = place ∷ [] }) }
+        ensures unchanged { OnErr result (self.new ≡ self.old) }
+    {
+        if place.tile.0 >= self.type_count() {
+            return Err(BuildStop::UnknownType);
+        }
+        self.seeds.clear();
+        self.seeds.push_reserved(place);
+        Ok(())
+    }
+
+    /// Ends the draft. It takes no memory, and a refused draft comes back.
+    pub fn finish(self) -> Result<System, (BuildStop, SystemBuilder)>
+        ensures refusal { IfErr result (λ refused. LacksFirst self refused.0) }
+        ensures area { IfOk result (λ system. self.area ≡ Some system.area) }
+        ensures ok { IfOk result (λ system. system ≡ system_of self system.area) }
+        ensures valid { IfOk result IsValid }
+        ensures unchanged { IfErr result (λ refused. refused.1 ≡ self) }
+    {
+        let Some(area) = self.area else {
+            return Err((BuildStop::NoArea, self));
+        };
+        if self.seeds.is_empty() {
+            return Err((BuildStop::NoSeed, self));
+        }
+        if !area.holds(self.seeds[0].site) {
+            return Err((BuildStop::SeedOutside, self));
+        }
+        Ok(System::new(
+            self.alloc, self.glues, self.types, self.tau, self.seeds, area,
+        ))
+    }
+
+    /// How many glues there are so far.
+    ///
+    /// This reader and the next ones are beyond the usual surface, for whoever builds a system from a text.
+    pub fn glue_count(&self) -> u32
+        ensures { result ≡ length self.now.glues }
+    {
+        self.glues.as_slice().len() as u32
+    }
+
+    /// How many types there are so far.
+    pub fn type_count(&self) -> u32
+        ensures { result ≡ length self.now.types }
+    {
+        self.types.as_slice().len() as u32
+    }
+
+    /// The glue with this name, in time that grows with the logarithm of their number.
+    pub fn find_glue(&self, name: &[u8]) -> Option<GlueId>
+        ensures { option_map (λ glue. glue.0) result ≡ glue_named self.now.glues name.now }
+    {
+        self.glues.find(name).map(GlueId)
+    }
+
+    /// The type with this name, in time that grows with the logarithm of their number.
+    pub fn find_type(&self, name: &[u8]) -> Option<TypeId>
+        ensures { option_map (λ tile. tile.0) result ≡ type_named self.now.types name.now }
+    {
+        self.types.find(name).map(TypeId)
+    }
+
+    /// The box that was given last.
+    pub fn area_given(&self) -> Option<BoxArea>
+        ensures { result ≡ self.now.area }
+    {
+        self.area
+    }
+
+    /// The seed that was given last.
+    pub fn seed_given(&self) -> Option<Place>
+        ensures { option_to_list result ≡ self.now.seeds }
+    {
+        self.seeds.first().copied()
+    }
+
+    // Why this glue is refused.
+    fn glue_refusal(&self, name: &[u8], strength: u32) -> Option<BuildStop>
+        ensures { result ≡ glue_refusal self.now name.now strength }
+    {
+        if self.glue_count() >= MOST_GLUES {
+            Some(BuildStop::TooMany)
+        } else if !is_name(name) {
+            Some(BuildStop::BadName)
+        } else if self.find_glue(name).is_some() {
+            Some(BuildStop::DoubleName)
+        } else if strength > MOST_STRENGTH {
+            Some(BuildStop::OutOfRange)
+        } else {
+            None
+        }
+    }
+
+    // Why this type is refused.
+    fn tile_refusal(&self, name: &[u8], sides: [Option<GlueId>; 4]) -> Option<BuildStop>
+        ensures { result ≡ tile_refusal self.now name.now sides }
+    {
+        if self.type_count() >= MOST_TYPES {
+            Some(BuildStop::TooMany)
+        } else if !is_name(name) {
+            Some(BuildStop::BadName)
+        } else if self.find_type(name).is_some() {
+            Some(BuildStop::DoubleName)
+        } else if self.has_unknown(&sides) {
+            Some(BuildStop::UnknownGlue)
+        } else {
+            None
+        }
+    }
+
+    // Whether a side has a glue that isn't there.
+    fn has_unknown(&self, sides: &[Option<GlueId>]) -> bool
+        ensures { result ≡ list_any (is_unknown self.now) sides.now }
+    {
+        let count = self.glue_count();
+        sides.iter().any(|side| is_past(count, *side))
+    }
+
+    fn push_glue(&mut self, name: &[u8], strength: u32) -> Result<(), NoMemory>
+        requires { glue_refusal self.old name.now strength ≡ None }
+        ensures ok { OnOk result (self.new ≡ with_glue self.old name.now strength) }
+        ensures unchanged { OnErr result (self.new ≡ self.old) }
+    {
+        let name = name.to_vec(self.alloc)?;
+        self.glues.push(self.alloc, GlueEntry::new(name, strength))
+    }
+
+    fn push_type(&mut self, name: &[u8], sides: [Option<GlueId>; 4]) -> Result<(), NoMemory>
+        requires { tile_refusal self.old name.now sides ≡ None }
+        ensures ok { OnOk result (self.new ≡ with_type self.old name.now sides) }
+        ensures unchanged { OnErr result (self.new ≡ self.old) }
+    {
+        let name = name.to_vec(self.alloc)?;
+        self.types.push(self.alloc, TypeEntry::new(name, sides))
+    }
+}
+
+// Whether a side has a glue that is not below this count.
+fn is_past(count: u32, side: Option<GlueId>) -> bool
+    ensures { result ≡ option_map_or (λ glue. nat_le count glue.0) side false }
+{
+    match side {
+        Some(glue) => glue.0 >= count,
+        None => false,
+    }
+}
+
+// Whether corners and sides of a box are within their limits.
+fn is_box(area: BoxArea) -> bool
+    ensures { IsTrue result ↔ IsBox area }
+{
+    has_corners(area) && area.x1 <= area.x0 + 1023 && area.y1 <= area.y0 + 1023
+}
+
+fn has_corners(area: BoxArea) -> bool
+    ensures { IsTrue result ↔ HasCorners area }
+{
+    is_span(area.x0, area.x1) && is_span(area.y0, area.y1)
+}
+
+// Whether two coordinates of corners are in order and within their limits.
+fn is_span(low: i32, high: i32) -> bool
+    ensures { IsTrue result ↔ ((low ≤ℤ high) × (negsuc 999999 ≤ℤ low) × (high ≤ℤ pos 1000000)) }
+{
+    low <= high && -1000000 <= low && high <= 1000000
 }

@@ -1,21 +1,24 @@
 // A valid system.
-ghost use Rattle.std.specs.Prelude.{◌≡◌, ◌<◌, ◌≤◌, length, slice_get, Some, IfSome};
-ghost use Rattle.atam.specs.TileSystem.{TileSystem, IsValid, IsType, is_pair_of, pair_strength, type_name, side_glue, strength_of, strength_between};
+ghost use Rattle.std.specs.Prelude.{◌≡◌, ◌≢◌, ◌<◌, ◌≤◌, [], length, slice_get, Some, IfSome, IfNone, option_map, All};
+ghost use Rattle.atam.specs.TileSystem.{TileSystem, IsValid, IsType, is_pair_of, pair_strength, glue_name, type_name, side_glue, strength_of, strength_between};
 ghost use Rattle.atam.specs.Sites.{IsBox};
+ghost use Rattle.tile_system.specs.Names.{glue_named, type_named};
 ghost use Rattle.atam.specs.Assembly.{Fits};
 ghost use Rattle.atam.specs.Growth.{IsLegal};
 ghost use Rattle.atam.specs.Placements.{HasDistinctSites};
 
 use crate::entries::{GlueEntry, TypeEntry};
+use crate::named::{Named, NamedList};
 use atam::{BoxArea, GlueId, GluePair, Place, Side, TypeId};
+use std::alloc::Global;
 use std::marker::Model;
 
 /// A valid system: names are distinct, indices are in range, and each limit holds.
 #[derive(Drop)]
 pub struct System {
-    glues: Vec<GlueEntry>,
+    glues: NamedList<GlueEntry>,
     pairs: Vec<GluePair>,
-    types: Vec<TypeEntry>,
+    types: NamedList<TypeEntry>,
     tau: u32,
     seeds: Vec<Place>,
     area: BoxArea,
@@ -26,12 +29,34 @@ impl Model for System {
 
     ghost Value = { TileSystem };
 
-    ghost view = { λ s. record { glues = s.glues.items; pairs = s.pairs.items; types = s.types.items; tau = s.tau; seeds = s.seeds.items; area = s.area } };
+    ghost view = { λ s. record { glues = s.glues; pairs = s.pairs.items; types = s.types; tau = s.tau; seeds = s.seeds.items; area = s.area } };
 
-    ghost invariant = { λ s. IsValid (record { glues = s.glues.items; pairs = s.pairs.items; types = s.types.items; tau = s.tau; seeds = s.seeds.items; area = s.area }) };
+    ghost invariant = { λ s. IsValid (record { glues = s.glues; pairs = s.pairs.items; types = s.types; tau = s.tau; seeds = s.seeds.items; area = s.area }) };
 }
 
 impl System {
+    // A system without pairs of these parts.
+    pub(crate) fn new(
+        alloc: Global,
+        glues: NamedList<GlueEntry>,
+        types: NamedList<TypeEntry>,
+        tau: u32,
+        seeds: Vec<Place>,
+        area: BoxArea,
+    ) -> System
+        requires { IsValid (record { glues = glues; pairs = []; types = types; tau = tau; seeds = seeds.items; area = area }) }
+        ensures { result ≡ record { glues = glues; pairs = []; types = types; tau = tau; seeds = seeds.items; area = area } }
+    {
+        System {
+            glues,
+            pairs: Vec::new(alloc),
+            types,
+            tau,
+            seeds,
+            area,
+        }
+    }
+
     pub fn tau(&self) -> u32
         ensures tau { result ≡ self.now.tau }
         ensures valid { IsValid self.now }
@@ -42,13 +67,13 @@ impl System {
     pub fn glue_count(&self) -> u32
         ensures count { result ≡ length self.now.glues }
     {
-        self.glues.len() as u32
+        self.glues.as_slice().len() as u32
     }
 
     pub fn type_count(&self) -> u32
         ensures count { result ≡ length self.now.types }
     {
-        self.types.len() as u32
+        self.types.as_slice().len() as u32
     }
 
     pub fn strength(&self, glue: GlueId) -> u32
@@ -56,15 +81,23 @@ impl System {
         ensures strength { result ≡ strength_of self.now glue }
         ensures bound { result ≤ 250 }
     {
-        let entry = &self.glues[glue.0 as usize];
+        let entry = &self.glues.as_slice()[glue.0 as usize];
         entry.strength()
+    }
+
+    pub fn glue_name(&self, glue: GlueId) -> &[u8]
+        requires { glue.0 < length self.now.glues }
+        ensures { result.now ≡ glue_name self.now glue }
+    {
+        let entry = &self.glues.as_slice()[glue.0 as usize];
+        entry.name()
     }
 
     pub fn type_name(&self, tile: TypeId) -> &[u8]
         requires { IsType self.now tile }
         ensures { result.now ≡ type_name self.now tile }
     {
-        let entry = &self.types[tile.0 as usize];
+        let entry = &self.types.as_slice()[tile.0 as usize];
         entry.name()
     }
 
@@ -73,8 +106,28 @@ impl System {
         ensures glue { result ≡ side_glue self.now tile side }
         ensures in_range { IfSome result (λ g. g.0 < length self.now.glues) }
     {
-        let entry = &self.types[tile.0 as usize];
+        let entry = &self.types.as_slice()[tile.0 as usize];
         entry.side(side)
+    }
+
+    /// The glue with this name, in time that grows with the logarithm of their number.
+    pub fn find_glue(&self, name: &[u8]) -> Option<GlueId>
+        ensures place { option_map (λ glue. glue.0) result ≡ glue_named self.now.glues name.now }
+        ensures in_range { IfSome result (λ glue. glue.0 < length self.now.glues) }
+        ensures named { IfSome result (λ glue. glue_name self.now glue ≡ name.now) }
+        ensures absent { IfNone result (All (λ glue. glue.name ≢ name.now) self.now.glues) }
+    {
+        self.glues.find(name).map(GlueId)
+    }
+
+    /// The type with this name, in time that grows with the logarithm of their number.
+    pub fn find_type(&self, name: &[u8]) -> Option<TypeId>
+        ensures place { option_map (λ tile. tile.0) result ≡ type_named self.now.types name.now }
+        ensures in_range { IfSome result (IsType self.now) }
+        ensures named { IfSome result (λ tile. type_name self.now tile ≡ name.now) }
+        ensures absent { IfNone result (All (λ tile. tile.name ≢ name.now) self.now.types) }
+    {
+        self.types.find(name).map(TypeId)
     }
 
     pub fn area(&self) -> BoxArea
