@@ -16,6 +16,17 @@ pub enum LineStop {
     NoMemory,
 }
 
+impl From<Cause> for LineStop {
+    ghost use Rattle.std.specs.Prelude.{◌≡◌};
+    ghost use Rattle.tile_io.specs.declared.take_lines.LineStop.TheVariants.{Fault};
+
+    ghost from_gives = { λ cause stop. stop ≡ Fault cause };
+
+    fn from(cause: Cause) -> LineStop {
+        LineStop::Fault(cause)
+    }
+}
+
 /// What takes the kept lines of a text of some format.
 pub trait TakeLines {
     ghost Item: { Type 0 };

@@ -16,7 +16,8 @@ use Rattle.tile_text.specs.declared.stage.Stage.TheVariants as stages
 use Rattle.tile_text.specs.SystemText.{SystemItem, glue_of, type_of, count_in, glue_names, glue_fields, tau_fields, follows_tau_or_glue}
 use Rattle.atam.specs.TileSystem.{is_name}
 use Rattle.tile_text.specs.SystemText.SystemItem.{TauLine, GlueLine, TileLine, BoxLine, SeedLine, EndLine}
-use Rattle.tile_text.specs.Drafts.{Parts, items_by, items_of, head_items, LacksBy, Lacks, Gives, Fits}
+use Rattle.tile_text.specs.Drafts.{Parts, items_by, items_of, head_items, LacksBy, Lacks, Gives}
+use Rattle.tile_text.proofs.Sound.{Fits}
 use Rattle.tile_text.specs.declared.kind.LineKind.{LineKind}
 use Rattle.tile_text.specs.declared.kind.LineKind.TheVariants as kinds
 use Rattle.tile_text.specs.Kinds.{row_of, stage_takes, stage_of}
@@ -165,28 +166,20 @@ module _ (earlier : List SystemItem) (words : List (List ℕ)) (name : List ℕ)
   unfolding glue_fields
   glue_bad_name bad = let parts = third words name three at in rw (parts.2, bad) refl
 
-  named : list_any (λ g. bytes_eq name g.name) (filter_map glue_of earlier) ≡ list_any (bytes_eq name) (glue_names earlier)
-  unfolding glue_names
-  named = sym (any_map (bytes_eq name) (filter_map glue_of earlier))
-
-  pub glue_double : is_name name ≡ true → list_any (λ g. bytes_eq name g.name) (filter_map glue_of earlier) ≡ true → glue_fields earlier words ≡ Err DoubleName
+  pub glue_double : is_name name ≡ true → list_any (bytes_eq name) (glue_names earlier) ≡ true → glue_fields earlier words ≡ Err DoubleName
   unfolding glue_fields
-  glue_double good double =
-      let parts = third words name three at in
-      let there : list_any (bytes_eq name) (glue_names earlier) ≡ true = sym named ∙ double in
-      rw (parts.2, good, there) refl
+  glue_double good double = let parts = third words name three at in rw (parts.2, good, double) refl
 
-  pub glue_given : (result : Result ℕ Cause) → is_name name ≡ true → list_any (λ g. bytes_eq name g.name) (filter_map glue_of earlier) ≡ false →
+  pub glue_given : (result : Result ℕ Cause) → is_name name ≡ true → list_any (bytes_eq name) (glue_names earlier) ≡ false →
       ((word : List ℕ) → slice_get words 2 ≡ Some word → Gives (λ n. n) result (count_in 0 250 word)) → Gives (λ n. GlueLine (record { name = name; strength = n })) result (glue_fields earlier words)
   unfolding glue_fields
   glue_given result good single given =
       let parts = third words name three at in
-      let none : list_any (bytes_eq name) (glue_names earlier) ≡ false = sym named ∙ single in
       let Third : List (List ℕ) → Type 0 = λ ws. slice_get ws 2 ≡ Some parts.1 in
       let strength : slice_get words 2 ≡ Some parts.1 = subst Third (sym parts.2) refl in
       let made : ℕ → SystemItem = λ n. GlueLine (record { name = name; strength = n }) in
       let Given : List (List ℕ) → Type 0 = λ ws. Gives made result (glue_fields earlier ws) in
-      let here : Given (parts.0 ∷ name ∷ parts.1 ∷ []) = rw (good, none) (gives_then (λ n. n) made result (count_in 0 250 parts.1) (given parts.1 strength)) in
+      let here : Given (parts.0 ∷ name ∷ parts.1 ∷ []) = rw (good, single) (gives_then (λ n. n) made result (count_in 0 250 parts.1) (given parts.1 strength)) in
       subst Given (sym parts.2) here
 
 -- a glue more

@@ -1,6 +1,6 @@
 -- What a check that passed says of its item.
 use Rattle.std.proofs.Common.{◌≡◌, ℕ, ◌≤◌, ◌<◌, Bool, true, false, cond, List, [], ◌∷◌, length, Option, Some, None, Result, Ok, Err, refl, sym, ap, subst}
-use Rattle.std.specs.Prelude.{ℤ, pos, negsuc, nat_abs, int_le, ◌&&◌, not, bytes_eq, IsTrue, filter_map, position, ok_or, IfSome}
+use Rattle.std.specs.Prelude.{ℤ, pos, negsuc, nat_abs, int_le, ◌&&◌, not, bytes_eq, filter_map, position, ok_or, IfSome}
 use Rattle.std.specs.List.{list_any}
 use Rattle.std.proofs.lemmas.Bool.{leb-true}
 use Rattle.std.proofs.lemmas.List.Quantifiers.{position-Some}
@@ -98,7 +98,7 @@ side_ok earlier word g e = side_by (bytes_eq word (45 ∷ [])) earlier word g e
 
 -- a word that passes the test is a name
 pub name_is : (word : List ℕ) → is_name word ≡ true → IsName word
-name_is word e = subst IsTrue (sym e) tt
+name_is word e = e
 
 -- what a `glue` line says of its glue
 abbrev pub GoodGlue : List SystemItem → Glue → Type 0

@@ -9,6 +9,7 @@ pub mod LineLemmas
 pub mod Inverse
 pub mod Sound
 pub mod Soundness
+pub mod BuilderLemmas
 pub mod Endings
 pub mod SoFar
 pub mod Valid

@@ -11,7 +11,8 @@ use Rattle.tile_text.specs.declared.kind.LineKind.TheVariants as kinds
 use Rattle.tile_text.specs.SystemText.{SystemItem, system_check, system_keywords, glue_names, type_names}
 use Rattle.tile_text.specs.SystemText.SystemItem.{TauLine, GlueLine, TileLine, BoxLine, SeedLine, EndLine}
 use Rattle.tile_text.specs.Kinds.{row_of}
-use Rattle.tile_text.specs.Drafts.{Parts, items_of, Lacks, Fits}
+use Rattle.tile_text.specs.Drafts.{Parts, items_of, Lacks}
+use Rattle.tile_text.proofs.Sound.{Fits}
 use Rattle.tile_text.proofs.Sound.{IsSound}
 use Rattle.tile_text.proofs.Inverse.{bind_ok, require_ok}
 use Rattle.std.proofs.lemmas.Bool.{eqb-true}

@@ -24,6 +24,10 @@ IsTau parts = (1 ≤ parts.tau) × (parts.tau ≤ 1000)
 abbrev pub IsSeed : Parts → Type 0
 IsSeed parts = (parts.seed.tile.0 < length parts.types) × InBox parts.area parts.seed.site
 
+-- the lists keep to their limits
+abbrev pub Fits : Parts → Type 0
+Fits parts = (length parts.glues ≤ 8192) × (length parts.types ≤ 16384)
+
 -- what the lines that stand once say, from their stage on
 abbrev pub HeadsBy : Stage → Parts → Type 0
 HeadsBy stages.Start parts = Unit {0}

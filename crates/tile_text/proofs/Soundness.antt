@@ -22,7 +22,8 @@ use Rattle.tile_text.specs.declared.kind.LineKind.TheVariants as kinds
 use Rattle.tile_text.specs.SystemText.{system_items, glue_of, type_of, glue_names, type_names, is_in_box, is_in_boxes, follows_tau_or_glue, follows_tau_glue_or_tile, follows_tile, follows_box, follows_seed}
 use Rattle.tile_text.specs.SystemText.SystemItem.{GlueLine, TileLine, BoxLine, SeedLine, EndLine}
 use Rattle.tile_text.specs.Kinds.{stage_takes, stage_of}
-use Rattle.tile_text.specs.Drafts.{Parts, items_by, items_of, head_items, LacksBy, Lacks, Fits}
+use Rattle.tile_text.specs.Drafts.{Parts, items_by, items_of, head_items, LacksBy, Lacks}
+use Rattle.tile_text.proofs.Sound.{Fits}
 use Rattle.tile_text.proofs.Sound.{SoundGlues, SoundTypes, IsTau, IsSeed, HeadsBy, IsSound}
 use Rattle.tile_text.proofs.DraftLemmas.{takes_is, stage_is, glues_read, types_read, any_map, with_glue}
 use Rattle.tile_text.proofs.TileLemmas.{with_type, any_type}
@@ -109,11 +110,11 @@ types_none count = record { names = λ k d l. absurd (omega (arith, l)); distinc
 glues_none : SoundGlues []
 glues_none = record { names = λ k d l. absurd (omega (arith, l)); distinct = λ i j d l m. absurd (omega (arith, m)); strengths = λ k d l. absurd (omega (arith, l)) }
 
-declared_glues : (parts : Parts) (name : List ℕ) → Lacks parts → list_any (bytes_eq name) (glue_names (items_of parts)) ≡ list_any (λ g. bytes_eq name g.name) parts.glues
+pub declared_glues : (parts : Parts) (name : List ℕ) → Lacks parts → list_any (bytes_eq name) (glue_names (items_of parts)) ≡ list_any (λ g. bytes_eq name g.name) parts.glues
 unfolding glue_names
 declared_glues parts name h = any_map (bytes_eq name) (filter_map glue_of (items_of parts)) ∙ ap (list_any (λ g. bytes_eq name g.name)) (glues_read parts h)
 
-declared_types : (parts : Parts) (name : List ℕ) → Lacks parts → list_any (bytes_eq name) (type_names (items_of parts)) ≡ list_any (λ t. bytes_eq name t.name) parts.types
+pub declared_types : (parts : Parts) (name : List ℕ) → Lacks parts → list_any (bytes_eq name) (type_names (items_of parts)) ≡ list_any (λ t. bytes_eq name t.name) parts.types
 unfolding type_names
 declared_types parts name h = any_type (bytes_eq name) (filter_map type_of (items_of parts)) ∙ ap (list_any (λ t. bytes_eq name t.name)) (types_read parts h)
 
@@ -160,7 +161,7 @@ type_sound parts t follows h sound good =
 z_le : (a b : ℤ) → int_le a b ≡ true → a ≤ℤ b
 z_le a b e = grind (arith, ints)
 
-box_is_box : (area : BoxArea) → GoodBox area → IsBox area
+pub box_is_box : (area : BoxArea) → GoodBox area → IsBox area
 box_is_box area good =
     let three = and_both (int_le area.x0 area.x1 && int_le area.y0 area.y1 && int_le area.x1 (area.x0 +ℤ pos 1023)) (int_le area.y1 (area.y0 +ℤ pos 1023)) good.0 in
     let two = and_both (int_le area.x0 area.x1 && int_le area.y0 area.y1) (int_le area.x1 (area.x0 +ℤ pos 1023)) three.0 in
@@ -178,7 +179,7 @@ box_is_box area good =
       height = z_le area.y1 (area.y0 +ℤ pos 1023) three.1;
     }
 
-inside_is : (area : BoxArea) (m : Site) → is_in_box area m ≡ true → InBox area m
+pub inside_is : (area : BoxArea) (m : Site) → is_in_box area m ≡ true → InBox area m
 inside_is area m e =
     let three = and_both (int_le area.x0 m.x && int_le m.x area.x1 && int_le area.y0 m.y) (int_le m.y area.y1) e in
     let two = and_both (int_le area.x0 m.x && int_le m.x area.x1) (int_le area.y0 m.y) three.0 in
@@ -224,7 +225,7 @@ valid_by stages.Box parts end h heads = absurd (cc end)
 valid_by stages.Seed parts end h heads = absurd (cc end)
 
 one_site : (p : Place) → HasDistinctSites (p ∷ [])
-one_site p = ?
+one_site p = λ i j d l m same. absurd (omega (arith, l, m))
 
 pub end_valid : (parts : Parts) → parts.stage ≡ stages.End → Lacks parts → Fits parts → IsSound parts → IsValid (system_by parts)
 unfolding Lacks

@@ -16,7 +16,8 @@ use Rattle.tile_text.specs.declared.fields.Sides.{Sides}
 use Rattle.tile_text.specs.SystemText.{SystemItem, glue_of, type_of, side, glue_names, type_names, tile_fields, follows_tau_glue_or_tile}
 use Rattle.atam.specs.TileSystem.{is_name}
 use Rattle.tile_text.specs.SystemText.SystemItem.{GlueLine, TileLine}
-use Rattle.tile_text.specs.Drafts.{Parts, items_by, items_of, head_items, LacksBy, Lacks, Fits, Gives, sides_in, tile_with}
+use Rattle.tile_text.specs.Drafts.{Parts, items_by, items_of, head_items, LacksBy, Lacks, Gives, sides_in, tile_with}
+use Rattle.tile_text.proofs.Sound.{Fits}
 use Rattle.tile_text.specs.declared.kind.LineKind.TheVariants as kinds
 use Rattle.tile_text.specs.Kinds.{stage_takes}
 use Rattle.tile_text.proofs.DraftLemmas.{glues_read, types_read, gives_then, takes_is}
@@ -122,16 +123,9 @@ module _ (earlier : List SystemItem) (words : List (List ℕ)) (name : List ℕ)
   unfolding tile_fields
   tile_bad_name bad = let parts = second_of_six words name count at in rw (parts.5, bad) refl
 
-  type_named : list_any (λ t. bytes_eq name t.name) (filter_map type_of earlier) ≡ list_any (bytes_eq name) (type_names earlier)
-  unfolding type_names
-  type_named = sym (any_type (bytes_eq name) (filter_map type_of earlier))
-
-  pub tile_double : is_name name ≡ true → list_any (λ t. bytes_eq name t.name) (filter_map type_of earlier) ≡ true → tile_fields earlier words ≡ Err DoubleName
+  pub tile_double : is_name name ≡ true → list_any (bytes_eq name) (type_names earlier) ≡ true → tile_fields earlier words ≡ Err DoubleName
   unfolding tile_fields
-  tile_double good double =
-      let parts = second_of_six words name count at in
-      let there : list_any (bytes_eq name) (type_names earlier) ≡ true = sym type_named ∙ double in
-      rw (parts.5, good, there) refl
+  tile_double good double = let parts = second_of_six words name count at in rw (parts.5, good, double) refl
 
   bind_sides : (n e s w : Result (Option GlueId) Cause) →
       (n >>= (λ n. e >>= (λ e. s >>= (λ s. w >>= (λ w. Ok (TileLine (record { name = name; north = n; east = e; south = s; west = w })))))))
@@ -156,13 +150,12 @@ module _ (earlier : List SystemItem) (words : List (List ℕ)) (name : List ℕ)
       (gives_then (λ s. s) (tile_with name) result (sides_in earlier north east south west) (same_gives result (sides_in earlier north east south west) given))
 
   pub tile_given : (north east south west : List ℕ) (result : Result Sides Cause) → slice_get words 2 ≡ Some north → slice_get words 3 ≡ Some east → slice_get words 4 ≡ Some south → slice_get words 5 ≡ Some west →
-      is_name name ≡ true → list_any (λ t. bytes_eq name t.name) (filter_map type_of earlier) ≡ false → result ≡ sides_in earlier north east south west → Gives (tile_with name) result (tile_fields earlier words)
+      is_name name ≡ true → list_any (bytes_eq name) (type_names earlier) ≡ false → result ≡ sides_in earlier north east south west → Gives (tile_with name) result (tile_fields earlier words)
   unfolding tile_fields
   tile_given north east south west result at2 at3 at4 at5 good single given =
       let parts = six words name north east south west count at at2 at3 at4 at5 in
-      let none : list_any (bytes_eq name) (type_names earlier) ≡ false = sym type_named ∙ single in
       let Given : List (List ℕ) → Type 0 = λ ws. Gives (tile_with name) result (tile_fields earlier ws) in
-      let here : Given (parts.0 ∷ name ∷ north ∷ east ∷ south ∷ west ∷ []) = rw (good, none) (sides_then north east south west result given) in
+      let here : Given (parts.0 ∷ name ∷ north ∷ east ∷ south ∷ west ∷ []) = rw (good, single) (sides_then north east south west result given) in
       subst Given (sym parts.1) here
 
 -- a tile type more

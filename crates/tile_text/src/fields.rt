@@ -8,10 +8,19 @@ ghost use Rattle.tile_text.specs.Drafts.{Gives, box_in};
 
 use crate::line::{word_at, word_count};
 use crate::word::is_word;
-use atam::BoxArea;
+use atam::{BoxArea, GlueId};
 use tile_io::{Cause, read_number};
 
-/// A number field that isn't negative.
+/// The glues of a tile's sides.
+#[derive(Clone, Copy, Debug, PartialEq, Eq)]
+pub(crate) struct Sides {
+    pub north: Option<GlueId>,
+    pub east: Option<GlueId>,
+    pub south: Option<GlueId>,
+    pub west: Option<GlueId>,
+}
+
+// A number field that isn't negative.
 fn read_count(word: &[u8], least: u32, most: u32) -> Result<u32, Cause>
     ensures { Gives (λ n. n) result (count_in least most word.now) }
 {
@@ -21,16 +30,16 @@ fn read_count(word: &[u8], least: u32, most: u32) -> Result<u32, Cause>
     }
 }
 
-/// The number of a `tau` line.
-fn read_tau(line: &[u8]) -> Result<u32, Cause>
+// The number of a `tau` line.
+pub(crate) fn read_tau(line: &[u8]) -> Result<u32, Cause>
     requires { length (words_of line.now) ≡ 2 }
     ensures { (earlier : List SystemItem) → Gives TauLine result (tau_fields earlier (words_of line.now)) }
 {
     read_count(word_at(line, 1), 1, 1000)
 }
 
-/// A coordinate.
-fn read_coordinate(word: &[u8]) -> Result<i32, Cause>
+// A coordinate.
+pub(crate) fn read_coordinate(word: &[u8]) -> Result<i32, Cause>
     ensures { result ≡ coordinate word.now }
 {
     match read_number(word, -1000000, 1000000) {
@@ -39,8 +48,8 @@ fn read_coordinate(word: &[u8]) -> Result<i32, Cause>
     }
 }
 
-/// The fields of a `box` line.
-fn read_box(left: &[u8], bottom: &[u8], right: &[u8], top: &[u8]) -> Result<BoxArea, Cause>
+// The fields of a `box` line.
+pub(crate) fn read_box(left: &[u8], bottom: &[u8], right: &[u8], top: &[u8]) -> Result<BoxArea, Cause>
     ensures { result ≡ box_in left.now bottom.now right.now top.now }
 {
     let x0 = read_coordinate(left)?;
@@ -53,7 +62,7 @@ fn read_box(left: &[u8], bottom: &[u8], right: &[u8], top: &[u8]) -> Result<BoxA
     Ok(BoxArea { x0, y0, x1, y1 })
 }
 
-/// Whether a box has 1 to 1024 columns and rows.
+// Whether a box has 1 to 1024 columns and rows.
 fn is_box(x0: i32, y0: i32, x1: i32, y1: i32) -> bool
     ensures { result ≡ is_box (record { x0 = x0; y0 = y0; x1 = x1; y1 = y1 }) }
 {
@@ -78,8 +87,8 @@ fn is_near(least: i32, most: i32) -> bool
     i64::from(most) <= i64::from(least) + 1023
 }
 
-/// Whether the site in this column and row is in a box.
-fn is_in_box(area: BoxArea, x: i32, y: i32) -> bool
+// Whether the site in this column and row is in a box.
+pub(crate) fn is_in_box(area: BoxArea, x: i32, y: i32) -> bool
     ensures { result ≡ is_in_box area (record { x = x; y = y }) }
 {
     are_between(area.x0, x, area.x1, area.y0, y, area.y1)
@@ -97,16 +106,16 @@ fn is_between(least: i32, value: i32, most: i32) -> bool
     at_most(least, value) && at_most(value, most)
 }
 
-/// The strength of a `glue` line whose name is a new one.
-fn read_strength(line: &[u8]) -> Result<u32, Cause>
+// The strength of a `glue` line whose name is a new one.
+pub(crate) fn read_strength(line: &[u8]) -> Result<u32, Cause>
     requires { length (words_of line.now) ≡ 3 }
     ensures { (word : List ℕ) → slice_get (words_of line.now) 2 ≡ Some word → Gives (λ n. n) result (count_in 0 250 word) }
 {
     read_count(word_at(line, 2), 0, 250)
 }
 
-/// Whether a line is the header.
-fn is_header(line: &[u8]) -> bool
+// Whether a line is the header.
+pub(crate) fn is_header(line: &[u8]) -> bool
     requires { length line.now ≤ 256 }
     ensures { result ≡ pointwise bytes_eq (words_of line.now) (codes "tiles" ∷ codes "1" ∷ []) }
 {

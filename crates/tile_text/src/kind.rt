@@ -8,7 +8,7 @@ use crate::word::is_word;
 
 /// A keyword.
 #[derive(Clone, Copy, Debug, PartialEq, Eq)]
-pub enum LineKind {
+pub(crate) enum LineKind {
     Tiles,
     Tau,
     Glue,
@@ -19,7 +19,7 @@ pub enum LineKind {
 }
 
 /// The keyword that a word is.
-pub fn kind_of(word: &[u8]) -> Option<LineKind>
+pub(crate) fn kind_of(word: &[u8]) -> Option<LineKind>
     ensures { option_map row_of result ≡ find (λ row. bytes_eq word.now row.word) system_keywords }
 {
     if is_word(word, b"tiles") {
@@ -48,7 +48,7 @@ pub fn kind_of(word: &[u8]) -> Option<LineKind>
 
 impl LineKind {
     /// The number of words of its lines.
-    pub fn words(self) -> usize
+    pub(crate) fn words(self) -> usize
         ensures { result ≡ words_in self }
     {
         match self {
@@ -62,7 +62,7 @@ impl LineKind {
     }
 
     /// Whether it may stand right after a line of this kind.
-    pub fn follows(self, stage: Stage) -> bool
+    pub(crate) fn follows(self, stage: Stage) -> bool
         ensures { result ≡ stage_takes self stage }
     {
         match (self, stage) {

@@ -4,7 +4,7 @@ ghost use Rattle.tile_text.specs.Drafts.{is_first};
 
 /// The kind of the last kept line.
 #[derive(Clone, Copy, Debug, PartialEq, Eq)]
-pub enum Stage {
+pub(crate) enum Stage {
     Start,
     Header,
     Tau,
@@ -16,7 +16,7 @@ pub enum Stage {
 }
 
 impl Stage {
-    fn is_start(self) -> bool
+    pub(crate) fn is_start(self) -> bool
         ensures { result ≡ is_first self }
     {
         match self {
