@@ -15,11 +15,15 @@ abbrev pub first_refusal : List (Bool × BuildStop) → Option BuildStop
 first_refusal [] = None
 first_refusal (row ∷ rows) = if row.0 then Some row.1 else first_refusal rows
 
--- what a call refused; want of memory is no refusal
+-- the refusal that an error names; want of memory is none
+abbrev pub named_refusal : BuildStop → Option BuildStop
+named_refusal NoMemory = None
+named_refusal stop = Some stop
+
+-- what a call refused
 abbrev pub refusal_of : {T : Type 0} → Result T BuildStop → Option BuildStop
 refusal_of (Ok value) = None
-refusal_of (Err NoMemory) = None
-refusal_of (Err stop) = Some stop
+refusal_of (Err stop) = named_refusal stop
 
 -- Ok where the fact holds, and this stop where it doesn't
 abbrev pub StopsUnless : {T : Type 0} → Type 0 → BuildStop → Result T BuildStop → Type 0

@@ -1,5 +1,5 @@
 // A system is built up, item by item.
-ghost use Rattle.std.specs.Prelude.{◌≡◌, ◌<◌, ◌≤ℤ◌, pos, negsuc, nat_le, false, [], ◌∷◌, length, None, Some, option_map, IsTrue, ◌↔◌, OnOk, OnErr, IfOk, IfErr};
+ghost use Rattle.std.specs.Prelude.{◌≡◌, ◌<◌, ◌≤ℤ◌, ◌+ℤ◌, pos, negsuc, nat_le, false, [], ◌∷◌, length, None, Some, option_map, IsTrue, ◌↔◌, OnOk, OnErr, IfOk, IfErr};
 ghost use Rattle.std.specs.Option.{option_map_or, option_to_list};
 ghost use Rattle.std.specs.List.{list_any};
 ghost use Rattle.atam.specs.Sites.{HasCorners, IsBox};
@@ -46,6 +46,7 @@ impl Model for SystemBuilder {
 
 impl SystemBuilder {
     /// Starts a system of this temperature. The seed's room is taken here.
+    #[tactic(auto, unfolding(crate::specs::Refusals::make_refusal))]
     pub fn make(alloc: Global, tau: u32) -> Result<SystemBuilder, BuildStop>
         ensures refusal { refusal_of result ≡ make_refusal tau }
         ensures ok { IfOk result (λ draft. draft
@@ -73,9 +74,7 @@ impl SystemBuilder {
         ensures ok { OnOk result (self.new ≡ with_glue self.old name.now strength) }
         ensures unchanged { OnErr result (self.new ≡ self.old) }
     {
-        if let Some(stop) = self.glue_refusal(name, strength) {
-            return Err(stop);
-        }
+        self.check_glue(name, strength)?;
         let id = GlueId(self.glue_count());
         self.push_glue(name, strength)?;
         Ok(id)
@@ -88,9 +87,7 @@ impl SystemBuilder {
         ensures ok { OnOk result (self.new ≡ with_type self.old name.now sides) }
         ensures unchanged { OnErr result (self.new ≡ self.old) }
     {
-        if let Some(stop) = self.tile_refusal(name, sides) {
-            return Err(stop);
-        }
+        self.check_tile(name, &sides)?;
         let id = TypeId(self.type_count());
         self.push_type(name, sides)?;
         Ok(id)
@@ -189,38 +186,44 @@ impl SystemBuilder {
         self.seeds.first().copied()
     }
 
-    // Why this glue is refused.
-    fn glue_refusal(&self, name: &[u8], strength: u32) -> Option<BuildStop>
-        ensures { result ≡ glue_refusal self.now name.now strength }
+    // Tries each reason to refuse this glue.
+    #[tactic(auto, unfolding(crate::specs::Refusals::glue_refusal))]
+    fn check_glue(&self, name: &[u8], strength: u32) -> Result<(), BuildStop>
+        ensures { refusal_of result ≡ glue_refusal self.now name.now strength }
     {
         if self.glue_count() >= MOST_GLUES {
-            Some(BuildStop::TooMany)
-        } else if !is_name(name) {
-            Some(BuildStop::BadName)
-        } else if self.find_glue(name).is_some() {
-            Some(BuildStop::DoubleName)
-        } else if strength > MOST_STRENGTH {
-            Some(BuildStop::OutOfRange)
-        } else {
-            None
+            return Err(BuildStop::TooMany);
         }
+        if !is_name(name) {
+            return Err(BuildStop::BadName);
+        }
+        if self.find_glue(name).is_some() {
+            return Err(BuildStop::DoubleName);
+        }
+        if strength > MOST_STRENGTH {
+            return Err(BuildStop::OutOfRange);
+        }
+        Ok(())
     }
 
-    // Why this type is refused.
-    fn tile_refusal(&self, name: &[u8], sides: [Option<GlueId>; 4]) -> Option<BuildStop>
-        ensures { result ≡ tile_refusal self.now name.now sides }
+    // Tries each reason to refuse this type.
+    #[tactic(auto, unfolding(crate::specs::Refusals::tile_refusal))]
+    fn check_tile(&self, name: &[u8], sides: &[Option<GlueId>]) -> Result<(), BuildStop>
+        ensures { refusal_of result ≡ tile_refusal self.now name.now sides.now }
     {
         if self.type_count() >= MOST_TYPES {
-            Some(BuildStop::TooMany)
-        } else if !is_name(name) {
-            Some(BuildStop::BadName)
-        } else if self.find_type(name).is_some() {
-            Some(BuildStop::DoubleName)
-        } else if self.has_unknown(&sides) {
-            Some(BuildStop::UnknownGlue)
-        } else {
-            None
+            return Err(BuildStop::TooMany);
         }
+        if !is_name(name) {
+            return Err(BuildStop::BadName);
+        }
+        if self.find_type(name).is_some() {
+            return Err(BuildStop::DoubleName);
+        }
+        if self.has_unknown(sides) {
+            return Err(BuildStop::UnknownGlue);
+        }
+        Ok(())
     }
 
     // Whether a side has a glue that isn't there.
@@ -237,7 +240,8 @@ impl SystemBuilder {
         ensures unchanged { OnErr result (self.new ≡ self.old) }
     {
         let name = name.to_vec(self.alloc)?;
-        self.glues.push(self.alloc, GlueEntry::new(name, strength))
+        self.glues.push(self.alloc, GlueEntry::new(name, strength))?;
+        Ok(())
     }
 
     fn push_type(&mut self, name: &[u8], sides: [Option<GlueId>; 4]) -> Result<(), NoMemory>
@@ -246,7 +250,8 @@ impl SystemBuilder {
         ensures unchanged { OnErr result (self.new ≡ self.old) }
     {
         let name = name.to_vec(self.alloc)?;
-        self.types.push(self.alloc, TypeEntry::new(name, sides))
+        self.types.push(self.alloc, TypeEntry::new(name, sides))?;
+        Ok(())
     }
 }
 
@@ -264,7 +269,22 @@ fn is_past(count: u32, side: Option<GlueId>) -> bool
 fn is_box(area: BoxArea) -> bool
     ensures { IsTrue result ↔ IsBox area }
 {
-    has_corners(area) && area.x1 <= area.x0 + 1023 && area.y1 <= area.y0 + 1023
+    has_corners(area) && is_short(area)
+}
+
+// Whether both sides have 1024 sites or fewer.
+fn is_short(area: BoxArea) -> bool
+    requires { HasCorners area }
+    ensures { IsTrue result ↔ ((area.x1 ≤ℤ (area.x0 +ℤ pos 1023)) × (area.y1 ≤ℤ (area.y0 +ℤ pos 1023))) }
+{
+    is_short_side(area.x0, area.x1) && is_short_side(area.y0, area.y1)
+}
+
+fn is_short_side(low: i32, high: i32) -> bool
+    requires { low ≤ℤ pos 1000000 }
+    ensures { IsTrue result ↔ (high ≤ℤ (low +ℤ pos 1023)) }
+{
+    high <= low + 1023
 }
 
 fn has_corners(area: BoxArea) -> bool
