@@ -1,0 +1,15 @@
+pub mod Examples
+pub mod TextExamples
+pub mod LinesSpelled
+pub mod KindLemmas
+pub mod DraftLemmas
+pub mod TileLemmas
+pub mod FieldLemmas
+pub mod LineLemmas
+pub mod Inverse
+pub mod Sound
+pub mod Soundness
+pub mod BuilderLemmas
+pub mod Endings
+pub mod SoFar
+pub mod Valid
