@@ -11,7 +11,7 @@ use Rattle.atam.specs.declared.place.TypeId.{TypeId}
 use Rattle.atam.specs.declared.place.Place.{Place}
 use Rattle.atam.specs.declared.area.BoxArea.{BoxArea}
 use Rattle.atam.specs.Sites.{InBox, widened, width_of, height_of, site_in}
-use Rattle.atam.specs.TileSystem.{TileSystem, TileType}
+use Rattle.atam.specs.TileSystem.{TileSystem, Glue, TileType}
 use Rattle.atam.specs.Placements.{tile_at}
 use Rattle.atam.specs.Assembly.{pull, Fits}
 use Rattle.atam.specs.Growth.{IsLegal, CanGrow, IsClosedInBox, IsTerminal}
@@ -26,6 +26,9 @@ glue n = Some (record { 0 = n })
 abbrev pub none : Option GlueId
 none = None
 
+abbrev pub label : List ℕ → ℕ → Glue
+label name strength = record { name = name; strength = strength }
+
 abbrev pub tile : List ℕ → Option GlueId → Option GlueId → Option GlueId → Option GlueId → TileType
 tile name north east south west = record { name = name; north = north; east = east; south = south; west = west }
 
@@ -34,6 +37,9 @@ site x y = record { y = pos y; x = pos x }
 
 abbrev pub place : ℕ → ℕ → ℕ → Place
 place x y t = record { site = site x y; tile = record { 0 = t } }
+
+abbrev pub type_id : ℕ → TypeId
+type_id t = record { 0 = t }
 
 abbrev pub box : ℕ → ℕ → BoxArea
 box x1 y1 = record { x0 = pos 0; y0 = pos 0; x1 = pos x1; y1 = pos y1 }
@@ -123,7 +129,12 @@ pub IsTerminal-from : (sys : TileSystem) (tiles : List Place) → 1 ≤ sys.tau 
 IsTerminal-from sys tiles some_tau fits h m t grows = none_grows (widened sys.area) sys tiles h m t (open_near_box sys tiles m t some_tau fits grows) grows
 
 pub InBox-from : (x1 y1 x y : ℕ) → x ≤ x1 → y ≤ y1 → InBox (box x1 y1) (site x y)
-InBox-from x1 y1 x y x_within y_within = record { left = omega (arith, ints); right = omega (arith, ints, x_within); bottom = omega (arith, ints); top = omega (arith, ints, y_within) }
+InBox-from x1 y1 x y x_within y_within = record {
+  left = omega (arith, ints);
+  right = omega (arith, ints, x_within);
+  bottom = omega (arith, ints);
+  top = omega (arith, ints, y_within);
+}
 
 -- whether a test holds of each place after the seeds
 abbrev pub each_later : TileSystem → List Place → (ℕ → Place → Bool) → Bool

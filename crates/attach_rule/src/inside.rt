@@ -31,7 +31,8 @@ pub(crate) fn least_in_row<P: Placed>(
     requires bottom { (area.now.y0 -ℤ pos 1) ≤ℤ y }
     requires top { y ≤ℤ (area.now.y1 +ℤ pos 1) }
     requires fits { Fits sys.now (P.placements placed.now) }
-    ensures { IsLeastOpenAmong sys.now (P.placements placed.now) (InBox (row_at area.now y)) result }
+    ensures { IsLeastOpenAmong sys.now (P.placements placed.now)
+        (InBox (row_at area.now y)) result }
 {
     for column in 0..area.width() {
         let site = Site {

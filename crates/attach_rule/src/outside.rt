@@ -19,7 +19,8 @@ fn least_at_row_ends<P: Placed>(
     requires bottom { area.now.y0 ≤ℤ y }
     requires top { y ≤ℤ area.now.y1 }
     requires fits { Fits sys.now (P.placements placed.now) }
-    ensures { IsLeastOpenAmong sys.now (P.placements placed.now) (IsAtEnds (row_at area.now y)) result }
+    ensures { IsLeastOpenAmong sys.now (P.placements placed.now)
+        (IsAtEnds (row_at area.now y)) result }
 {
     let west = Site { x: area.x0 - 1, y };
     if let Some(found) = open_at(sys, placed, west) {
