@@ -49,15 +49,7 @@ fn run<R: Threads + Sync>(
     let mut source = MemorySource::make(input, most, [failures.source].to_vec(alloc)?);
     let mut out = MemorySink::make(alloc, 65536, most, [failures.out].to_vec(alloc)?)?;
     let mut err = MemorySink::make(alloc, 65536, most, [failures.err].to_vec(alloc)?)?;
-    let ran = tilebench(
-        rt,
-        alloc,
-        &list,
-        &mut source,
-        &mut out,
-        &mut err,
-        &OpenGate,
-    );
+    let ran = tilebench(rt, alloc, &list, &mut source, &mut out, &mut err, &OpenGate);
     Ok(Outcome {
         status: ran.status,
         out: out.bytes().to_vec(alloc)?,
@@ -150,8 +142,10 @@ fn names_the_least_open_site_outside(rt: HostRuntime) -> Result<(), Fail> {
         ("n e - -", "1 0 E"),
     ] {
         let alloc = rt.alloc();
-        let text = format!(in alloc; "tiles 1\ntau 1\nglue n 1\nglue e 1\nglue s 1\nglue w 1\n\
-            tile O {sides}\ntile N - - n -\ntile E - - - e\ntile S s - - -\ntile W - w - -\nbox 0 0 0 0\nseed 0 0 O\nend\n")?;
+        let text = format!(in alloc;
+            "tiles 1\ntau 1\nglue n 1\nglue e 1\nglue s 1\nglue w 1\n\
+            tile O {sides}\ntile N - - n -\ntile E - - - e\ntile S s - - -\ntile W - w - -\nbox 0 0 0 0\nseed 0 0 O\nend\n"
+        )?;
         let out = format!(in alloc; "place 0 0 O\nclosed clipped {open}\n")?;
         let ran = grown(&rt, rt.alloc(), text.as_str())?;
         assert_eq!(rt; ran.status, Status::No, "{sides}");
@@ -187,11 +181,36 @@ fn refuses_words_and_texts(rt: HostRuntime) -> Result<(), Fail> {
     };
     for (words, text, status, err) in [
         (&[][..], CHAIN, Status::Words, "refused words NoCommand\n"),
-        (&["gorw"][..], CHAIN, Status::Words, "refused words NoCommand\n"),
-        (&["grow", "x"][..], CHAIN, Status::Words, "refused words Usage\n"),
-        (&["grow"][..], "", Status::Text, "refused text line 1 NoHeader\n"),
-        (&["grow"][..], "tiles 1\ntau 0\n", Status::Text, "refused text line 2 OutOfRange\n"),
-        (&["grow"][..], "tiles 1\ntau 1", Status::Text, "refused text line 2 NoEnd\n"),
+        (
+            &["gorw"][..],
+            CHAIN,
+            Status::Words,
+            "refused words NoCommand\n",
+        ),
+        (
+            &["grow", "x"][..],
+            CHAIN,
+            Status::Words,
+            "refused words Usage\n",
+        ),
+        (
+            &["grow"][..],
+            "",
+            Status::Text,
+            "refused text line 1 NoHeader\n",
+        ),
+        (
+            &["grow"][..],
+            "tiles 1\ntau 0\n",
+            Status::Text,
+            "refused text line 2 OutOfRange\n",
+        ),
+        (
+            &["grow"][..],
+            "tiles 1\ntau 1",
+            Status::Text,
+            "refused text line 2 NoEnd\n",
+        ),
     ] {
         let ran = run(&rt, rt.alloc(), words, text, 4096, failures)?;
         assert_eq!(rt; ran.status, status, "{err}");
@@ -205,12 +224,26 @@ fn refuses_words_and_texts(rt: HostRuntime) -> Result<(), Fail> {
 #[test]
 fn tells_faults(rt: HostRuntime) -> Result<(), Fail> {
     for (words, source, out, err, status, written) in [
-        (&["grow"][..], NEVER, NEVER, NEVER, Status::Done, "place 0 0 S\nclosed terminal\n"),
+        (
+            &["grow"][..],
+            NEVER,
+            NEVER,
+            NEVER,
+            Status::Done,
+            "place 0 0 S\nclosed terminal\n",
+        ),
         (&["grow"][..], NEVER, 1, NEVER, Status::WriteFault, "p"),
         (&["grow"][..], 1, NEVER, NEVER, Status::ReadFault, ""),
         (&[][..], NEVER, NEVER, 0, Status::WriteFault, ""),
     ] {
-        let ran = run(&rt, rt.alloc(), words, SINGLE, 1, Failures { source, out, err })?;
+        let ran = run(
+            &rt,
+            rt.alloc(),
+            words,
+            SINGLE,
+            1,
+            Failures { source, out, err },
+        )?;
         assert_eq!(rt; ran.status, status, "{written}");
         assert_eq!(rt; ran.out.as_slice(), written.as_bytes());
         assert_eq!(rt; ran.err.len(), 0, "{written}");
