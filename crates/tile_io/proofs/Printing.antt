@@ -11,10 +11,7 @@ use Rattle.tile_io.proofs.Bytes.{Appends-then, Front-after}
 Rose-later : (f g h : ℕ) → f ≤ g → Rose g h → Rose f h
 Rose-later f g h later rose = omega arith
 
--- a count that rose and then didn't fall has risen
-Rose-kept : (f g h : ℕ) → Rose f g → g ≤ h → Rose f h
-Rose-kept f g h rose later = omega arith
-
+-- doing nothing appends nothing
 Appends-nothing : (a : Option (List ℕ)) → Appends a a []
 Appends-nothing None = tt
 Appends-nothing (Some xs) = sym (append-nil xs)
