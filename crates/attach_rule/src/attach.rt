@@ -25,10 +25,8 @@ fn glue_at<P: Placed>(sys: &System, placed: &P, site: Site, side: Side) -> Optio
     requires { Fits sys.now (P.placements placed.now) }
     ensures { result ≡ model.glue_at sys.now (P.placements placed.now) site side }
 {
-    match placed.at(site) {
-        Some(tile) => sys.side(tile, side),
-        None => None,
-    }
+    let tile = placed.at(site)?;
+    sys.side(tile, side)
 }
 
 /// The strength that a tile of this type at the site has with the tile beside it.

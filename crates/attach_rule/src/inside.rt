@@ -14,10 +14,7 @@ pub(crate) fn open_at<P: Placed>(sys: &System, placed: &P, site: Site) -> Option
     requires fits { Fits sys.now (P.placements placed.now) }
     ensures { IsLeastOpenAmong sys.now (P.placements placed.now) (λ m. m ≡ site) result }
 {
-    match first_type(sys, placed, site) {
-        Some(tile) => Some((site, tile)),
-        None => None,
-    }
+    first_type(sys, placed, site).map(|tile| (site, tile))
 }
 
 // The least open site in the columns of the box, in a row of the box or beside it.
