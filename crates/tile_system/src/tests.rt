@@ -87,41 +87,56 @@ fn refuses_glues_and_types_in_order(rt: HostRuntime) -> Result<(), Fail> {
     Ok(())
 }
 
+// A draft of one type, with this box and a seed at this site.
+fn draft_of(
+    alloc: Global,
+    area: Option<BoxArea>,
+    site: Option<Site>,
+) -> Result<SystemBuilder, BuildStop> {
+    let mut draft = SystemBuilder::make(alloc, 1000)?;
+    let tile = draft.tile(b"S", [None, None, None, None])?;
+    if let Some(area) = area {
+        draft.area(area)?;
+    }
+    if let Some(site) = site {
+        draft.seed(Place { site, tile })?;
+    }
+    Ok(draft)
+}
+
 #[test]
 fn refuses_what_no_system_has(rt: HostRuntime) -> Result<(), Fail> {
+    let long = BoxArea { x1: 1024, ..ROW };
+    let crossed = BoxArea { x1: -1, ..ROW };
+    let outside = Site { x: 3, y: 0 };
+    for (area, site, stop) in [
+        (Some(long), None, BuildStop::OutOfRange),
+        (Some(crossed), None, BuildStop::OutOfRange),
+        (None, None, BuildStop::NoArea),
+        (None, Some(outside), BuildStop::NoArea),
+        (Some(ROW), None, BuildStop::NoSeed),
+        (Some(ROW), Some(outside), BuildStop::SeedOutside),
+    ] {
+        let refused = draft_of(rt.alloc(), area, site).and_then(|draft| draft
+            .finish()
+            .map_err(|refused| refused.0));
+        assert_eq!(rt; refused.err(), Some(stop));
+    }
+    Ok(())
+}
+
+#[test]
+fn refuses_other_temperatures_and_unknown_types(rt: HostRuntime) -> Result<(), Fail> {
     for tau in [0, 1001] {
         let refused = SystemBuilder::make(rt.alloc(), tau).err();
         assert_eq!(rt; refused, Some(BuildStop::OutOfRange));
     }
-    let mut draft = SystemBuilder::make(rt.alloc(), 1000)?;
-    let tile = draft.tile(b"S", [None, None, None, None])?;
-    for area in [BoxArea { x1: 1024, ..ROW }, BoxArea { x1: -1, ..ROW }] {
-        assert_eq!(rt; draft.area(area), Err(BuildStop::OutOfRange));
-    }
-    let outside = Place {
-        site: Site { x: 3, y: 0 },
-        tile,
-    };
+    let mut draft = draft_of(rt.alloc(), Some(ROW), Some(START))?;
     let unknown = Place {
         site: START,
         tile: TypeId(1),
     };
     assert_eq!(rt; draft.seed(unknown), Err(BuildStop::UnknownType));
-    let Err((stop, mut draft)) = draft.finish() else {
-        panic!(rt; "no area")
-    };
-    assert_eq!(rt; stop, BuildStop::NoArea);
-    draft.area(ROW)?;
-    let Err((stop, mut draft)) = draft.finish() else {
-        panic!(rt; "no seed")
-    };
-    assert_eq!(rt; stop, BuildStop::NoSeed);
-    draft.seed(outside)?;
-    let Err((stop, mut draft)) = draft.finish() else {
-        panic!(rt; "seed outside")
-    };
-    assert_eq!(rt; stop, BuildStop::SeedOutside);
-    draft.seed(Place { site: START, tile })?;
-    assert_eq!(rt; draft.finish().is_ok(), true);
+    assert_eq!(rt; draft.seed_given().map(|seed| seed.tile), Some(TypeId(0)));
     Ok(())
 }
