@@ -1,13 +1,13 @@
 -- Places of names in a list, and the map that has them.
-use Rattle.std.specs.BTreeMap.{BTreeMap, get_by, insert_entry}
+use Rattle.std.specs.BTreeMap.{BTreeMap, insert_entry}
 use Rattle.std.specs.Map.{lookup}
 use Rattle.std.specs.Cmp.Lexicographic.{slice_cmp}
-use Rattle.std.specs.Ordering.{is_eq, match_ordering}
+use Rattle.std.specs.Ordering.{is_eq}
 use Rattle.std.specs.Option.{option_map_or, IfNone}
 use Rattle.std.specs.List.{position_from}
 use Rattle.std.specs.declared.cmp.Ordering.{Ordering}
 use Rattle.std.specs.declared.cmp.Ordering.TheVariants.{Less, Equal, Greater}
-use Rattle.std.proofs.Common.{◌≡◌, ◌≢◌, ◌<◌, ◌+◌, ◌⊎◌, ℕ, suc, zero, Bool, true, false, cond, List, [], ◌∷◌, ◌++◌, length, get_or, slice_get, Option, Some, None, IfSome, option_map, All, position, bytes_eq, nat_cmp, refl, sym, ◌∙◌, ap, subst, inl, inr, arith, add-zero, zero-add, nat_lt}
+use Rattle.std.proofs.Common.{◌≡◌, ◌≢◌, ◌<◌, ◌+◌, ◌⊎◌, ℕ, suc, Bool, true, false, cond, List, [], ◌∷◌, ◌++◌, length, get_or, slice_get, Option, Some, None, IfSome, option_map, All, position, bytes_eq, nat_cmp, refl, sym, ◌∙◌, ap, subst, inl, inr, arith, add-zero, zero-add, nat_lt}
 use Rattle.std.proofs.lemmas.Bool.Decides.{nat_tests}
 use Rattle.std.specs.List.{position_or_len}
 use Rattle.std.proofs.lemmas.Option.{none-some, slice_get-get_or}

@@ -1,5 +1,5 @@
 -- the seed is outside, or the draft is a valid system
-use Rattle.std.proofs.Common.{◌≡◌, ◌<◌, ◌≤◌, Some, length, get_or, arith, rules}
+use Rattle.std.proofs.Common.{◌≡◌, ◌<◌, Some, length, get_or, rules}
 use Rattle.atam.specs.Sites.{InBox}
 use Rattle.tile_system.specs.Draft.{Draft}
 use Rattle.tile_system.proofs.Drafts.{IsValid-system_of, seed_outside, sole_seed}

@@ -1,7 +1,7 @@
 -- a glue that isn't refused keeps the draft valid
 use Rattle.std.proofs.Common.{◌≡◌, ◌++◌, ◌∷◌, [], None, List, ℕ, ap, subst, sym, ◌∙◌, rules}
 use Rattle.atam.specs.TileSystem.{Glue}
-use Rattle.tile_system.specs.Draft.{Draft, IsDraft, type_of}
+use Rattle.tile_system.specs.Draft.{Draft, IsDraft}
 use Rattle.tile_system.specs.Names.{glue_named}
 use Rattle.tile_system.specs.Refusals.{glue_refusal}
 use Rattle.tile_system.proofs.Drafts.{new_glue, IsDraft-with_glue}

@@ -1,4 +1,4 @@
-use Rattle.std.proofs.Common.{◌≡◌, List, ℕ, option_map, rules}
+use Rattle.std.proofs.Common.{◌≡◌, option_map, rules}
 use Rattle.tile_system.specs.Names.{type_named}
 use Rattle.tile_system.proofs.NamedLemmas.{has_name, has_other_names}
 use Rattle.tile_system.proofs.system.System.find_type.Goals as goal
