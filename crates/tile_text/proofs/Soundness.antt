@@ -1,5 +1,5 @@
 -- The parts of a draft stay sound as it grows.
-use Rattle.std.proofs.Common.{◌≡◌, ◌≢◌, ℕ, ◌≤◌, ◌<◌, true, false, List, [], ◌∷◌, ◌++◌, length, map, get_or, Some, refl, sym, ap, subst, ◌∙◌, arith, append_assoc}
+use Rattle.std.proofs.Common.{◌≡◌, ◌≢◌, ℕ, ◌≤◌, ◌<◌, true, false, List, [], ◌∷◌, ◌++◌, length, get_or, Some, refl, sym, ap, subst, ◌∙◌, arith}
 use Rattle.std.specs.Prelude.{ℤ, pos, negsuc, int_le, ◌≤ℤ◌, ◌+ℤ◌, ◌&&◌, bytes_eq, filter_map, IfSome}
 use Rattle.std.specs.List.{list_any}
 use Rattle.std.proofs.lemmas.Int.{ints}
@@ -20,9 +20,9 @@ use Rattle.tile_text.specs.declared.stage.Stage.{Stage}
 use Rattle.tile_text.specs.declared.stage.Stage.TheVariants as stages
 use Rattle.tile_text.specs.declared.kind.LineKind.TheVariants as kinds
 use Rattle.tile_text.specs.SystemText.{system_items, glue_of, type_of, glue_names, type_names, is_in_box, is_in_boxes, follows_tau_or_glue, follows_tau_glue_or_tile, follows_tile, follows_box, follows_seed}
-use Rattle.tile_text.specs.SystemText.SystemItem.{GlueLine, TileLine, BoxLine, SeedLine, EndLine}
+use Rattle.tile_text.specs.SystemText.SystemItem.{EndLine}
 use Rattle.tile_text.specs.Kinds.{stage_takes, stage_of}
-use Rattle.tile_text.specs.Drafts.{Parts, items_by, items_of, head_items, LacksBy, Lacks}
+use Rattle.tile_text.specs.Drafts.{Parts, items_by, items_of, LacksBy, Lacks}
 use Rattle.tile_text.proofs.Sound.{Fits}
 use Rattle.tile_text.proofs.Sound.{SoundGlues, SoundTypes, IsTau, IsSeed, HeadsBy, IsSound}
 use Rattle.tile_text.proofs.DraftLemmas.{takes_is, stage_is, glues_read, types_read, any_map, with_glue}

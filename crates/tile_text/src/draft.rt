@@ -10,7 +10,9 @@ ghost use Rattle.tile_text.specs.Kinds.{row_of, words_in};
 ghost use Rattle.tile_system.specs.Refusals.{refusal_of};
 ghost use Rattle.tile_text.specs.Drafts.{TakesItem, Gives, tile_with, sides_in, seed_in, is_nothing, only_memory};
 
-use crate::fields::{Sides, is_header, is_in_box, read_box, read_coordinate, read_strength, read_tau};
+use crate::fields::{
+    Sides, is_header, is_in_box, read_box, read_coordinate, read_strength, read_tau,
+};
 use crate::kind::{LineKind, kind_of};
 use crate::line::{word_at, word_count};
 use crate::stage::Stage;

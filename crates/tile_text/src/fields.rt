@@ -49,7 +49,12 @@ pub(crate) fn read_coordinate(word: &[u8]) -> Result<i32, Cause>
 }
 
 // The fields of a `box` line.
-pub(crate) fn read_box(left: &[u8], bottom: &[u8], right: &[u8], top: &[u8]) -> Result<BoxArea, Cause>
+pub(crate) fn read_box(
+    left: &[u8],
+    bottom: &[u8],
+    right: &[u8],
+    top: &[u8],
+) -> Result<BoxArea, Cause>
     ensures { result ≡ box_in left.now bottom.now right.now top.now }
 {
     let x0 = read_coordinate(left)?;
