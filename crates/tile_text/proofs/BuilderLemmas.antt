@@ -1,6 +1,6 @@
 -- A draft and its system in the making: when there is one, what it refuses, and what it becomes.
 use Rattle.std.proofs.Common.{◌≡◌, ◌⊎◌, ℕ, ◌≤◌, ◌<◌, Bool, true, false, cond, List, [], ◌∷◌, ◌++◌, length, Option, Some, None, Result, Ok, Err, inl, inr, refl, sym, ap, subst, ◌∙◌, arith}
-use Rattle.std.specs.Prelude.{filter_map, bytes_eq, position, is_some, nat_lt, nat_le, IsSome, IsSomeAnd, IfSome, Any, option_map, ◌||◌, ◌+◌}
+use Rattle.std.specs.Prelude.{filter_map, bytes_eq, position, is_some, nat_lt, nat_le, IsSome, IsSomeAnd, IfSome, Any, is_err, option_map, ◌||◌, ◌+◌}
 use Rattle.std.specs.Option.{unwrap_or}
 use Rattle.std.specs.List.{list_any, position_from, slice_index_or}
 use Rattle.std.proofs.lemmas.Bool.{ltb-true, lt-leb, le-leb, le-ltb}
@@ -12,7 +12,7 @@ use Rattle.atam.specs.declared.place.Place.{Place}
 use Rattle.atam.specs.TileSystem.{TileSystem, Glue, TileType}
 use Rattle.tile_system.specs.Draft.{Draft, system_of}
 use Rattle.tile_system.specs.Names.{glue_named, type_named}
-use Rattle.tile_system.specs.Refusals.{LacksFirst, make_refusal, glue_refusal, tile_refusal, is_unknown}
+use Rattle.tile_system.specs.Refusals.{LacksFirst, StopsUnless, make_refusal, glue_refusal, tile_refusal, is_unknown}
 use Rattle.tile_system.specs.declared.stop.BuildStop.{BuildStop}
 use Rattle.tile_system.specs.declared.stop.BuildStop.TheVariants as stops
 use Rattle.atam.specs.Sites.{InBox}
@@ -115,6 +115,15 @@ end_ties stage builder follows lacks ties = end_ties_by stage builder (takes_is 
 pub memory_ok : {T : Type 0} (answer : Result T BuildStop) (value : T) → Ok value ≡ only_memory answer → answer ≡ Ok value
 memory_ok (Ok other) value e = let same : value ≡ other = cc e in ap (λ v. Ok v) (sym same)
 memory_ok (Err stop) value e = absurd (cc e)
+
+-- an answer that says whether a fact holds
+pub holds_at_ok : {T : Type 0} (P : Type 0) (stop : BuildStop) (answer : Result T BuildStop) → StopsUnless P stop answer → is_err answer ≡ false → P
+holds_at_ok P stop (Ok value) h e = h
+holds_at_ok P stop (Err other) h e = absurd (cc e)
+
+pub fails_at_err : {T : Type 0} (P : Type 0) (stop : BuildStop) (answer : Result T BuildStop) → StopsUnless P stop answer → is_err answer ≡ true → ¬ P
+fails_at_err P stop (Ok value) h e = absurd (cc e)
+fails_at_err P stop (Err other) h e = h.1
 
 header_none_by : (stage : Stage) (builder : Option Draft) → stage_takes kinds.Tau stage ≡ true → TiesBy stage builder → builder ≡ None
 header_none_by stages.Start builder takes ties = absurd (cc takes)
