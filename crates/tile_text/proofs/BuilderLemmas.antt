@@ -1,7 +1,7 @@
 -- A draft and its system in the making: when there is one, what it refuses, and what it becomes.
-use Rattle.std.proofs.Common.{◌≡◌, ◌⊎◌, ℕ, ◌≤◌, ◌<◌, Bool, true, false, cond, List, [], ◌∷◌, ◌++◌, length, Option, Some, None, inl, inr, refl, sym, ap, subst, ◌∙◌, arith}
-use Rattle.std.specs.Prelude.{filter_map, bytes_eq, position, is_some, nat_lt, nat_le, IsSome, IfSome, option_map, ◌||◌, ◌+◌}
-use Rattle.std.specs.Option.{option_map_or, unwrap_or}
+use Rattle.std.proofs.Common.{◌≡◌, ◌⊎◌, ℕ, ◌≤◌, ◌<◌, Bool, true, false, cond, List, [], ◌∷◌, ◌++◌, length, Option, Some, None, Result, Ok, Err, inl, inr, refl, sym, ap, subst, ◌∙◌, arith}
+use Rattle.std.specs.Prelude.{filter_map, bytes_eq, position, is_some, nat_lt, nat_le, IsSome, IsSomeAnd, IfSome, Any, is_err, option_map, ◌||◌, ◌+◌}
+use Rattle.std.specs.Option.{unwrap_or}
 use Rattle.std.specs.List.{list_any, position_from, slice_index_or}
 use Rattle.std.proofs.lemmas.Bool.{ltb-true, lt-leb, le-leb, le-ltb}
 use Rattle.std.proofs.lemmas.Iterator.Adapters.{position_from-zero}
@@ -9,20 +9,23 @@ use Rattle.tile_io.specs.Checks.{last_of}
 use Rattle.atam.specs.declared.area.BoxArea.{BoxArea}
 use Rattle.atam.specs.declared.place.GlueId.{GlueId}
 use Rattle.atam.specs.declared.place.Place.{Place}
-use Rattle.atam.specs.TileSystem.{TileSystem, Glue, TileType, is_name}
+use Rattle.atam.specs.TileSystem.{TileSystem, Glue, TileType}
 use Rattle.tile_system.specs.Draft.{Draft, system_of}
 use Rattle.tile_system.specs.Names.{glue_named, type_named}
-use Rattle.tile_system.specs.Refusals.{make_refusal, glue_refusal, tile_refusal, is_unknown}
+use Rattle.tile_system.specs.Refusals.{LacksFirst, StopsUnless, make_refusal, glue_refusal, tile_refusal, is_unknown}
+use Rattle.tile_system.specs.declared.stop.BuildStop.{BuildStop}
+use Rattle.tile_system.specs.declared.stop.BuildStop.TheVariants as stops
+use Rattle.atam.specs.Sites.{InBox}
 use Rattle.tile_text.specs.declared.stage.Stage.{Stage}
 use Rattle.tile_text.specs.declared.stage.Stage.TheVariants as stages
 use Rattle.tile_text.specs.declared.kind.LineKind.{LineKind}
 use Rattle.tile_text.specs.declared.kind.LineKind.TheVariants as kinds
 use Rattle.tile_text.specs.SystemText.{SystemItem, glue_names, type_names, area_of, is_in_boxes, follows_header, follows_tau_or_glue, follows_tau_glue_or_tile, follows_tile, follows_box, follows_seed}
-use Rattle.tile_text.specs.SystemText.SystemItem.{EndLine}
+use Rattle.tile_text.specs.SystemText.SystemItem.{TauLine, EndLine}
 use Rattle.tile_text.specs.Kinds.{row_of, stage_takes}
-use Rattle.tile_text.specs.Drafts.{Parts, parts_of, items_of, Lacks, Ties, TiesBy, HasSeed, is_nothing, is_first, no_area, no_place}
+use Rattle.tile_text.specs.Drafts.{parts_of, items_of, Lacks, Ties, TiesBy, HasSeed, is_nothing, is_first, no_area, no_place, only_memory}
 use Rattle.tile_text.proofs.DraftLemmas.{takes_is}
-use Rattle.tile_text.proofs.FieldLemmas.{glue_room_is, type_room_is, areas_read, holds_one, nothing_is}
+use Rattle.tile_text.proofs.FieldLemmas.{glue_room_is, type_room_is, areas_read, holds_one, nothing_is, with_tau, tau_push}
 use Rattle.tile_text.proofs.Inverse.{GoodGlue, GoodType, GoodSeed}
 use Rattle.tile_text.proofs.Soundness.{declared_glues, declared_types, inside_is, system_by, end_stage}
 
@@ -108,6 +111,70 @@ end_ties_by stages.End builder takes ties = absurd (cc takes)
 pub end_ties : (stage : Stage) (builder : Option Draft) → follows_seed (last_of (items_of (parts_of stage builder))) ≡ true → Lacks (parts_of stage builder) → Ties stage builder → Ties stages.End builder
 unfolding Ties
 end_ties stage builder follows lacks ties = end_ties_by stage builder (takes_is kinds.End (parts_of stage builder) lacks ∙ follows) ties
+
+pub memory_ok : {T : Type 0} (answer : Result T BuildStop) (value : T) → Ok value ≡ only_memory answer → answer ≡ Ok value
+memory_ok (Ok other) value e = let same : value ≡ other = cc e in ap (λ v. Ok v) (sym same)
+memory_ok (Err stop) value e = absurd (cc e)
+
+-- an answer that says whether a fact holds
+pub holds_at_ok : {T : Type 0} (P : Type 0) (stop : BuildStop) (answer : Result T BuildStop) → StopsUnless P stop answer → is_err answer ≡ false → P
+holds_at_ok P stop (Ok value) h e = h
+holds_at_ok P stop (Err other) h e = absurd (cc e)
+
+pub fails_at_err : {T : Type 0} (P : Type 0) (stop : BuildStop) (answer : Result T BuildStop) → StopsUnless P stop answer → is_err answer ≡ true → ¬ P
+fails_at_err P stop (Ok value) h e = absurd (cc e)
+fails_at_err P stop (Err other) h e = h.1
+
+header_none_by : (stage : Stage) (builder : Option Draft) → stage_takes kinds.Tau stage ≡ true → TiesBy stage builder → builder ≡ None
+header_none_by stages.Start builder takes ties = absurd (cc takes)
+header_none_by stages.Header None takes ties = refl
+header_none_by stages.Header (Some draft) takes ties = absurd ties
+header_none_by stages.Tau builder takes ties = absurd (cc takes)
+header_none_by stages.Glue builder takes ties = absurd (cc takes)
+header_none_by stages.Tile builder takes ties = absurd (cc takes)
+header_none_by stages.Box builder takes ties = absurd (cc takes)
+header_none_by stages.Seed builder takes ties = absurd (cc takes)
+header_none_by stages.End builder takes ties = absurd (cc takes)
+
+-- a system in the making of this temperature, with nothing in it
+abbrev pub bare : ℕ → Draft
+bare tau = record { glues = []; types = []; tau = tau; area = None; seeds = [] }
+
+-- the `tau` line begins it
+pub tau_start : (stage : Stage) (builder : Option Draft) (items : List SystemItem) (tau : ℕ) → items_of (parts_of stage builder) ≡ items → Lacks (parts_of stage builder) × Ties stage builder → follows_header (last_of items) ≡ true →
+    (items_of (parts_of stages.Tau (Some (bare tau))) ≡ items ++ TauLine tau ∷ []) × Lacks (parts_of stages.Tau (Some (bare tau)))
+unfolding Ties
+tau_start stage builder items tau view both follows =
+    let Follows : List SystemItem → Type 0 = λ l. follows_header (last_of l) ≡ true in
+    let follows_here = subst Follows (sym view) follows in
+    let none = header_none_by stage builder (takes_is kinds.Tau (parts_of stage builder) both.0 ∙ follows_here) both.1 in
+    let pushed = tau_push (parts_of stage builder) tau follows_here both.0 in
+    let Pushed : Option Draft → Type 0 = λ b. (items_of (with_tau (parts_of stage b) tau) ≡ items ++ TauLine tau ∷ []) × Lacks (with_tau (parts_of stage b) tau) in
+    subst Pushed none (pushed.0 ∙ ap (λ l. l ++ TauLine tau ∷ []) view, pushed.1)
+
+seed_outside_no : (seed : Place) (area : BoxArea) → InBox area seed.site → Any (λ p. ¬ InBox area p.site) (seed ∷ []) → ⊥
+seed_outside_no seed area inside found =
+    let first : found.0 ≡ 0 = (let low = found.2 in omega (arith, low)) in
+    let At : ℕ → Type 0 = λ k. slice_index_or (seed ∷ []) k found.1 ≡ found.1 in
+    let same : seed ≡ found.1 = subst At first found.3 in
+    let Outside : Place → Type 0 = λ p. ¬ InBox area p.site in
+    subst Outside (sym same) found.4 inside
+
+-- a draft with its box and its seed lacks nothing
+pub lacks_nothing : (draft : Draft) (stop : BuildStop) → HasSeed draft → LacksFirst draft stop → ⊥
+lacks_nothing draft stops.NoArea has lacks = let no : None ≡ Some has.area = sym lacks ∙ has.area_is in cc no
+lacks_nothing draft stops.NoSeed has lacks = let no : [] ≡ has.seed ∷ [] = sym (lacks.1) ∙ has.seed_is in cc no
+lacks_nothing draft stops.SeedOutside has lacks =
+    let Boxed : Option BoxArea → Type 0 = λ o. IsSomeAnd o (λ area. Any (λ p. ¬ InBox area p.site) draft.seeds) in
+    let Seeded : List Place → Type 0 = λ l. Any (λ p. ¬ InBox has.area p.site) l in
+    seed_outside_no has.seed has.area has.inside (subst Seeded has.seed_is (subst Boxed has.area_is lacks))
+lacks_nothing draft stops.BadName has lacks = lacks
+lacks_nothing draft stops.DoubleName has lacks = lacks
+lacks_nothing draft stops.UnknownGlue has lacks = lacks
+lacks_nothing draft stops.UnknownType has lacks = lacks
+lacks_nothing draft stops.OutOfRange has lacks = lacks
+lacks_nothing draft stops.TooMany has lacks = lacks
+lacks_nothing draft stops.NoMemory has lacks = lacks
 
 pub tau_ties : (draft : Draft) → Ties stages.Tau (Some draft)
 unfolding Ties

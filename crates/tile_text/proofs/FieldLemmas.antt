@@ -19,7 +19,7 @@ use Rattle.tile_text.specs.SystemText.{SystemItem, glue_of, type_of, area_of, gl
 use Rattle.atam.specs.TileSystem.{is_name}
 use Rattle.tile_text.specs.SystemText.SystemItem.{Header, TauLine, GlueLine, TileLine, BoxLine, SeedLine, EndLine}
 use Rattle.tile_text.specs.Kinds.{stage_takes}
-use Rattle.tile_text.specs.Drafts.{Parts, items_by, items_of, head_items, LacksBy, Lacks, box_in, seed_in, is_nothing, is_first}
+use Rattle.tile_text.specs.Drafts.{Parts, items_by, items_of, head_items, LacksBy, Lacks, corners_in, seed_in, is_nothing, is_first}
 use Rattle.tile_text.proofs.DraftLemmas.{takes_is, glues_read, types_read}
 
 abbrev pub with_header : Parts → Parts
@@ -149,32 +149,26 @@ pub holds_one : (area : BoxArea) (site : Site) → is_in_boxes (area ∷ []) sit
 holds_one area site = and-true (is_in_box area site)
 
 module _ (left bottom right top : List ℕ) where
-  pub box_x0 : (cause : Cause) → Err cause ≡ coordinate left → Err cause ≡ box_in left bottom right top
-  unfolding box_in
-  box_x0 cause a = rw (sym a) refl
+  pub corners_x0 : (cause : Cause) → Err cause ≡ coordinate left → Err cause ≡ corners_in left bottom right top
+  unfolding corners_in
+  corners_x0 cause a = rw (sym a) refl
 
-  pub box_y0 : (x0 : ℤ) (cause : Cause) → Ok x0 ≡ coordinate left → Err cause ≡ coordinate bottom → Err cause ≡ box_in left bottom right top
-  unfolding box_in
-  box_y0 x0 cause a b = rw (sym a, sym b) refl
+  pub corners_y0 : (x0 : ℤ) (cause : Cause) → Ok x0 ≡ coordinate left → Err cause ≡ coordinate bottom → Err cause ≡ corners_in left bottom right top
+  unfolding corners_in
+  corners_y0 x0 cause a b = rw (sym a, sym b) refl
 
-  pub box_x1 : (x0 y0 : ℤ) (cause : Cause) → Ok x0 ≡ coordinate left → Ok y0 ≡ coordinate bottom → Err cause ≡ coordinate right → Err cause ≡ box_in left bottom right top
-  unfolding box_in
-  box_x1 x0 y0 cause a b d = rw (sym a, sym b, sym d) refl
+  pub corners_x1 : (x0 y0 : ℤ) (cause : Cause) → Ok x0 ≡ coordinate left → Ok y0 ≡ coordinate bottom → Err cause ≡ coordinate right → Err cause ≡ corners_in left bottom right top
+  unfolding corners_in
+  corners_x1 x0 y0 cause a b d = rw (sym a, sym b, sym d) refl
 
-  pub box_y1 : (x0 y0 x1 : ℤ) (cause : Cause) → Ok x0 ≡ coordinate left → Ok y0 ≡ coordinate bottom → Ok x1 ≡ coordinate right → Err cause ≡ coordinate top → Err cause ≡ box_in left bottom right top
-  unfolding box_in
-  box_y1 x0 y0 x1 cause a b d e = rw (sym a, sym b, sym d, sym e) refl
+  pub corners_y1 : (x0 y0 x1 : ℤ) (cause : Cause) → Ok x0 ≡ coordinate left → Ok y0 ≡ coordinate bottom → Ok x1 ≡ coordinate right → Err cause ≡ coordinate top → Err cause ≡ corners_in left bottom right top
+  unfolding corners_in
+  corners_y1 x0 y0 x1 cause a b d e = rw (sym a, sym b, sym d, sym e) refl
 
-  module _ (x0 y0 x1 y1 : ℤ) (a : Ok x0 ≡ coordinate left) (b : Ok y0 ≡ coordinate bottom) (d : Ok x1 ≡ coordinate right) (e : Ok y1 ≡ coordinate top) where
-    box_then : box_in left bottom right top ≡ (require (is_box (record { x0 = x0; y0 = y0; x1 = x1; y1 = y1 })) OutOfRange >>= (λ _. Ok (record { x0 = x0; y0 = y0; x1 = x1; y1 = y1 })))
-    unfolding box_in
-    box_then = rw (sym a, sym b, sym d, sym e) refl
-
-    pub box_wide : is_box (record { x0 = x0; y0 = y0; x1 = x1; y1 = y1 }) ≡ false → Err OutOfRange ≡ box_in left bottom right top
-    box_wide is = rw (box_then, is) refl
-
-    pub box_all : is_box (record { x0 = x0; y0 = y0; x1 = x1; y1 = y1 }) ≡ true → Ok (record { x0 = x0; y0 = y0; x1 = x1; y1 = y1 }) ≡ box_in left bottom right top
-    box_all is = rw (box_then, is) refl
+  pub corners_all : (x0 y0 x1 y1 : ℤ) → Ok x0 ≡ coordinate left → Ok y0 ≡ coordinate bottom → Ok x1 ≡ coordinate right → Ok y1 ≡ coordinate top →
+      Ok (record { x0 = x0; y0 = y0; x1 = x1; y1 = y1 }) ≡ corners_in left bottom right top
+  unfolding corners_in
+  corners_all x0 y0 x1 y1 a b d e = rw (sym a, sym b, sym d, sym e) refl
 
 require_then : {X Y : Type 0} (b : Bool) (cause : Cause) (x : X) (f : X → Y) → (require b cause >>= (λ _. Ok (f x))) ≡ ((require b cause >>= (λ _. Ok x)) >>= (λ x. Ok (f x)))
 require_then true cause x f = refl
@@ -183,14 +177,18 @@ require_then false cause x f = refl
 abbrev box_at : ℤ → ℤ → ℤ → ℤ → BoxArea
 box_at x0 y0 x1 y1 = record { x0 = x0; y0 = y0; x1 = x1; y1 = y1 }
 
+-- a box of these corners, as a line
+abbrev pub boxed : BoxArea → Result SystemItem Cause
+boxed area = require (is_box area) OutOfRange >>= (λ _. Ok (BoxLine area))
+
 bind_box : (a b d e : Result ℤ Cause) →
-    (a >>= (λ x0. b >>= (λ y0. d >>= (λ x1. e >>= (λ y1. require (is_box (box_at x0 y0 x1 y1)) OutOfRange >>= (λ _. Ok (BoxLine (box_at x0 y0 x1 y1))))))))
-    ≡ ((a >>= (λ x0. b >>= (λ y0. d >>= (λ x1. e >>= (λ y1. require (is_box (box_at x0 y0 x1 y1)) OutOfRange >>= (λ _. Ok (box_at x0 y0 x1 y1))))))) >>= (λ area. Ok (BoxLine area)))
+    (a >>= (λ x0. b >>= (λ y0. d >>= (λ x1. e >>= (λ y1. boxed (box_at x0 y0 x1 y1))))))
+    ≡ ((a >>= (λ x0. b >>= (λ y0. d >>= (λ x1. e >>= (λ y1. Ok (box_at x0 y0 x1 y1)))))) >>= boxed)
 bind_box (Err cause) b d e = refl
 bind_box (Ok x0) (Err cause) d e = refl
 bind_box (Ok x0) (Ok y0) (Err cause) e = refl
 bind_box (Ok x0) (Ok y0) (Ok x1) (Err cause) = refl
-bind_box (Ok x0) (Ok y0) (Ok x1) (Ok y1) = require_then (is_box (box_at x0 y0 x1 y1)) OutOfRange (box_at x0 y0 x1 y1) BoxLine
+bind_box (Ok x0) (Ok y0) (Ok x1) (Ok y1) = refl
 
 five : (words : List (List ℕ)) (p q r s : List ℕ) → length words ≡ 5 → slice_get words 1 ≡ Some p → slice_get words 2 ≡ Some q → slice_get words 3 ≡ Some r → slice_get words 4 ≡ Some s →
     (first : List ℕ) × (words ≡ first ∷ p ∷ q ∷ r ∷ s ∷ [])
@@ -213,8 +211,8 @@ five (a ∷ b ∷ d ∷ e ∷ f ∷ g ∷ rest) p q r s count at1 at2 at3 at4 = 
 
 pub box_is : (earlier : List SystemItem) (words : List (List ℕ)) (left bottom right top : List ℕ) → length words ≡ 5 →
     slice_get words 1 ≡ Some left → slice_get words 2 ≡ Some bottom → slice_get words 3 ≡ Some right → slice_get words 4 ≡ Some top →
-    box_fields earlier words ≡ (box_in left bottom right top >>= (λ area. Ok (BoxLine area)))
-unfolding box_fields box_in
+    box_fields earlier words ≡ (corners_in left bottom right top >>= boxed)
+unfolding box_fields corners_in
 box_is earlier words left bottom right top count at1 at2 at3 at4 =
     let parts = five words left bottom right top count at1 at2 at3 at4 in
     ap (box_fields earlier) parts.1 ∙ bind_box (coordinate left) (coordinate bottom) (coordinate right) (coordinate top)

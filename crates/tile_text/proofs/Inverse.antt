@@ -1,5 +1,5 @@
 -- What a check that passed says of its item.
-use Rattle.std.proofs.Common.{◌≡◌, ℕ, ◌≤◌, ◌<◌, Bool, true, false, cond, List, [], ◌∷◌, length, Option, Some, None, Result, Ok, Err, refl, sym, ap, subst}
+use Rattle.std.proofs.Common.{◌≡◌, ℕ, ◌≤◌, ◌<◌, Bool, true, false, cond, List, [], ◌∷◌, length, Option, Some, None, Result, Ok, Err, refl, ap, subst}
 use Rattle.std.specs.Prelude.{ℤ, pos, negsuc, nat_abs, int_le, ◌&&◌, not, bytes_eq, filter_map, position, ok_or, IfSome}
 use Rattle.std.specs.List.{list_any}
 use Rattle.std.proofs.lemmas.Bool.{leb-true}
@@ -11,7 +11,7 @@ use Rattle.atam.specs.declared.place.GlueId.{GlueId}
 use Rattle.atam.specs.TileSystem.{Glue, TileType, IsName}
 use Rattle.tile_text.specs.SystemText.{SystemItem, count_in, coordinate, glue_names, type_names, glue_fields, tile_fields, tau_fields, side, side_unless, is_box, is_in_boxes, area_of}
 use Rattle.atam.specs.TileSystem.{is_name}
-use Rattle.tile_text.specs.Drafts.{box_in, seed_in}
+use Rattle.tile_text.specs.Drafts.{corners_in, seed_in}
 use Rattle.atam.specs.declared.area.BoxArea.{BoxArea}
 use Rattle.atam.specs.declared.place.Place.{Place}
 use Rattle.atam.specs.declared.site.Site.{Site}
@@ -160,24 +160,23 @@ tile_ok earlier (a ∷ name ∷ north ∷ east ∷ south ∷ west ∷ rest) t h 
 abbrev pub GoodBox : BoxArea → Type 0
 GoodBox area = (is_box area ≡ true) × (int_le (negsuc 999999) area.x0 ≡ true) × (int_le (negsuc 999999) area.y0 ≡ true) × (int_le area.x1 (pos 1000000) ≡ true) × (int_le area.y1 (pos 1000000) ≡ true)
 
-pub box_ok : (left bottom right top : List ℕ) (area : BoxArea) → box_in left bottom right top ≡ Ok area → GoodBox area
-unfolding box_in
-box_ok left bottom right top area h =
+pub box_ok : (left bottom right top : List ℕ) (area : BoxArea) → corners_in left bottom right top ≡ Ok area → is_box area ≡ true → GoodBox area
+unfolding corners_in
+box_ok left bottom right top area h near =
     let area_at : ℤ → ℤ → ℤ → ℤ → BoxArea = λ x0 y0 x1 y1. record { x0 = x0; y0 = y0; x1 = x1; y1 = y1 } in
-    let ending : BoxArea → Result BoxArea Cause = λ a. require (is_box a) OutOfRange >>= (λ _. Ok a) in
-    let one = bind_ok (coordinate left) (λ x0. coordinate bottom >>= (λ y0. coordinate right >>= (λ x1. coordinate top >>= (λ y1. ending (area_at x0 y0 x1 y1))))) area h in
-    let two = bind_ok (coordinate bottom) (λ y0. coordinate right >>= (λ x1. coordinate top >>= (λ y1. ending (area_at one.0 y0 x1 y1)))) area one.2 in
-    let three = bind_ok (coordinate right) (λ x1. coordinate top >>= (λ y1. ending (area_at one.0 two.0 x1 y1))) area two.2 in
-    let four = bind_ok (coordinate top) (λ y1. ending (area_at one.0 two.0 three.0 y1)) area three.2 in
-    let five = bind_ok (require (is_box (area_at one.0 two.0 three.0 four.0)) OutOfRange) (λ _. Ok (area_at one.0 two.0 three.0 four.0)) area four.2 in
-    let made : area_at one.0 two.0 three.0 four.0 ≡ area = cc (five.2) in
-    subst GoodBox made (
-      require_ok (is_box (area_at one.0 two.0 three.0 four.0)) OutOfRange five.0 five.1,
+    let one = bind_ok (coordinate left) (λ x0. coordinate bottom >>= (λ y0. coordinate right >>= (λ x1. coordinate top >>= (λ y1. Ok (area_at x0 y0 x1 y1))))) area h in
+    let two = bind_ok (coordinate bottom) (λ y0. coordinate right >>= (λ x1. coordinate top >>= (λ y1. Ok (area_at one.0 y0 x1 y1)))) area one.2 in
+    let three = bind_ok (coordinate right) (λ x1. coordinate top >>= (λ y1. Ok (area_at one.0 two.0 x1 y1))) area two.2 in
+    let four = bind_ok (coordinate top) (λ y1. Ok (area_at one.0 two.0 three.0 y1)) area three.2 in
+    let made : area_at one.0 two.0 three.0 four.0 ≡ area = cc (four.2) in
+    let Corners : BoxArea → Type 0 = λ a. (int_le (negsuc 999999) a.x0 ≡ true) × (int_le (negsuc 999999) a.y0 ≡ true) × (int_le a.x1 (pos 1000000) ≡ true) × (int_le a.y1 (pos 1000000) ≡ true) in
+    let corners = subst Corners made (
       (number_ok (negsuc 999999) (pos 1000000) left one.0 one.1).0,
       (number_ok (negsuc 999999) (pos 1000000) bottom two.0 two.1).0,
       (number_ok (negsuc 999999) (pos 1000000) right three.0 three.1).1,
       (number_ok (negsuc 999999) (pos 1000000) top four.0 four.1).1,
-    )
+    ) in
+    (near, corners.0, corners.1, corners.2, corners.3)
 
 -- what a `seed` line says of its seed
 abbrev pub GoodSeed : List SystemItem → Place → Type 0

@@ -1,7 +1,7 @@
 -- The kept lines of a text that reads so far are those of sound parts.
 use Rattle.std.proofs.Common.{◌≡◌, ℕ, Bool, true, false, List, [], ◌∷◌, ◌++◌, length, codes, Option, Some, None, Ok, refl, sym, ap, subst, ◌∙◌, arith}
 use Rattle.std.specs.Prelude.{bytes_eq, find, cond, ◌==◌}
-use Rattle.tile_io.specs.declared.fault.Cause.TheVariants.{BadLine, OutOfOrder, TooMany}
+use Rattle.tile_io.specs.declared.fault.Cause.TheVariants.{BadLine, OutOfOrder, OutOfRange, TooMany}
 use Rattle.tile_io.specs.Checks.{◌>>=◌, require, Keyword, check_keyword, keyword_of, last_of}
 use Rattle.atam.specs.declared.area.BoxArea.{BoxArea}
 use Rattle.atam.specs.declared.place.Place.{Place}
@@ -17,12 +17,12 @@ use Rattle.tile_text.proofs.Sound.{IsSound}
 use Rattle.tile_text.proofs.Inverse.{bind_ok, require_ok}
 use Rattle.std.proofs.lemmas.Bool.{eqb-true}
 use Rattle.tile_io.specs.Checks.{declared}
-use Rattle.tile_text.specs.SystemText.{count_in, side, tau_fields, glue_fields, tile_fields, box_fields, seed_fields}
+use Rattle.tile_text.specs.SystemText.{count_in, side, tau_fields, glue_fields, tile_fields, box_fields, seed_fields, is_box}
 use Rattle.atam.specs.TileSystem.{is_name}
-use Rattle.tile_text.specs.Drafts.{box_in, seed_in}
+use Rattle.tile_text.specs.Drafts.{corners_in, seed_in}
 use Rattle.tile_text.proofs.DraftLemmas.{with_glue, glue_push, glue_fits}
 use Rattle.tile_text.proofs.TileLemmas.{with_type, tile_push, tile_fits}
-use Rattle.tile_text.proofs.FieldLemmas.{with_tau, with_box, with_seed, with_end, tau_push, box_push, seed_push, end_push, box_is, seed_is}
+use Rattle.tile_text.proofs.FieldLemmas.{with_tau, with_box, with_seed, with_end, tau_push, box_push, seed_push, end_push, boxed, box_is, seed_is}
 use Rattle.tile_text.proofs.Inverse.{built, GoodBox, GoodSeed, tau_ok, glue_ok, tile_ok, box_ok, seed_ok}
 use Rattle.tile_text.proofs.Soundness.{tau_sound, glue_sound, type_sound, box_sound, seed_sound, end_sound}
 
@@ -109,9 +109,10 @@ tile_item earlier (a ∷ name ∷ north ∷ east ∷ south ∷ west ∷ rest) it
 
 box_item : (earlier : List SystemItem) (words : List (List ℕ)) (item : SystemItem) → length words ≡ 5 → box_fields earlier words ≡ Ok item → (area : BoxArea) × (BoxLine area ≡ item) × GoodBox area
 box_item earlier (a ∷ left ∷ bottom ∷ right ∷ top ∷ []) item count e =
-    let one = bind_ok (box_in left bottom right top) (λ area. Ok (BoxLine area)) item (sym (box_is earlier (a ∷ left ∷ bottom ∷ right ∷ top ∷ []) left bottom right top count refl refl refl refl) ∙ e) in
-    let same : BoxLine one.0 ≡ item = cc (one.2) in
-    let good = box_ok left bottom right top one.0 one.1 in
+    let one = bind_ok (corners_in left bottom right top) boxed item (sym (box_is earlier (a ∷ left ∷ bottom ∷ right ∷ top ∷ []) left bottom right top count refl refl refl refl) ∙ e) in
+    let two = bind_ok (require (is_box one.0) OutOfRange) (λ _. Ok (BoxLine one.0)) item one.2 in
+    let same : BoxLine one.0 ≡ item = cc (two.2) in
+    let good = box_ok left bottom right top one.0 one.1 (require_ok (is_box one.0) OutOfRange two.0 two.1) in
     (one.0, same, good)
 box_item earlier [] item count e = absurd (omega (arith, count))
 box_item earlier (a ∷ []) item count e = absurd (omega (arith, count))

@@ -1,5 +1,5 @@
 -- The parts of a draft stay sound as it grows.
-use Rattle.std.proofs.Common.{◌≡◌, ◌≢◌, ℕ, ◌≤◌, ◌<◌, true, false, List, [], ◌∷◌, ◌++◌, length, map, get_or, Some, refl, sym, ap, subst, ◌∙◌, arith, append_assoc}
+use Rattle.std.proofs.Common.{◌≡◌, ◌≢◌, ℕ, ◌≤◌, ◌<◌, Bool, true, false, List, [], ◌∷◌, ◌++◌, length, get_or, Some, Ok, refl, sym, ap, subst, ◌∙◌, arith}
 use Rattle.std.specs.Prelude.{ℤ, pos, negsuc, int_le, ◌≤ℤ◌, ◌+ℤ◌, ◌&&◌, bytes_eq, filter_map, IfSome}
 use Rattle.std.specs.List.{list_any}
 use Rattle.std.proofs.lemmas.Int.{ints}
@@ -19,16 +19,16 @@ use Rattle.atam.specs.TileSystem.{TileSystem, Glue, TileType, IsName, IsValid, I
 use Rattle.tile_text.specs.declared.stage.Stage.{Stage}
 use Rattle.tile_text.specs.declared.stage.Stage.TheVariants as stages
 use Rattle.tile_text.specs.declared.kind.LineKind.TheVariants as kinds
-use Rattle.tile_text.specs.SystemText.{system_items, glue_of, type_of, glue_names, type_names, is_in_box, is_in_boxes, follows_tau_or_glue, follows_tau_glue_or_tile, follows_tile, follows_box, follows_seed}
-use Rattle.tile_text.specs.SystemText.SystemItem.{GlueLine, TileLine, BoxLine, SeedLine, EndLine}
+use Rattle.tile_text.specs.SystemText.{system_items, glue_of, type_of, glue_names, type_names, is_box, is_in_box, is_in_boxes, follows_tau_or_glue, follows_tau_glue_or_tile, follows_tile, follows_box, follows_seed}
+use Rattle.tile_text.specs.SystemText.SystemItem.{EndLine}
 use Rattle.tile_text.specs.Kinds.{stage_takes, stage_of}
-use Rattle.tile_text.specs.Drafts.{Parts, items_by, items_of, head_items, LacksBy, Lacks}
+use Rattle.tile_text.specs.Drafts.{corners_in, Parts, items_by, items_of, LacksBy, Lacks}
 use Rattle.tile_text.proofs.Sound.{Fits}
 use Rattle.tile_text.proofs.Sound.{SoundGlues, SoundTypes, IsTau, IsSeed, HeadsBy, IsSound}
 use Rattle.tile_text.proofs.DraftLemmas.{takes_is, stage_is, glues_read, types_read, any_map, with_glue}
 use Rattle.tile_text.proofs.TileLemmas.{with_type, any_type}
 use Rattle.tile_text.proofs.FieldLemmas.{with_header, with_tau, with_box, with_seed, with_end, areas_read, holds_one, glue_room_is, type_room_is}
-use Rattle.tile_text.proofs.Inverse.{and_both, name_is, GoodGlue, GoodType, GoodBox, GoodSeed}
+use Rattle.tile_text.proofs.Inverse.{and_both, name_is, GoodGlue, GoodType, GoodBox, GoodSeed, box_ok}
 
 glue_heads : (stage : Stage) (parts : Parts) → stage_takes kinds.Glue stage ≡ true → HeadsBy stage parts → IsTau parts
 glue_heads stages.Start parts takes h = absurd (cc takes)
@@ -179,12 +179,49 @@ box_is_box area good =
       height = z_le area.y1 (area.y0 +ℤ pos 1023) three.1;
     }
 
+le_z : (a b : ℤ) → a ≤ℤ b → int_le a b ≡ true
+le_z a b h = grind (arith, ints)
+
+-- a box passes its check, and corners that pass it are a box's
+pub box_passes : (area : BoxArea) → IsBox area → is_box area ≡ true
+box_passes area box =
+    let columns = le_z area.x0 area.x1 box.corners.columns in
+    let rows = le_z area.y0 area.y1 box.corners.rows in
+    let width = le_z area.x1 (area.x0 +ℤ pos 1023) box.width in
+    let height = le_z area.y1 (area.y0 +ℤ pos 1023) box.height in
+    rw (columns, rows, width, height) refl
+
+box_fails_by : (area : BoxArea) (b : Bool) → is_box area ≡ b → (is_box area ≡ true → ⊥) → b ≡ false
+box_fails_by area true is wrong = absurd (wrong is)
+box_fails_by area false is wrong = refl
+
+pub box_fails : (left bottom right top : List ℕ) (area : BoxArea) → corners_in left bottom right top ≡ Ok area → ¬ IsBox area → is_box area ≡ false
+box_fails left bottom right top area read wrong =
+    box_fails_by area (is_box area) refl (λ near. wrong (box_is_box area (box_ok left bottom right top area read near)))
+
 pub inside_is : (area : BoxArea) (m : Site) → is_in_box area m ≡ true → InBox area m
 inside_is area m e =
     let three = and_both (int_le area.x0 m.x && int_le m.x area.x1 && int_le area.y0 m.y) (int_le m.y area.y1) e in
     let two = and_both (int_le area.x0 m.x && int_le m.x area.x1) (int_le area.y0 m.y) three.0 in
     let one = and_both (int_le area.x0 m.x) (int_le m.x area.x1) two.0 in
     record { left = z_le area.x0 m.x one.0; right = z_le m.x area.x1 one.1; bottom = z_le area.y0 m.y two.1; top = z_le m.y area.y1 three.1 }
+
+inside_passes : (area : BoxArea) (m : Site) → InBox area m → is_in_box area m ≡ true
+inside_passes area m inside =
+    let left = le_z area.x0 m.x inside.left in
+    let right = le_z m.x area.x1 inside.right in
+    let bottom = le_z area.y0 m.y inside.bottom in
+    let top = le_z m.y area.y1 inside.top in
+    rw (left, right, bottom, top) refl
+
+holds_by : (area : BoxArea) (m : Site) (b : Bool) → (b ≡ true → InBox area m) → (InBox area m → b ≡ true) → (test : Bool) → is_in_box area m ≡ test → b ≡ test
+holds_by area m true inside there test is = sym (inside_passes area m (inside refl)) ∙ is
+holds_by area m false inside there true is = there (inside_is area m is)
+holds_by area m false inside there false is = refl
+
+-- a test of whether a site is in a box computes as the check does
+pub holds_is : (area : BoxArea) (m : Site) (b : Bool) → (b ≡ true → InBox area m) × (InBox area m → b ≡ true) → b ≡ is_in_box area m
+holds_is area m b holds = holds_by area m b holds.0 holds.1 (is_in_box area m) refl
 
 pub box_sound : (parts : Parts) (area : BoxArea) → follows_tile (last_of (items_of parts)) ≡ true → Lacks parts → IsSound parts → GoodBox area → IsSound (with_box parts area)
 box_sound parts area follows h sound good =

@@ -143,16 +143,14 @@ sides_in earlier north east south west = do
 abbrev pub tile_with : List ℕ → Sides → SystemItem
 tile_with name sides = TileLine (record { name = name; north = sides.north; east = sides.east; south = sides.south; west = sides.west })
 
--- the box of four words
-unfoldable pub box_in : List ℕ → List ℕ → List ℕ → List ℕ → Result BoxArea Cause
-box_in left bottom right top = do
+-- the corners of four words
+unfoldable pub corners_in : List ℕ → List ℕ → List ℕ → List ℕ → Result BoxArea Cause
+corners_in left bottom right top = do
   x0 ← coordinate left
   y0 ← coordinate bottom
   x1 ← coordinate right
   y1 ← coordinate top
-  let area : BoxArea = record { x0 = x0; y0 = y0; x1 = x1; y1 = y1 }
-  _ ← require (is_box area) OutOfRange
-  Ok area
+  Ok (record { x0 = x0; y0 = y0; x1 = x1; y1 = y1 })
 
 -- the seed of three words
 unfoldable pub seed_in : List SystemItem → List ℕ → List ℕ → List ℕ → Result Place Cause

@@ -10,7 +10,7 @@ ghost use Rattle.tile_text.specs.Kinds.{row_of, words_in};
 ghost use Rattle.tile_system.specs.Refusals.{refusal_of};
 ghost use Rattle.tile_text.specs.Drafts.{TakesItem, Gives, tile_with, sides_in, seed_in, is_nothing, only_memory};
 
-use crate::fields::{Sides, is_header, is_in_box, read_box, read_coordinate, read_strength, read_tau};
+use crate::fields::{Sides, is_header, read_coordinate, read_corners, read_strength, read_tau};
 use crate::kind::{LineKind, kind_of};
 use crate::line::{word_at, word_count};
 use crate::stage::Stage;
@@ -60,6 +60,32 @@ impl TakeLines for Draft {
 }
 
 impl Draft {
+    /// Nothing was read yet.
+    pub(crate) fn new(alloc: Global) -> Draft
+        ensures { result ≡ [] }
+    {
+        Draft {
+            alloc,
+            stage: Stage::Start,
+            builder: None,
+        }
+    }
+
+    /// The system that was read.
+    pub(crate) fn finish(self) -> System
+        requires { last_of self ≡ Some EndLine }
+        ensures items { system_items result ≡ self }
+        ensures no_pairs { result.pairs ≡ [] }
+    {
+        let Some(builder) = self.builder else {
+            unreachable!()
+        };
+        match builder.finish() {
+            Ok(system) => system,
+            Err(_) => unreachable!(),
+        }
+    }
+
     // Whether a line of this keyword may stand here.
     fn may_take(&self, kind: LineKind) -> bool
         ensures { result ≡ (row_of kind).may_follow (last_of self.now) }
@@ -95,32 +121,6 @@ impl Draft {
         match &self.builder {
             Some(builder) => builder.type_count(),
             None => 0,
-        }
-    }
-
-    /// Nothing was read yet.
-    pub(crate) fn new(alloc: Global) -> Draft
-        ensures { result ≡ [] }
-    {
-        Draft {
-            alloc,
-            stage: Stage::Start,
-            builder: None,
-        }
-    }
-
-    /// The system that was read.
-    pub(crate) fn finish(self) -> System
-        requires { last_of self ≡ Some EndLine }
-        ensures items { system_items result ≡ self }
-        ensures no_pairs { result.pairs ≡ [] }
-    {
-        let Some(builder) = self.builder else {
-            unreachable!()
-        };
-        match builder.finish() {
-            Ok(system) => system,
-            Err(_) => unreachable!(),
         }
     }
 
@@ -226,7 +226,7 @@ impl Draft {
         requires follows { follows_tile (last_of self.old) ≡ true }
         ensures { TakesItem (box_fields self.old (words_of line.now)) self.old self.new result }
     {
-        let area = read_box(
+        let area = read_corners(
             word_at(line, 1),
             word_at(line, 2),
             word_at(line, 3),
@@ -235,9 +235,9 @@ impl Draft {
         let Some(builder) = &mut self.builder else {
             unreachable!()
         };
-        let Ok(()) = builder.area(area) else {
-            unreachable!()
-        };
+        if builder.area(area).is_err() {
+            return Err(LineStop::Fault(Cause::OutOfRange));
+        }
         self.stage = Stage::Box;
         Ok(false)
     }
@@ -275,13 +275,11 @@ impl Draft {
         let x = read_coordinate(column)?;
         let y = read_coordinate(row)?;
         let tile = self.read_type(name)?;
-        if !self.holds(x, y) {
+        let site = Site { x, y };
+        if !self.holds(site) {
             return Err(Cause::SeedOutside);
         }
-        Ok(Place {
-            site: Site { x, y },
-            tile,
-        })
+        Ok(Place { site, tile })
     }
 
     // The type that a word names.
@@ -297,14 +295,14 @@ impl Draft {
         }
     }
 
-    // Whether the site in this column and row is in the box.
-    fn holds(&self, x: i32, y: i32) -> bool
+    // Whether a site is in the box.
+    fn holds(&self, site: Site) -> bool
         requires { follows_box (last_of self.now) ≡ true }
-        ensures { result ≡ is_in_boxes (filter_map area_of self.now) (record { x = x; y = y }) }
+        ensures { result ≡ is_in_boxes (filter_map area_of self.now) site }
     {
         match &self.builder {
             Some(builder) => match builder.area_given() {
-                Some(area) => is_in_box(area, x, y),
+                Some(area) => area.holds(site),
                 None => unreachable!(),
             },
             None => unreachable!(),

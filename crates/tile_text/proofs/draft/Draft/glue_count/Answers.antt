@@ -1,5 +1,4 @@
-use Rattle.std.proofs.Common.{◌≡◌, ℕ, List, length, Option, Some, None, sym, ap, subst, ◌∙◌}
-use Rattle.tile_system.specs.Draft.{Draft}
+use Rattle.std.proofs.Common.{◌≡◌, List, length, sym, ap, subst, ◌∙◌}
 use Rattle.tile_text.specs.SystemText.{SystemItem, glue_names}
 use Rattle.tile_text.specs.Drafts.{parts_of, glues_in}
 use Rattle.tile_text.proofs.FieldLemmas.{glue_room_is}

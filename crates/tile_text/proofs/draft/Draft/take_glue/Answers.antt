@@ -1,5 +1,4 @@
-use Rattle.std.proofs.Common.{◌≡◌, ◌++◌, ◌∷◌, [], true, List, Option, Some, length, get_or, refl, sym, ap, subst, ◌∙◌, arith, rules}
-use Rattle.std.specs.Prelude.{nat_lt}
+use Rattle.std.proofs.Common.{◌≡◌, ◌++◌, ◌∷◌, [], true, List, Some, length, get_or, refl, sym, ap, subst, ◌∙◌, arith, rules}
 use Rattle.std.proofs.lemmas.Option.{slice_get-get_or}
 use Rattle.tile_io.specs.Lines.{words_of}
 use Rattle.tile_io.specs.Checks.{last_of}
@@ -8,7 +7,7 @@ use Rattle.tile_system.specs.Draft.{Draft, with_glue}
 use Rattle.tile_text.specs.declared.stage.Stage.TheVariants as stages
 use Rattle.tile_text.specs.SystemText.{SystemItem, follows_tau_or_glue}
 use Rattle.tile_text.specs.SystemText.SystemItem.{GlueLine}
-use Rattle.tile_text.specs.Drafts.{parts_of, items_of, Lacks, Ties, TakesItem}
+use Rattle.tile_text.specs.Drafts.{parts_of, items_of, Lacks, Ties}
 use Rattle.tile_text.proofs.DraftLemmas.{glue_push}
 use Rattle.tile_text.proofs.BuilderLemmas.{here, glue_none, glue_unrefused, glue_ties}
 use Rattle.tile_text.proofs.Inverse.{glue_ok}

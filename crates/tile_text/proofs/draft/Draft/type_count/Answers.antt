@@ -1,5 +1,4 @@
-use Rattle.std.proofs.Common.{◌≡◌, ℕ, List, length, Option, Some, None, sym, ap, subst, ◌∙◌}
-use Rattle.tile_system.specs.Draft.{Draft}
+use Rattle.std.proofs.Common.{◌≡◌, List, length, sym, ap, subst, ◌∙◌}
 use Rattle.tile_text.specs.SystemText.{SystemItem, type_names}
 use Rattle.tile_text.specs.Drafts.{parts_of, types_in}
 use Rattle.tile_text.proofs.FieldLemmas.{type_room_is}
