@@ -1,4 +1,4 @@
--- Places of names in a list, and the map that has them.
+-- Indices of names in a list, and the map that has them.
 use Rattle.std.specs.BTreeMap.{BTreeMap, insert_entry}
 use Rattle.std.specs.Map.{lookup}
 use Rattle.std.specs.Cmp.Lexicographic.{slice_cmp}
@@ -18,7 +18,7 @@ use Rattle.std.proofs.lemmas.Iterator.Adapters.{position_from-zero}
 use Rattle.std.proofs.lemmas.Map.Lookups.{exact_bytes}
 use Rattle.std.proofs.lemmas.Map.Text.{is_eq-slice_cmp}
 use Rattle.std.proofs.lemmas.Slice.Eq.{bytes_eq-Decides}
-use Rattle.tile_system.specs.Names.{place_named, IsIndexOf}
+use Rattle.tile_system.specs.Names.{index_named, IsIndexOf}
 
 pub clash : true ≡ false → ⊥
 clash both = cc
@@ -63,12 +63,12 @@ module _ {X : Type 0} (test : X → Bool) where
         | inr past ↦ fails_before_first test xs k d (grind (arith, nat_tests))
       ]
 
--- the place of a name once an item with a new name has come
-place_named-push : {X : Type 0} (name : X → List ℕ) (items : List X) (item : X) (wanted : List ℕ) → place_named name items (name item) ≡ None →
-    place_named name (items ++ item ∷ []) wanted ≡ cond (bytes_eq wanted (name item)) (Some (length items)) (place_named name items wanted)
-place_named-push name items item wanted fresh =
+-- the index of a name once an item with a new name has come
+index_named-push : {X : Type 0} (name : X → List ℕ) (items : List X) (item : X) (wanted : List ℕ) → index_named name items (name item) ≡ None →
+    index_named name (items ++ item ∷ []) wanted ≡ cond (bytes_eq wanted (name item)) (Some (length items)) (index_named name items wanted)
+index_named-push name items item wanted fresh =
     elim (bytes_tell wanted (name item)) [
-      | inl same ↦ rw same.0 (position-push_first (λ x. bytes_eq wanted (name x)) items item (subst (λ w. place_named name items w ≡ None) (sym same.1) fresh) same.0)
+      | inl same ↦ rw same.0 (position-push_first (λ x. bytes_eq wanted (name x)) items item (subst (λ w. index_named name items w ≡ None) (sym same.1) fresh) same.0)
       | inr other ↦ rw other.0 (position-push_failing (λ x. bytes_eq wanted (name x)) items item other.0)
     ]
 
@@ -100,28 +100,28 @@ module _ {K X : Type 0} (bytes : K → List ℕ) (wanted : List ℕ) where
             ])
       ]
 
--- the map has the places once an item with a new name has come
-pub IsIndexOf-push : {K X : Type 0} (bytes : K → List ℕ) (name : X → List ℕ) (old new : BTreeMap K ℕ) (items : List X) (key : K) (item : X) → IsIndexOf bytes name old items → place_named name items (name item) ≡ None → bytes key ≡ name item →
+-- the map has the indices once an item with a new name has come
+pub IsIndexOf-push : {K X : Type 0} (bytes : K → List ℕ) (name : X → List ℕ) (old new : BTreeMap K ℕ) (items : List X) (key : K) (item : X) → IsIndexOf bytes name old items → index_named name items (name item) ≡ None → bytes key ≡ name item →
     new.entries ≡ insert_entry (λ k l. slice_cmp nat_cmp (bytes k) (bytes l)) old.entries key (length items) → IsIndexOf bytes name new (items ++ item ∷ [])
 IsIndexOf-push {K = K} bytes name old new items key item index fresh named inserted wanted =
-    let Finds : List (K × ℕ) → Type 0 = λ es. lookup (λ k. is_eq (slice_cmp nat_cmp wanted (bytes k))) es ≡ place_named name (items ++ item ∷ []) wanted in
+    let Finds : List (K × ℕ) → Type 0 = λ es. lookup (λ k. is_eq (slice_cmp nat_cmp wanted (bytes k))) es ≡ index_named name (items ++ item ∷ []) wanted in
     subst Finds (sym inserted)
     (lookup-insert_entry bytes wanted old.entries key (length items)
-    ∙ rw (index wanted, named) (sym (place_named-push name items item wanted fresh)))
+    ∙ rw (index wanted, named) (sym (index_named-push name items item wanted fresh)))
 
--- the item at the place of a name has it
-pub has_name : {G X : Type 0} (place : G → ℕ) (name : X → List ℕ) (items : List X) (wanted : List ℕ) (found : Option G) → option_map place found ≡ place_named name items wanted →
-    IfSome found (λ g. option_map_or name (slice_get items (place g)) [] ≡ wanted)
-has_name place name items wanted None is = tt
-has_name place name [] wanted (Some g) is = absurd (none-some (place g) (sym is))
-has_name place name (x ∷ items) wanted (Some g) is =
-    let at = position-Some (λ y. bytes_eq wanted (name y)) (x ∷ items) (place g) x (sym is) in
-    rw (slice_get-get_or (x ∷ items) (place g) x at.0) (sym ((bytes_eq-Decides wanted (name (get_or (x ∷ items) (place g) x))).0 at.1))
+-- the item at the index of a name has it
+pub has_name : {G X : Type 0} (index : G → ℕ) (name : X → List ℕ) (items : List X) (wanted : List ℕ) (found : Option G) → option_map index found ≡ index_named name items wanted →
+    IfSome found (λ g. option_map_or name (slice_get items (index g)) [] ≡ wanted)
+has_name index name items wanted None is = tt
+has_name index name [] wanted (Some g) is = absurd (none-some (index g) (sym is))
+has_name index name (x ∷ items) wanted (Some g) is =
+    let at = position-Some (λ y. bytes_eq wanted (name y)) (x ∷ items) (index g) x (sym is) in
+    rw (slice_get-get_or (x ∷ items) (index g) x at.0) (sym ((bytes_eq-Decides wanted (name (get_or (x ∷ items) (index g) x))).0 at.1))
 
--- a name without a place is none of an item
-pub has_other_names : {G X : Type 0} (place : G → ℕ) (name : X → List ℕ) (items : List X) (wanted : List ℕ) (found : Option G) → option_map place found ≡ place_named name items wanted →
+-- a name without an index is none of an item
+pub has_other_names : {G X : Type 0} (index : G → ℕ) (name : X → List ℕ) (items : List X) (wanted : List ℕ) (found : Option G) → option_map index found ≡ index_named name items wanted →
     IfNone found (All (λ x. name x ≢ wanted) items)
-has_other_names {X = X} place name items wanted (Some g) is = tt
-has_other_names {X = X} place name items wanted None is = λ k d within same.
+has_other_names {X = X} index name items wanted (Some g) is = tt
+has_other_names {X = X} index name items wanted None is = λ k d within same.
     let test : X → Bool = λ y. bytes_eq wanted (name y) in
     clash (sym ((bytes_eq-Decides wanted (name (get_or items k d))).1 (sym same)) ∙ none_passes test items (sym is) k d within)

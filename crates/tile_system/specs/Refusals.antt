@@ -30,9 +30,11 @@ abbrev pub StopsUnless : {T : Type 0} → Type 0 → BuildStop → Result T Buil
 StopsUnless P stop (Ok value) = P
 StopsUnless P stop (Err answer) = (answer ≡ stop) × ¬ P
 
+-- why a temperature is refused
 unfoldable pub make_refusal : ℕ → Option BuildStop
 make_refusal tau = first_refusal ((not (nat_le 1 tau && nat_le tau 1000), OutOfRange) ∷ [])
 
+-- why a glue is refused
 unfoldable pub glue_refusal : Draft → List ℕ → ℕ → Option BuildStop
 glue_refusal draft name strength =
     first_refusal
@@ -46,6 +48,7 @@ glue_refusal draft name strength =
 abbrev pub is_unknown : Draft → Option GlueId → Bool
 is_unknown draft side = option_map_or (λ g. nat_le (length draft.glues) g.0) side false
 
+-- why a type is refused
 unfoldable pub tile_refusal : Draft → List ℕ → List (Option GlueId) → Option BuildStop
 tile_refusal draft name sides =
     first_refusal

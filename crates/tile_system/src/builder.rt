@@ -38,9 +38,22 @@ impl Model for SystemBuilder {
 
     ghost Value = { Draft };
 
-    ghost view = { λ b. record { glues = b.glues; types = b.types; tau = b.tau; area = b.area; seeds = b.seeds.items } };
+    ghost view = { λ b. record {
+      glues = b.glues;
+      types = b.types;
+      tau = b.tau;
+      area = b.area;
+      seeds = b.seeds.items;
+    } };
 
-    ghost invariant = { λ b. IsDraft (record { glues = b.glues; types = b.types; tau = b.tau; area = b.area; seeds = b.seeds.items })
+    // There is room for a seed.
+    ghost invariant = { λ b. IsDraft (record {
+      glues = b.glues;
+      types = b.types;
+      tau = b.tau;
+      area = b.area;
+      seeds = b.seeds.items;
+    })
         × (1 ≤ vec_capacity b.seeds) };
 }
 
@@ -275,7 +288,8 @@ fn is_box(area: BoxArea) -> bool
 // Whether both sides have 1024 sites or fewer.
 fn is_short(area: BoxArea) -> bool
     requires { HasCorners area }
-    ensures { IsTrue result ↔ ((area.x1 ≤ℤ (area.x0 +ℤ pos 1023)) × (area.y1 ≤ℤ (area.y0 +ℤ pos 1023))) }
+    ensures { IsTrue result
+        ↔ ((area.x1 ≤ℤ (area.x0 +ℤ pos 1023)) × (area.y1 ≤ℤ (area.y0 +ℤ pos 1023))) }
 {
     is_short_side(area.x0, area.x1) && is_short_side(area.y0, area.y1)
 }
@@ -295,7 +309,8 @@ fn has_corners(area: BoxArea) -> bool
 
 // Whether two coordinates of corners are in order and within their limits.
 fn is_span(low: i32, high: i32) -> bool
-    ensures { IsTrue result ↔ ((low ≤ℤ high) × (negsuc 999999 ≤ℤ low) × (high ≤ℤ pos 1000000)) }
+    ensures { IsTrue result
+        ↔ ((low ≤ℤ high) × (negsuc 999999 ≤ℤ low) × (high ≤ℤ pos 1000000)) }
 {
     low <= high && -1000000 <= low && high <= 1000000
 }

@@ -1,6 +1,6 @@
 // A list of items that are found by their names.
 ghost use Rattle.std.specs.Prelude.{◌≡◌, ◌<◌, ◌^◌, [], ◌∷◌, ◌++◌, length, List, ℕ, None, OnOk, OnErr};
-ghost use Rattle.tile_system.specs.Names.{place_named};
+ghost use Rattle.tile_system.specs.Names.{index_named};
 
 use crate::NoMemory;
 use std::alloc::Global;
@@ -15,11 +15,11 @@ pub trait Named {
         ensures { result.now ≡ name self.now };
 }
 
-// Items in the order in which they came, with a map from each name to the item's place.
+// Items in the order in which they came, with a map from each name to the item's index.
 #[derive(Drop)]
 pub struct NamedList<T: Named> {
     items: Vec<T>,
-    places: BTreeMap<Vec<u8>, u32>,
+    indices: BTreeMap<Vec<u8>, u32>,
 }
 
 impl<T: Named> Model for NamedList<T> {
@@ -30,7 +30,7 @@ impl<T: Named> Model for NamedList<T> {
 
     ghost view = { λ l. l.items.items };
 
-    ghost invariant = { λ l. IsIndexOf (λ k. k.items) T.name l.places l.items.items };
+    ghost invariant = { λ l. IsIndexOf (λ k. k.items) T.name l.indices l.items.items };
 }
 
 impl<T: Named> NamedList<T> {
@@ -39,7 +39,7 @@ impl<T: Named> NamedList<T> {
     {
         NamedList {
             items: Vec::new(alloc),
-            places: BTreeMap::new(alloc),
+            indices: BTreeMap::new(alloc),
         }
     }
 
@@ -49,26 +49,26 @@ impl<T: Named> NamedList<T> {
         self.items.as_slice()
     }
 
-    // The place of the item with this name.
+    // The index of the item with this name.
     pub fn find(&self, name: &[u8]) -> Option<u32>
-        ensures { result ≡ place_named T.name self.now name.now }
+        ensures { result ≡ index_named T.name self.now name.now }
     {
-        self.places.get(name).copied()
+        self.indices.get(name).copied()
     }
 
     // Adds an item with a new name.
     pub fn push(&mut self, alloc: Global, item: T) -> Result<(), NoMemory>
     where
         T: Drop,
-        requires fresh { place_named T.name self.old (T.name item) ≡ None }
+        requires fresh { index_named T.name self.old (T.name item) ≡ None }
         requires room { length self.old < 2 ^ 32 }
         ensures ok { OnOk result (self.new ≡ self.old ++ item ∷ []) }
         ensures unchanged { OnErr result (self.new ≡ self.old) }
     {
         let name = item.name().to_vec(alloc)?;
         self.items.reserve(1)?;
-        let place = self.items.len() as u32;
-        self.places.insert(name, place)?;
+        let index = self.items.len() as u32;
+        self.indices.insert(name, index)?;
         self.items.push_reserved(item);
         Ok(())
     }

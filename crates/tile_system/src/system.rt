@@ -29,9 +29,23 @@ impl Model for System {
 
     ghost Value = { TileSystem };
 
-    ghost view = { λ s. record { glues = s.glues; pairs = s.pairs.items; types = s.types; tau = s.tau; seeds = s.seeds.items; area = s.area } };
+    ghost view = { λ s. record {
+      glues = s.glues;
+      pairs = s.pairs.items;
+      types = s.types;
+      tau = s.tau;
+      seeds = s.seeds.items;
+      area = s.area;
+    } };
 
-    ghost invariant = { λ s. IsValid (record { glues = s.glues; pairs = s.pairs.items; types = s.types; tau = s.tau; seeds = s.seeds.items; area = s.area }) };
+    ghost invariant = { λ s. IsValid (record {
+      glues = s.glues;
+      pairs = s.pairs.items;
+      types = s.types;
+      tau = s.tau;
+      seeds = s.seeds.items;
+      area = s.area;
+    }) };
 }
 
 impl System {
@@ -44,8 +58,22 @@ impl System {
         seeds: Vec<Place>,
         area: BoxArea,
     ) -> System
-        requires { IsValid (record { glues = glues; pairs = []; types = types; tau = tau; seeds = seeds.items; area = area }) }
-        ensures { result ≡ record { glues = glues; pairs = []; types = types; tau = tau; seeds = seeds.items; area = area } }
+        requires { IsValid (record {
+          glues = glues;
+          pairs = [];
+          types = types;
+          tau = tau;
+          seeds = seeds.items;
+          area = area;
+        }) }
+        ensures { result ≡ record {
+          glues = glues;
+          pairs = [];
+          types = types;
+          tau = tau;
+          seeds = seeds.items;
+          area = area;
+        } }
     {
         System {
             glues,
@@ -112,7 +140,7 @@ impl System {
 
     /// The glue with this name, in time that grows with the logarithm of their number.
     pub fn find_glue(&self, name: &[u8]) -> Option<GlueId>
-        ensures place { option_map (λ glue. glue.0) result ≡ glue_named self.now.glues name.now }
+        ensures index { option_map (λ glue. glue.0) result ≡ glue_named self.now.glues name.now }
         ensures in_range { IfSome result (λ glue. glue.0 < length self.now.glues) }
         ensures named { IfSome result (λ glue. glue_name self.now glue ≡ name.now) }
         ensures absent { IfNone result (All (λ glue. glue.name ≢ name.now) self.now.glues) }
@@ -122,7 +150,7 @@ impl System {
 
     /// The type with this name, in time that grows with the logarithm of their number.
     pub fn find_type(&self, name: &[u8]) -> Option<TypeId>
-        ensures place { option_map (λ tile. tile.0) result ≡ type_named self.now.types name.now }
+        ensures index { option_map (λ tile. tile.0) result ≡ type_named self.now.types name.now }
         ensures in_range { IfSome result (IsType self.now) }
         ensures named { IfSome result (λ tile. type_name self.now tile ≡ name.now) }
         ensures absent { IfNone result (All (λ tile. tile.name ≢ name.now) self.now.types) }
