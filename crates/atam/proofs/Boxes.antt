@@ -1,5 +1,5 @@
 -- The sites of a box, by column and row.
-use Rattle.std.proofs.Common.{◌≡◌, ◌<◌, ◌+◌, ℕ, ℤ, pos, ◌+ℤ◌, ◌-ℤ◌, ◌≤ℤ◌, arith, true, nat_abs}
+use Rattle.std.proofs.Common.{◌≡◌, ◌<◌, ℕ, ℤ, pos, ◌+ℤ◌, ◌-ℤ◌, ◌≤ℤ◌, arith, true, nat_abs}
 use Rattle.std.proofs.Common.{ap, Decides, ◌≢◌, ◌⊎◌, false, inl, inr, refl}
 use Rattle.std.specs.Ordering.{int_eq}
 use Rattle.std.proofs.lemmas.Bool.Decides.{Decides-like, Decides-and, Decides-int_eq, not_from_Decides}
@@ -9,7 +9,7 @@ use Rattle.atam.specs.declared.site.Site.{Site}
 use Rattle.atam.specs.declared.area.BoxArea.{BoxArea}
 use Rattle.atam.specs.declared.site.Side.{Side}
 use Rattle.atam.specs.declared.site.Side.TheVariants.{North, East, South, West}
-use Rattle.atam.specs.Sites.{neighbor, same_site, IsBefore, InBox, HasCorners, widened, site_in, width_of, height_of}
+use Rattle.atam.specs.Sites.{neighbor, same_site, InBox, widened, site_in, width_of, height_of}
 
 -- a site is its coordinates
 pub same_coordinates : (a b : Site) → a.y ≡ b.y → a.x ≡ b.x → a ≡ b
@@ -45,21 +45,9 @@ same_site_tells a b =
 pub same_site-refl : (m : Site) → same_site m m ≡ true
 same_site-refl m = elim (same_site_tells m m) [ inl same ↦ same.0 | inr differ ↦ absurd (differ.1 refl) ]
 
--- the order of sites is that of their rows, and of their columns within a row
-pub cells_in_order : (area : BoxArea) (c r d q : ℕ) → IsBefore (site_in area c r) (site_in area d q) → (r < q) ⊎ ((r ≡ q) × (c < d))
-cells_in_order area c r d q (inl less) = inl (omega (arith, ints, less))
-cells_in_order area c r d q (inr same) = inr (omega (arith, ints, same.0), omega (arith, ints, same.1))
-
 -- a site beside one of the box is in the widened box
 pub beside_box : (area : BoxArea) (m : Site) (d : Side) → InBox area (neighbor m d) → InBox (widened area) m
 beside_box area m North inside = record { left = omega (arith, ints, inside.left); right = omega (arith, ints, inside.right); bottom = omega (arith, ints, inside.bottom); top = omega (arith, ints, inside.top) }
 beside_box area m East inside = record { left = omega (arith, ints, inside.left); right = omega (arith, ints, inside.right); bottom = omega (arith, ints, inside.bottom); top = omega (arith, ints, inside.top) }
 beside_box area m South inside = record { left = omega (arith, ints, inside.left); right = omega (arith, ints, inside.right); bottom = omega (arith, ints, inside.bottom); top = omega (arith, ints, inside.top) }
 beside_box area m West inside = record { left = omega (arith, ints, inside.left); right = omega (arith, ints, inside.right); bottom = omega (arith, ints, inside.bottom); top = omega (arith, ints, inside.top) }
-
--- it has two columns and two rows more
-pub widened_width : (area : BoxArea) → HasCorners area → width_of (widened area) ≡ width_of area + 2
-widened_width area corners = omega (arith, ints, corners.columns)
-
-pub widened_height : (area : BoxArea) → HasCorners area → height_of (widened area) ≡ height_of area + 2
-widened_height area corners = omega (arith, ints, corners.rows)

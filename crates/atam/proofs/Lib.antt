@@ -1,6 +1,5 @@
 pub mod Lists
 pub mod Boxes
-pub mod Cells
 pub mod Placements
 pub mod Systems
 pub mod Bonds
