@@ -5,7 +5,8 @@ use tile_io::{Cause, Mark, TextFault, TextStop};
 use tile_system::{BoxArea, Side, Site, System};
 
 // Three types in a row.
-const CHAIN: &[u8] = b"tiles 1\ntau 2\nglue a 2\nglue b 2\ntile S - a - -\ntile B - b - a\ntile C - - - b\nbox 0 0 2 0\nseed 0 0 S\nend\n";
+const CHAIN: &[u8] =
+    b"tiles 1\ntau 2\nglue a 2\nglue b 2\ntile S - a - -\ntile B - b - a\ntile C - - - b\nbox 0 0 2 0\nseed 0 0 S\nend\n";
 
 const LINES: [&[u8]; 10] = [
     b"tiles 1",
@@ -141,7 +142,10 @@ fn refuses_a_cut_text(rt: HostRuntime) -> Result<(), Fail> {
         (103, 10, Cause::NoEnd),
     ] {
         let stop = TextStop::Fault(TextFault { line, cause });
-        assert_eq!(rt; refusal(rt.alloc(), CHAIN.get(..length).unwrap_or(CHAIN)), Some(stop));
+        assert_eq!(rt;
+            refusal(rt.alloc(), CHAIN.get(..length).unwrap_or(CHAIN)),
+            Some(stop)
+        );
     }
     Ok(())
 }
