@@ -1,5 +1,5 @@
 -- From what was read to the reply, and from the reply to the clauses of the top call.
-use Rattle.std.proofs.Common.{◌≡◌, ◌⊎◌, ◌<◌, ◌≤◌, ◌+◌, ◌++◌, ◌∙◌, ℕ, Bool, true, false, List, [], length, Option, Some, None, Result, Ok, Err, IfSome, refl, sym, ap, subst, arith, inl, inr, append-nil, length-append}
+use Rattle.std.proofs.Common.{◌≡◌, ◌⊎◌, ◌<◌, ◌≤◌, ◌+◌, ◌++◌, ◌∙◌, ℕ, Bool, true, false, List, [], length, is_none, Option, Some, None, Result, Ok, Err, IfSome, refl, sym, ap, subst, arith, inl, inr, append-nil, length-append}
 use Rattle.std.proofs.lemmas.Option.{same_Some}
 use Rattle.std.specs.Io.KnownBytes.{Appends, Consumes, IsAtEnd}
 use Rattle.tile_io.specs.declared.fault.TextFault.{TextFault}
@@ -16,57 +16,54 @@ use Rattle.atam.specs.TileSystem.{TileSystem, IsType}
 use Rattle.atam.specs.Growth.{IsLeastOpenOutside}
 use Rattle.tile_text.specs.SystemText.{system_format, system_items}
 use Rattle.tilebench.specs.declared.words.Command.{Command}
-use Rattle.tilebench.specs.declared.words.Command.TheVariants.{Grow}
+use Rattle.tilebench.specs.declared.words.Command.TheVariants.{Grow, Format}
+use Rattle.tilebench.specs.declared.answer.Answer.{Answer}
 use Rattle.tilebench.specs.declared.answer.Growth.{Growth}
 use Rattle.tilebench.specs.declared.stop.Stop.{Stop}
 use Rattle.tilebench.specs.declared.stop.Stop.TheVariants as stops
 use Rattle.tilebench.specs.declared.status.Status.{Status}
 use Rattle.tilebench.specs.declared.status.Status.TheVariants.{Done, No, WriteFault}
-use Rattle.tilebench.specs.Replies.{first_mark, IsWholeSystem, FailsAsSystem, Fails, IsAnswer, IsTextRefusal, CanAnswer, Tells}
+use Rattle.tilebench.specs.Replies.{first_mark, IsWholeSystem, FailsAsSystem, Fails, Answers, IsAnswer, IsTextRefusal, CanAnswer, Tells}
 use Rattle.tilebench.specs.Statuses.{Writes, answer_status}
-use Rattle.tilebench.specs.Stops.{GrowsInput, AnswersCommand, IsGrown, is_terminal, growth_text}
+use Rattle.tilebench.specs.AnswerText.{IsGrownFrom, growth_text, HasTypes}
+use Rattle.tilebench.specs.Stops.{AnswersInput, AnswersCommand}
 
 -- the type that is open outside is one of the system
 open_type : (sys : TileSystem) (tiles : List Place) (outside : Option (Site × TypeId)) → IsLeastOpenOutside sys tiles outside → IfSome outside (λ found. IsType sys found.1)
 open_type sys tiles None least = tt
 open_type sys tiles (Some found) least = least.grows.kind
 
--- what `grow` makes of the whole input is its answer
-answers_grow : (left left_after : Option (List ℕ)) (before now : ℕ) (input : List ℕ) (r : Result Growth Stop) →
-    Consumes left left_after input → IsAtEnd left_after → length input ≤ MOST_INPUT → GrowsInput input r → AnswersCommand Grow left left_after before now r
-answers_grow left left_after before now input (Ok growth) read at_end short grows =
-    let grown = grows.1 in (
-      record {
-        input = input;
-        read = read;
-        at_end = at_end;
-        short = short;
-        answer = (
-          growth.sys,
-          grows.0,
-          record {
-            sequence = growth.tiles;
-            legal = grown.legal;
-            inside = grown.fits.sites;
-            closed = grown.closed;
-            outside = growth.outside;
-            least = grown.least;
-            printed = refl;
-            answer = refl;
-          },
-        );
-      },
-      record { tiles = grown.fits.types; outside = open_type growth.sys growth.tiles growth.outside grown.least },
-    )
-answers_grow left left_after before now input (Err (stops.Words stop)) read at_end short grows = grows
-answers_grow left left_after before now input (Err (stops.Text fault)) read at_end short grows =
-    inr (record { input = input; read = read; at_end = at_end; short = short; fails = grows })
-answers_grow left left_after before now input (Err stops.ReadFault) read at_end short grows = absurd grows
-answers_grow left left_after before now input (Err stops.NoMemory) read at_end short grows = tt
+-- what a whole input's system grows into is the answer of `grow`
+pub growth_answers : (input : List ℕ) (sys : TileSystem) (growth : Growth) → IsWholeSystem input sys → IsGrownFrom sys growth →
+    Answers Grow input (is_none growth.outside) (growth_text growth) × HasTypes growth
+growth_answers input sys growth whole grown = (
+  (
+    growth.sys,
+    subst (IsWholeSystem input) (sym grown.same) whole,
+    record {
+      sequence = growth.tiles;
+      legal = grown.legal;
+      inside = grown.fits.sites;
+      closed = grown.closed;
+      outside = growth.outside;
+      least = grown.least;
+      printed = refl;
+      answer = refl;
+    },
+  ),
+  record { tiles = grown.fits.types; outside = open_type growth.sys growth.tiles growth.outside grown.least },
+)
 
-pub answers_command : (command : Command) (left left_after : Option (List ℕ)) (before now : ℕ) (input : List ℕ) (r : Result Growth Stop) →
-    Consumes left left_after input → IsAtEnd left_after → length input ≤ MOST_INPUT → GrowsInput input r → AnswersCommand command left left_after before now r
-answers_command Grow left left_after before now input r read at_end short grows = answers_grow left left_after before now input r read at_end short grows
+-- what a command answers to all that was left is its answer to the source
+pub answers_command : (command : Command) (left left_after : Option (List ℕ)) (before now : ℕ) (input : List ℕ) (r : Result Answer Stop) →
+    Consumes left left_after input → IsAtEnd left_after → length input ≤ MOST_INPUT → AnswersInput command input r → AnswersCommand command left left_after before now r
+answers_command command left left_after before now input (Ok answer) read at_end short answers =
+    (record { input = input; read = read; at_end = at_end; short = short; answer = answers.0 }, answers.1)
+answers_command command left left_after before now input (Err (stops.Words stop)) read at_end short never = never
+answers_command command left left_after before now input (Err (stops.Text fault)) read at_end short fails =
+    inr (record { input = input; read = read; at_end = at_end; short = short; fails = fails })
+answers_command command left left_after before now input (Err stops.ReadFault) read at_end short never = absurd never
+answers_command command left left_after before now input (Err stops.NoMemory) read at_end short _ = tt
 
 -- an answer that was written whole is told as what it is
 pub tells_yes : (words : List (List ℕ)) (left left_after old new : Option (List ℕ)) (before now : ℕ) (is_yes : Bool) (text : List ℕ) (status : Status) →
@@ -93,6 +90,7 @@ whole_or_faulty input sys fault whole (inr behind) =
 -- what fails for a command fails as a system
 fails_as_system : (command : Command) (input : List ℕ) (fault : TextFault) → Fails command input fault → FailsAsSystem input fault
 fails_as_system Grow input fault fails = fails
+fails_as_system Format input fault fails = fails
 
 -- what was taken of known bytes is at most these
 taken_within : (left : List ℕ) (left_after : Option (List ℕ)) (taken : List ℕ) → Consumes (Some left) left_after taken → length taken ≤ length left

@@ -1,7 +1,7 @@
 -- The words of a command line.
 use Rattle.std.specs.Prelude.{ℕ, List, [], ◌∷◌, ◌++◌, codes, bytes_eq, if◌then◌else◌, Result, Ok, Err}
 use Rattle.tilebench.specs.declared.words.Command.{Command}
-use Rattle.tilebench.specs.declared.words.Command.TheVariants.{Grow}
+use Rattle.tilebench.specs.declared.words.Command.TheVariants.{Grow, Format}
 use Rattle.tilebench.specs.declared.words.WordsStop.{WordsStop}
 use Rattle.tilebench.specs.declared.words.WordsStop.TheVariants.{NoCommand, Usage}
 use Rattle.tile_io.specs.Lines.{line_of}
@@ -14,7 +14,10 @@ command_alone command (word ∷ words) = Err Usage
 -- the command that the words name, or why they are refused
 abbrev pub command_of : List (List ℕ) → Result Command WordsStop
 command_of [] = Err NoCommand
-command_of (first ∷ rest) = if bytes_eq first (codes "grow") then command_alone Grow rest else Err NoCommand
+command_of (first ∷ rest) =
+    if bytes_eq first (codes "grow") then command_alone Grow rest
+    else if bytes_eq first (codes "format") then command_alone Format rest
+    else Err NoCommand
 
 -- how the program calls a refusal of words
 abbrev pub words_stop_name : WordsStop → List ℕ

@@ -1,5 +1,5 @@
 -- What the program has to say to its words and its input.
-use Rattle.std.specs.Prelude.{◌≡◌, ◌⊎◌, ◌<◌, ◌≤◌, ℕ, Bool, List, [], ◌∷◌, length, codes, decimal, Option, Some, Result, Ok, Err}
+use Rattle.std.specs.Prelude.{◌≡◌, ◌⊎◌, ◌<◌, ◌≤◌, ℕ, Bool, true, List, [], ◌∷◌, length, codes, decimal, Option, Some, Result, Ok, Err}
 use Rattle.std.specs.Io.KnownBytes.{Appends, Consumes, IsAtEnd}
 use Rattle.tile_io.specs.declared.fault.Cause.{Cause}
 use Rattle.tile_io.specs.declared.fault.Cause.TheVariants.{TooLong}
@@ -13,8 +13,9 @@ use Rattle.tile_io.specs.Prints.{AppendsFront}
 use Rattle.tile_io.specs.Rest.{HasNoMore, HasMore}
 use Rattle.atam.specs.TileSystem.{TileSystem}
 use Rattle.tile_text.specs.SystemText.{ReadsSystem, system_format}
+use Rattle.tile_text.specs.Spelling.{spelling}
 use Rattle.tilebench.specs.declared.words.Command.{Command}
-use Rattle.tilebench.specs.declared.words.Command.TheVariants.{Grow}
+use Rattle.tilebench.specs.declared.words.Command.TheVariants.{Grow, Format}
 use Rattle.tilebench.specs.declared.words.WordsStop.{WordsStop}
 use Rattle.tilebench.specs.Commands.{command_of, refused_words}
 use Rattle.tilebench.specs.GrowthText.{IsGrowthText}
@@ -47,10 +48,12 @@ refused_text fault = line_of (codes "refused" ∷ codes "text" ∷ codes "line" 
 -- what a command answers to an input, and whether it is a yes
 abbrev pub Answers : Command → List ℕ → Bool → List ℕ → Type 0
 Answers Grow input is_yes text = (sys : TileSystem) × IsWholeSystem input sys × IsGrowthText sys is_yes text
+Answers Format input is_yes text = (sys : TileSystem) × IsWholeSystem input sys × (text ≡ spelling sys) × (is_yes ≡ true)
 
 -- the first fault of an input for a command
 abbrev pub Fails : Command → List ℕ → TextFault → Type 0
 Fails Grow input fault = FailsAsSystem input fault
+Fails Format input fault = FailsAsSystem input fault
 
 -- the source was read to its end, and this is what the command answers to it
 pub record IsCommandAnswer (command : Command) (left left_after : Option (List ℕ)) (is_yes : Bool) (text : List ℕ) : Type 0 where

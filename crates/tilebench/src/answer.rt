@@ -1,8 +1,9 @@
 // From words and a source to an answer, all of it in memory before anything is written.
-ghost use Rattle.std.specs.Prelude.{◌≡◌, ◌≤◌, Ok, length, map, string_bytes, IsErr};
+ghost use Rattle.std.specs.Prelude.{◌≡◌, ◌≤◌, length, map, string_bytes, IfOk, IsErr};
 ghost use Rattle.tile_io.specs.declared.whole.TheConstants.{MOST_INPUT};
 ghost use Rattle.tilebench.specs.Commands.{command_of};
-ghost use Rattle.tilebench.specs.Stops.{ReadsInput, ReadsAlone, GrowsInput, AnswersCommand, AnswersWords};
+ghost use Rattle.tilebench.specs.AnswerText.{IsGrownFrom, is_yes};
+ghost use Rattle.tilebench.specs.Stops.{ReadsInput, ReadsAlone, AnswersInput, AnswersCommand, AnswersWords};
 
 use crate::growth::grow;
 use crate::place_list::PlaceList;
@@ -11,7 +12,7 @@ use crate::words::{Command, command_of};
 use attach_rule::least_open_outside;
 use std::alloc::Global;
 use tile_io::{Cause, Mark, ReadStop, Source, TextFault, TextStop, check_rest, read_whole};
-use tile_system::{Site, System, TypeId};
+use tile_system::{NoMemory, Site, System, TypeId};
 use tile_text::read_system;
 
 /// What a system grew into, and what is open outside its box.
@@ -22,8 +23,33 @@ pub struct Growth {
     pub outside: Option<(Site, TypeId)>,
 }
 
+/// What a command answers.
+#[derive(Drop)]
+pub enum Answer {
+    /// The text of a growth.
+    Growth(Growth),
+    /// The printed spelling of a system.
+    Spelling(System),
+}
+
+impl Answer {
+    /// Whether the answer is a yes.
+    pub fn is_yes(&self) -> bool
+        ensures { result ≡ is_yes self.now }
+    {
+        match self {
+            Answer::Growth(growth) => growth.outside.is_none(),
+            Answer::Spelling(_) => true,
+        }
+    }
+}
+
 /// The answer that the words and the source call for.
-pub fn answer<S: Source>(alloc: Global, words: &[String], source: &mut S) -> Result<Growth, Stop>
+pub fn answer_to<S: Source>(
+    alloc: Global,
+    words: &[String],
+    source: &mut S,
+) -> Result<Answer, Stop>
     ensures answer { AnswersWords (map string_bytes words.now) (S.left source.old) (S.left source.new)
         (S.faults source.old) (S.faults source.new) result }
     ensures unread { IsErr (command_of (map string_bytes words.now)) → source.new ≡ source.old }
@@ -40,7 +66,7 @@ fn command_answer<S: Source>(
     alloc: Global,
     command: Command,
     source: &mut S,
-) -> Result<Growth, Stop>
+) -> Result<Answer, Stop>
     ensures answer { AnswersCommand command (S.left source.old) (S.left source.new)
         (S.faults source.old) (S.faults source.new) result }
     ensures later { S.faults source.old ≤ S.faults source.new }
@@ -49,15 +75,13 @@ fn command_answer<S: Source>(
         Ok(input) => input,
         Err(stop) => return Err(stop),
     };
-    match command {
-        Command::Grow => grown_input(alloc, &input),
-    }
+    input_answer(alloc, command, &input)
 }
 
 // All that is left of the source.
 fn read_input<S: Source>(alloc: Global, source: &mut S) -> Result<Vec<u8>, Stop>
-    ensures input { ReadsInput (λ input. input.items) (S.left source.old) (S.left source.new) (S.faults source.old) (S.faults source.new)
-        result }
+    ensures input { ReadsInput (λ input. input.items) (S.left source.old) (S.left source.new)
+        (S.faults source.old) (S.faults source.new) result }
     ensures later { S.faults source.old ≤ S.faults source.new }
 {
     match read_whole(alloc, source) {
@@ -71,19 +95,29 @@ fn read_input<S: Source>(alloc: Global, source: &mut S) -> Result<Vec<u8>, Stop>
     }
 }
 
-// What the system grows into whose text the input is.
-fn grown_input(alloc: Global, input: &[u8]) -> Result<Growth, Stop>
+// The answer of a command to an input.
+fn input_answer(alloc: Global, command: Command, input: &[u8]) -> Result<Answer, Stop>
     requires { length input.now ≤ MOST_INPUT }
-    ensures { GrowsInput input.now result }
+    ensures { AnswersInput command input.now result }
 {
     let sys = match read_alone(alloc, input) {
         Ok(sys) => sys,
         Err(stop) => return Err(stop),
     };
-    let tiles = match grow(&sys, alloc) {
-        Ok(tiles) => tiles,
-        Err(_) => return Err(Stop::NoMemory),
-    };
+    match command {
+        Command::Grow => match growth_of(alloc, sys) {
+            Ok(growth) => Ok(Answer::Growth(growth)),
+            Err(_) => Err(Stop::NoMemory),
+        },
+        Command::Format => Ok(Answer::Spelling(sys)),
+    }
+}
+
+// What a system grows into.
+fn growth_of(alloc: Global, sys: System) -> Result<Growth, NoMemory>
+    ensures { IfOk result (IsGrownFrom sys) }
+{
+    let tiles = grow(&sys, alloc)?;
     let outside = least_open_outside(&sys, &tiles);
     Ok(Growth {
         sys,

@@ -220,6 +220,117 @@ fn refuses_words_and_texts(rt: HostRuntime) -> Result<(), Fail> {
     Ok(())
 }
 
+// Each front of the chain's text lacks its end, at the line where it is cut.
+#[test]
+fn refuses_each_front_of_a_text(rt: HostRuntime) -> Result<(), Fail> {
+    let mut line = 1u32;
+    for (length, byte) in CHAIN.as_bytes().iter().enumerate() {
+        let alloc = rt.alloc();
+        let front = CHAIN.get(..length).unwrap_or("");
+        let cause = if length == 0 { "NoHeader" } else { "NoEnd" };
+        let err = format!(in alloc; "refused text line {line} {cause}\n")?;
+        let ran = grown(&rt, alloc, front)?;
+        assert_eq!(rt; ran.status, Status::Text, "{length}");
+        assert_eq!(rt; ran.err.as_slice(), err.as_bytes(), "{length}");
+        if *byte == b'\n' {
+            line = line.saturating_add(1);
+        }
+    }
+    Ok(())
+}
+
+// One item more than its limit allows.
+#[test]
+fn refuses_too_many_items(rt: HostRuntime) -> Result<(), Fail> {
+    for (item, rest, count, err) in [
+        ("glue", "1", 8193, "refused text line 8195 TooMany\n"),
+        ("tile", "- - - -", 16385, "refused text line 16387 TooMany\n"),
+    ] {
+        let alloc = rt.alloc();
+        let mut text = String::from_str(alloc, "tiles 1\ntau 1\n")?;
+        for number in 0..count {
+            let line = format!(in alloc; "{item} n{number} {rest}\n")?;
+            text.push_str(line.as_str())?;
+        }
+        let ran = grown(&rt, alloc, text.as_str())?;
+        assert_eq!(rt; ran.status, Status::Text, "{item}");
+        assert_eq!(rt; ran.err.as_slice(), err.as_bytes());
+    }
+    Ok(())
+}
+
+// An input of one byte more than the limit.
+#[test]
+fn refuses_a_long_input(rt: HostRuntime) -> Result<(), Fail> {
+    let alloc = rt.alloc();
+    let none: Vec<u32> = Vec::new(alloc);
+    let mut source = MemorySource::make(vec![in alloc; b'\n'; 67108865]?, 65536, none);
+    let mut out = MemorySink::make(alloc, 64, 64, Vec::new(alloc))?;
+    let mut err = MemorySink::make(alloc, 64, 64, Vec::new(alloc))?;
+    let words = [String::from_str(alloc, "grow")?];
+    let ran = tilebench(
+        &rt,
+        alloc,
+        &words,
+        &mut source,
+        &mut out,
+        &mut err,
+        &OpenGate,
+    );
+    assert_eq!(rt; ran.status, Status::Text);
+    assert_eq!(rt; err.bytes(), &b"refused text line 0 TooLong\n"[..]);
+    Ok(())
+}
+
+#[test]
+fn prints_the_one_spelling(rt: HostRuntime) -> Result<(), Fail> {
+    let failures = Failures {
+        source: NEVER,
+        out: NEVER,
+        err: NEVER,
+    };
+    for (text, spelling) in [
+        (
+            "# two words\n\ntiles 1\ntau  01\ntile S - - - -\nbox 0 0 -0 00\nseed 0 0   S\nend\n",
+            SINGLE,
+        ),
+        (CHAIN, CHAIN),
+    ] {
+        let ran = run(&rt, rt.alloc(), &["format"], text, 4096, failures)?;
+        assert_eq!(rt; ran.status, Status::Done, "{text}");
+        assert_eq!(rt; ran.out.as_slice(), spelling.as_bytes());
+        assert_eq!(rt; ran.err.len(), 0, "{text}");
+    }
+    Ok(())
+}
+
+// Where one call of the source fails there is no answer, and where one of the sink fails a front of it.
+#[test]
+fn tells_the_fault_of_each_call(rt: HostRuntime) -> Result<(), Fail> {
+    let whole = b"place 0 0 S\nclosed terminal\n";
+    for call in 0..57u32 {
+        let failures = Failures {
+            source: call,
+            out: NEVER,
+            err: NEVER,
+        };
+        let ran = run(&rt, rt.alloc(), &["grow"], SINGLE, 1, failures)?;
+        assert_eq!(rt; ran.status, Status::ReadFault, "{call}");
+        assert_eq!(rt; ran.out.len(), 0, "{call}");
+    }
+    for (call, _) in whole.iter().enumerate() {
+        let failures = Failures {
+            source: NEVER,
+            out: call as u32,
+            err: NEVER,
+        };
+        let ran = run(&rt, rt.alloc(), &["grow"], SINGLE, 1, failures)?;
+        assert_eq!(rt; ran.status, Status::WriteFault, "{call}");
+        assert_eq!(rt; Some(ran.out.as_slice()), whole.get(..call), "{call}");
+    }
+    Ok(())
+}
+
 // A failing call of each object, where each call moves a byte.
 #[test]
 fn tells_faults(rt: HostRuntime) -> Result<(), Fail> {

@@ -5,9 +5,9 @@ ghost use Rattle.tile_io.specs.Prints.{Prints};
 ghost use Rattle.tilebench.specs.Commands.{command_of, refused_words};
 ghost use Rattle.tilebench.specs.Replies.{IsAnswer, IsWordsRefusal, IsTextRefusal, IsRefusal, CanAnswer, Tells, CutsOff, refused_text};
 ghost use Rattle.tilebench.specs.Statuses.{IsAnswered, Writes, answer_status, written_status};
-ghost use Rattle.tilebench.specs.Stops.{growth_text, is_terminal, IsPrintable};
+ghost use Rattle.tilebench.specs.AnswerText.{growth_text, answer_text, is_yes, HasTypes, IsPrintable};
 
-use crate::answer::{Growth, answer};
+use crate::answer::{Answer, Growth, answer_to};
 use crate::status::{Ran, Status};
 use crate::stop::Stop;
 use crate::words::WordsStop;
@@ -16,6 +16,7 @@ use seq_text::{print_closed, print_places};
 use std::alloc::Global;
 use std::thread::Threads;
 use tile_io::{Failed, Gate, Sink, Source, TextFault, print_line};
+use tile_text::print_system;
 
 /// Runs a command: reads `source`, and writes the answer to `out` or a refusal to `err`.
 ///
@@ -51,8 +52,8 @@ pub fn tilebench<R: Threads + Sync, S: Source, K: Sink, E: Sink, G: Gate>(
 
     // At a write fault one sink gained a front of what was to be written to it, and the other is as it was.
     ensures cut_off { result.status ≡ Status.WriteFault
-        → (CutsOff (λ text. (is_yes : Bool)
-        × IsAnswer (map string_bytes words.now) (S.left source.old) (S.left source.new) is_yes text)
+        → (CutsOff (λ text. (yes_or_no : Bool)
+        × IsAnswer (map string_bytes words.now) (S.left source.old) (S.left source.new) yes_or_no text)
         (K.written out.old) (K.written out.new) × (err.new ≡ err.old))
         ⊎ (CutsOff (IsRefusal (map string_bytes words.now) (S.left source.old) (S.left source.new))
         (E.written err.old) (E.written err.new) × (out.new ≡ out.old)) }
@@ -72,8 +73,8 @@ pub fn tilebench<R: Threads + Sync, S: Source, K: Sink, E: Sink, G: Gate>(
         → ¬ Rose (E.faults err.old) (E.faults err.new)
         → IsAnswered result.status ⊎ (result.status ≡ Status.NoMemory) }
 {
-    let status = match answer(alloc, words, source) {
-        Ok(growth) => print_answer(&growth, out),
+    let status = match answer_to(alloc, words, source) {
+        Ok(answer) => print_answer(&answer, out),
         Err(Stop::Words(stop)) => refuse_words(stop, err),
         Err(Stop::Text(fault)) => refuse_text(fault, err),
         Err(Stop::ReadFault) => Status::ReadFault,
@@ -83,13 +84,13 @@ pub fn tilebench<R: Threads + Sync, S: Source, K: Sink, E: Sink, G: Gate>(
 }
 
 // Writes an answer.
-fn print_answer<K: Sink>(growth: &Growth, out: &mut K) -> Status
-    requires { IsPrintable growth.now }
+fn print_answer<K: Sink>(answer: &Answer, out: &mut K) -> Status
+    requires { IsPrintable answer.now }
     ensures { Writes (K.written out.old) (K.written out.new) (K.faults out.old) (K.faults out.new)
-        (answer_status (is_terminal growth.now)) result (growth_text growth.now) }
+        (answer_status (is_yes answer.now)) result (answer_text answer.now) }
 {
-    let told = answer_status(growth.outside.is_none());
-    written(print_growth(growth, out), told)
+    let told = answer_status(answer.is_yes());
+    written(print_text(answer, out), told)
 }
 
 // The status that tells an answer.
@@ -99,9 +100,21 @@ fn answer_status(is_yes: bool) -> Status
     if is_yes { Status::Done } else { Status::No }
 }
 
+// Writes the text of an answer.
+fn print_text<K: Sink>(answer: &Answer, out: &mut K) -> Result<(), Failed>
+    requires { IsPrintable answer.now }
+    ensures { Prints (K.written out.old) (K.written out.new) (K.faults out.old) (K.faults out.new) result
+        (answer_text answer.now) }
+{
+    match answer {
+        Answer::Growth(growth) => print_growth(growth, out),
+        Answer::Spelling(sys) => print_system(sys, out),
+    }
+}
+
 // Writes the text of a growth.
 fn print_growth<K: Sink>(growth: &Growth, out: &mut K) -> Result<(), Failed>
-    requires { IsPrintable growth.now }
+    requires { HasTypes growth.now }
     ensures { Prints (K.written out.old) (K.written out.new) (K.faults out.old) (K.faults out.new) result
         (growth_text growth.now) }
 {

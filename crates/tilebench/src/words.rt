@@ -6,6 +6,7 @@ ghost use Rattle.tilebench.specs.Commands.{command_of, command_alone, words_stop
 #[derive(Clone, Copy, Debug, PartialEq, Eq)]
 pub enum Command {
     Grow,
+    Format,
 }
 
 /// Why words are refused.
@@ -31,8 +32,12 @@ impl WordsStop {
 pub fn command_of(words: &[String]) -> Result<Command, WordsStop>
     ensures { result ≡ command_of (map string_bytes words.now) }
 {
-    match words.split_first() {
-        Some((first, rest)) if first.as_str() == "grow" => alone(Command::Grow, rest),
+    let Some((first, rest)) = words.split_first() else {
+        return Err(WordsStop::NoCommand);
+    };
+    match first.as_str() {
+        "grow" => alone(Command::Grow, rest),
+        "format" => alone(Command::Format, rest),
         _ => Err(WordsStop::NoCommand),
     }
 }

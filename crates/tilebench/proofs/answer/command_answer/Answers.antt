@@ -1,11 +1,11 @@
 use Rattle.std.proofs.Common.{List, ℕ, subst}
-use Rattle.tilebench.specs.Stops.{GrowsInput}
+use Rattle.tilebench.specs.Stops.{AnswersInput}
 use Rattle.tilebench.proofs.Replying.{answers_command}
 use Rattle.tilebench.proofs.answer.command_answer.Goals as goal
 
 pub returns-clause-answer : goal.returns-clause-answer
 returns-clause-answer g c =
     let read = c.in-Ok.ensures.input in
-    let Grows : List ℕ → Type 0 = λ input. GrowsInput input c.grown_input.result in
+    let Answers : List ℕ → Type 0 = λ input. AnswersInput c.args.command input c.input_answer.result in
     answers_command c.args.command (g.S.Source.left c.args.source.now) (g.S.Source.left c.read_input.new.source) (g.S.Source.faults c.args.source.now) (g.S.Source.faults c.read_input.new.source)
-    c.in-Ok.input.items c.grown_input.result read.0 read.1 read.2 (subst Grows c.deref.ensures.value c.grown_input.ensures)
+    c.in-Ok.input.items c.input_answer.result read.0 read.1 read.2 (subst Answers c.deref.ensures.value c.input_answer.ensures)
