@@ -13,3 +13,4 @@ pub mod BuilderLemmas
 pub mod Endings
 pub mod SoFar
 pub mod Valid
+pub mod SystemSpelled
