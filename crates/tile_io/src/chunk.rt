@@ -1,0 +1,124 @@
+// Bytes held back in front of a sink, so that they go out in large pieces.
+ghost use Rattle.std.specs.Prelude.{◌≡◌, ◌≤◌, ◌+◌, [], ◌∷◌, ◌++◌, List, ℕ, length, take, map, flat_map, OnOk};
+ghost use Rattle.tile_io.specs.Chunks.{PassesOn};
+ghost use Rattle.tile_io.specs.Lines.{line_of};
+ghost use Rattle.tile_io.specs.Prints.{Prints};
+
+use crate::{Failed, Sink, write_all};
+use std::marker::Model;
+
+/// How many bytes are held back at most.
+const ROOM: usize = 8192;
+
+/// The bytes that are held back, on the stack. After a failure they may be out already, so it is let go then.
+#[derive(Drop)]
+pub struct Chunk {
+    bytes: [u8; 8192],
+    len: usize,
+}
+
+impl Model for Chunk {
+    ghost Value = { List ℕ };
+
+    ghost view = { λ chunk. take chunk.len chunk.bytes };
+
+    ghost invariant = { λ chunk. chunk.len ≤ 8192 };
+}
+
+impl Chunk {
+    pub fn new() -> Chunk
+        ensures { result ≡ [] }
+    {
+        Chunk {
+            bytes: [0; 8192],
+            len: 0,
+        }
+    }
+
+    /// Adds a piece. What is held goes out first where the piece finds no room behind it.
+    pub fn put<K: Sink>(&mut self, sink: &mut K, piece: &[u8]) -> Result<(), Failed>
+        ensures { PassesOn (K.written sink.old) (K.written sink.new)
+            (K.faults sink.old) (K.faults sink.new) self.old self.new result piece.now }
+    {
+        if piece.len() <= ROOM - self.len {
+            self.hold(piece);
+            return Ok(());
+        }
+        self.flush(sink)?;
+        if piece.len() <= ROOM {
+            self.hold(piece);
+            return Ok(());
+        }
+        write_all(sink, piece)
+    }
+
+    // Adds a piece for which there is room.
+    fn hold(&mut self, piece: &[u8])
+        requires { length self.old + length piece.now ≤ ROOM }
+        ensures { self.new ≡ self.old ++ piece.now }
+    {
+        let end = self.len + piece.len();
+        self.bytes[self.len..end].copy_from_slice(piece);
+        self.len = end;
+    }
+
+    /// Writes what is held.
+    pub fn flush<K: Sink>(&mut self, sink: &mut K) -> Result<(), Failed>
+        ensures bytes { Prints (K.written sink.old) (K.written sink.new)
+            (K.faults sink.old) (K.faults sink.new) result self.old }
+        ensures empty { OnOk result (self.new ≡ []) }
+    {
+        write_all(sink, &self.bytes[..self.len])?;
+        self.len = 0;
+        Ok(())
+    }
+
+    /// Adds a line: words with single spaces between them, and a newline.
+    pub fn put_line<K: Sink>(
+        &mut self,
+        sink: &mut K,
+        first: &[u8],
+        rest: &[&[u8]],
+    ) -> Result<(), Failed>
+        ensures { PassesOn (K.written sink.old) (K.written sink.new)
+            (K.faults sink.old) (K.faults sink.new) self.old self.new result
+            (line_of (first.now ∷ map (λ word. word.now) rest.now)) }
+    {
+        self.put(sink, first)?;
+        self.put_words(sink, rest)?;
+        self.put(sink, b"\n")
+    }
+
+    // Adds each word behind a space.
+    fn put_words<K: Sink>(&mut self, sink: &mut K, words: &[&[u8]]) -> Result<(), Failed>
+        ensures { PassesOn (K.written sink.old) (K.written sink.new)
+            (K.faults sink.old) (K.faults sink.new) self.old self.new result
+            (flat_map (λ word. 32 ∷ word.now) words.now) }
+    {
+        for word in words {
+            self.put_word(sink, word)?;
+        }
+        Ok(())
+    }
+
+    // Adds a word behind a space.
+    fn put_word<K: Sink>(&mut self, sink: &mut K, word: &[u8]) -> Result<(), Failed>
+        ensures { PassesOn (K.written sink.old) (K.written sink.new)
+            (K.faults sink.old) (K.faults sink.new) self.old self.new result (32 ∷ word.now) }
+    {
+        self.put(sink, b" ")?;
+        self.put(sink, word)
+    }
+}
+
+/// Prints a line: words with single spaces between them, and a newline. A line of up to 8192 bytes goes out in one
+/// call of a sink that takes it whole.
+pub fn print_line<K: Sink>(sink: &mut K, first: &[u8], rest: &[&[u8]]) -> Result<(), Failed>
+    ensures { Prints (K.written sink.old) (K.written sink.new)
+        (K.faults sink.old) (K.faults sink.new) result
+        (line_of (first.now ∷ map (λ word. word.now) rest.now)) }
+{
+    let mut chunk = Chunk::new();
+    chunk.put_line(sink, first, rest)?;
+    chunk.flush(sink)
+}
