@@ -25,9 +25,12 @@ box_words area = codes "box" ∷ signed_decimal area.x0 ∷ signed_decimal area.
 abbrev pub seed_words : TileSystem → Place → List (List ℕ)
 seed_words sys p = codes "seed" ∷ signed_decimal p.site.x ∷ signed_decimal p.site.y ∷ type_name sys p.tile ∷ []
 
+abbrev pub head_words : ℕ → List (List (List ℕ))
+head_words tau = (codes "tiles" ∷ codes "1" ∷ []) ∷ (codes "tau" ∷ decimal tau ∷ []) ∷ []
+
 -- the words of each line
 abbrev pub printed_words : TileSystem → List (List (List ℕ))
-printed_words sys = ((codes "tiles" ∷ codes "1" ∷ []) ∷ (codes "tau" ∷ decimal sys.tau ∷ []) ∷ [])
+printed_words sys = head_words sys.tau
     ++ map glue_words sys.glues
     ++ map (tile_words sys) sys.types
     ++ (box_words sys.area ∷ [])
