@@ -66,10 +66,10 @@ no_glues : (types : List TileType) → filter_map glue_of (map TileLine types) �
 no_glues [] = refl
 no_glues (t ∷ types) = no_glues types
 
-glues_first : (tau : ℕ) (glues : List Glue) → filter_map glue_of (head_items tau ++ map GlueLine glues) ≡ glues
+pub glues_first : (tau : ℕ) (glues : List Glue) → filter_map glue_of (head_items tau ++ map GlueLine glues) ≡ glues
 glues_first tau glues = glues_only glues
 
-glues_then : (tau : ℕ) (glues : List Glue) (types : List TileType) → filter_map glue_of (head_items tau ++ map GlueLine glues ++ map TileLine types) ≡ glues
+pub glues_then : (tau : ℕ) (glues : List Glue) (types : List TileType) → filter_map glue_of (head_items tau ++ map GlueLine glues ++ map TileLine types) ≡ glues
 glues_then tau glues types =
     filter_map-append glue_of (head_items tau ++ map GlueLine glues) (map TileLine types) ∙ rw (no_glues types, append-nil) (glues_first tau glues)
 
@@ -100,7 +100,7 @@ no_types (g ∷ glues) = no_types glues
 no_types_first : (tau : ℕ) (glues : List Glue) → filter_map type_of (head_items tau ++ map GlueLine glues) ≡ []
 no_types_first tau glues = no_types glues
 
-types_then : (tau : ℕ) (glues : List Glue) (types : List TileType) → filter_map type_of (head_items tau ++ map GlueLine glues ++ map TileLine types) ≡ types
+pub types_then : (tau : ℕ) (glues : List Glue) (types : List TileType) → filter_map type_of (head_items tau ++ map GlueLine glues ++ map TileLine types) ≡ types
 types_then tau glues types =
     filter_map-append type_of (head_items tau ++ map GlueLine glues) (map TileLine types) ∙ rw (no_types_first tau glues) (types_only types)
 

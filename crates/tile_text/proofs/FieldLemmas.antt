@@ -127,7 +127,7 @@ no_type_areas (t ∷ types) = no_type_areas types
 no_head_areas : (tau : ℕ) (glues : List Glue) → filter_map area_of (head_items tau ++ map GlueLine glues) ≡ []
 no_head_areas tau glues = no_glue_areas glues
 
-no_areas : (tau : ℕ) (glues : List Glue) (types : List TileType) → filter_map area_of (head_items tau ++ map GlueLine glues ++ map TileLine types) ≡ []
+pub no_areas : (tau : ℕ) (glues : List Glue) (types : List TileType) → filter_map area_of (head_items tau ++ map GlueLine glues ++ map TileLine types) ≡ []
 no_areas tau glues types = filter_map-append area_of (head_items tau ++ map GlueLine glues) (map TileLine types) ∙ rw (no_head_areas tau glues) (no_type_areas types)
 
 areas_by : (stage : Stage) (parts : Parts) → stage_takes kinds.Seed stage ≡ true → filter_map area_of (items_by stage parts) ≡ parts.area ∷ []

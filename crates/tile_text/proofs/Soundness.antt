@@ -179,7 +179,7 @@ box_is_box area good =
       height = z_le area.y1 (area.y0 +ℤ pos 1023) three.1;
     }
 
-le_z : (a b : ℤ) → a ≤ℤ b → int_le a b ≡ true
+pub le_z : (a b : ℤ) → a ≤ℤ b → int_le a b ≡ true
 le_z a b h = grind (arith, ints)
 
 -- a box passes its check, and corners that pass it are a box's
@@ -206,7 +206,7 @@ inside_is area m e =
     let one = and_both (int_le area.x0 m.x) (int_le m.x area.x1) two.0 in
     record { left = z_le area.x0 m.x one.0; right = z_le m.x area.x1 one.1; bottom = z_le area.y0 m.y two.1; top = z_le m.y area.y1 three.1 }
 
-inside_passes : (area : BoxArea) (m : Site) → InBox area m → is_in_box area m ≡ true
+pub inside_passes : (area : BoxArea) (m : Site) → InBox area m → is_in_box area m ≡ true
 inside_passes area m inside =
     let left = le_z area.x0 m.x inside.left in
     let right = le_z m.x area.x1 inside.right in

@@ -1,9 +1,10 @@
 // Laws of system texts.
-ghost use Rattle.std.specs.Prelude.{◌≡◌, ◌⊎◌, ℕ, List, []};
+ghost use Rattle.std.specs.Prelude.{◌≡◌, ◌⊎◌, ◌++◌, ℕ, List, [], drop};
 ghost use Rattle.tile_io.specs.declared.mark.Mark.{Mark};
 ghost use Rattle.tile_io.specs.declared.fault.Cause.{Cause};
 ghost use Rattle.tile_io.specs.Formats.{Reads, Fault, IsRead, IsFaulty};
-ghost use Rattle.tile_text.specs.SystemText.{SystemItem, system_format, system_items};
+ghost use Rattle.tile_text.specs.SystemText.{SystemItem, ReadsSystem, system_format, system_items};
+ghost use Rattle.tile_text.specs.Spelling.{spelling, end_of_print};
 ghost use Rattle.atam.specs.TileSystem.{TileSystem, IsValid};
 
 /// Each text from each start either reads, as one list of items and up to one mark, or has one fault.
@@ -21,4 +22,10 @@ pub fn law_one_of_two()
 pub fn law_reads_valid()
     ensures { (text : List ℕ) (from to : Mark) (items : List SystemItem) → Reads system_format text from items to →
         (sys : TileSystem) × (items ≡ system_items sys) × (sys.pairs ≡ []) × IsValid sys }
+{}
+
+/// The printed text of a valid system reads as this system, up to the end of the print, whatever follows.
+pub fn law_reads_printed()
+    ensures { (sys : TileSystem) (text rest : List ℕ) (from : Mark) → IsValid sys →
+        drop from.at text ≡ spelling sys ++ rest → ReadsSystem text from sys (end_of_print sys from) }
 {}

@@ -1,7 +1,7 @@
 use super::*;
 use std::alloc::{AllocError, Global};
 use std::test::Fail;
-use tile_io::{Cause, Mark, TextFault, TextStop};
+use tile_io::{Cause, Mark, MemorySink, TextFault, TextStop};
 use tile_system::{BoxArea, Side, Site, System};
 
 // Three types in a row.
@@ -146,6 +146,24 @@ fn refuses_a_cut_text(rt: HostRuntime) -> Result<(), Fail> {
             refusal(rt.alloc(), CHAIN.get(..length).unwrap_or(CHAIN)),
             Some(stop)
         );
+    }
+    Ok(())
+}
+
+// What is printed has single spaces, plain numbers and no remarks.
+#[test]
+#[tactic(auto, using(tile_io::proofs::Progress::start_is_mark))]
+fn prints_what_was_read(rt: HostRuntime) -> Result<(), Fail> {
+    let alloc = rt.alloc();
+    let untidy =
+        b"# two words\n\ntiles 1\ntau  02\n  glue a 0002 \ntile S - a - -\nbox -3 -0 0005 1\nseed -0 00   S\nend\n";
+    let tidy = b"tiles 1\ntau 2\nglue a 2\ntile S - a - -\nbox -3 0 5 1\nseed 0 0 S\nend\n";
+    for (text, want) in [(&untidy[..], &tidy[..]), (CHAIN, CHAIN)] {
+        assert!(rt; text.len() <= 200);
+        let (system, _) = read_system(alloc, text, Mark::start())?;
+        let mut sink = MemorySink::make(alloc, 200, 7, Vec::new(alloc))?;
+        assert_eq!(rt; print_system(&system, &mut sink), Ok(()));
+        assert_eq!(rt; sink.bytes(), want);
     }
     Ok(())
 }

@@ -1,0 +1,11 @@
+use Rattle.std.proofs.Common.{take, flat_map, Ok}
+use Rattle.tile_io.specs.declared.outside.Failed.{Failed}
+use Rattle.tile_io.specs.Chunks.{PassesOn}
+use Rattle.tile_text.proofs.PrintLemmas.{glue_line}
+use Rattle.tile_text.proofs.print.put_glues.Given as goal
+
+-- the lines so far have been taken
+abbrev pub invariant-loop-index : goal.invariant-loop-index
+invariant-loop-index g l =
+    PassesOn {T = Unit {0}} {E = Failed} (g.K.Sink.written l.initial.sink) (g.K.Sink.written l.sink) (g.K.Sink.faults l.initial.sink) (g.K.Sink.faults l.sink) l.initial.chunk l.chunk (Ok tt)
+    (flat_map glue_line (take l.index l.sys.glues))

@@ -1,0 +1,161 @@
+// A system is printed as its text.
+ghost use Rattle.std.specs.Prelude.{◌<◌, ◌≡◌, length, flat_map};
+ghost use Rattle.std.specs.List.{slice_index_or};
+ghost use Rattle.atam.specs.TileSystem.{Glue, TileType, IsType, side_glue};
+ghost use Rattle.tile_io.specs.Chunks.{PassesOn};
+ghost use Rattle.tile_io.specs.Lines.{line_of};
+ghost use Rattle.tile_io.specs.Prints.{Prints};
+ghost use Rattle.tile_text.specs.Spelling.{spelling, head_words, glue_words, side_word, tile_words, box_words, seed_words};
+
+use atam::{BoxArea, GlueId, Place, Side, TypeId};
+use itoa::Buffer;
+use tile_io::{Chunk, Failed, Sink};
+use tile_system::System;
+
+/// Prints the one text of a system.
+pub fn print_system<K: Sink>(sys: &System, sink: &mut K) -> Result<(), Failed>
+    ensures { Prints (K.written sink.old) (K.written sink.new)
+        (K.faults sink.old) (K.faults sink.new) result (spelling sys.now) }
+{
+    let mut chunk = Chunk::new();
+    put_system(&mut chunk, sink, sys)?;
+    chunk.flush(sink)
+}
+
+fn put_system<K: Sink>(chunk: &mut Chunk, sink: &mut K, sys: &System) -> Result<(), Failed>
+    ensures { PassesOn (K.written sink.old) (K.written sink.new)
+        (K.faults sink.old) (K.faults sink.new) chunk.old chunk.new result (spelling sys.now) }
+{
+    put_head(chunk, sink, sys.tau())?;
+    put_glues(chunk, sink, sys)?;
+    put_types(chunk, sink, sys)?;
+    put_box(chunk, sink, sys.area())?;
+    put_seeds(chunk, sink, sys)?;
+    chunk.put_line(sink, b"end", &[])
+}
+
+// The header and the `tau` line.
+fn put_head<K: Sink>(chunk: &mut Chunk, sink: &mut K, tau: u32) -> Result<(), Failed>
+    ensures { PassesOn (K.written sink.old) (K.written sink.new)
+        (K.faults sink.old) (K.faults sink.new) chunk.old chunk.new result
+        (flat_map line_of (head_words tau)) }
+{
+    let mut buffer = Buffer::new();
+    chunk.put_line(sink, b"tiles", &[b"1"])?;
+    chunk.put_line(sink, b"tau", &[buffer.format(tau).as_bytes()])
+}
+
+fn put_glues<K: Sink>(chunk: &mut Chunk, sink: &mut K, sys: &System) -> Result<(), Failed>
+    ensures { PassesOn (K.written sink.old) (K.written sink.new)
+        (K.faults sink.old) (K.faults sink.new) chunk.old chunk.new result
+        (flat_map (λ glue. line_of (glue_words glue)) sys.now.glues) }
+{
+    for index in 0..sys.glue_count() {
+        put_glue(chunk, sink, sys, GlueId(index))?;
+    }
+    Ok(())
+}
+
+fn put_glue<K: Sink>(
+    chunk: &mut Chunk,
+    sink: &mut K,
+    sys: &System,
+    glue: GlueId,
+) -> Result<(), Failed>
+    requires { glue.0 < length sys.now.glues }
+    ensures { (d : Glue) → PassesOn (K.written sink.old) (K.written sink.new)
+        (K.faults sink.old) (K.faults sink.new) chunk.old chunk.new result
+        (line_of (glue_words (slice_index_or sys.now.glues glue.0 d))) }
+{
+    let mut buffer = Buffer::new();
+    let strength = buffer.format(sys.strength(glue));
+    chunk.put_line(sink, b"glue", &[sys.glue_name(glue), strength.as_bytes()])
+}
+
+fn put_types<K: Sink>(chunk: &mut Chunk, sink: &mut K, sys: &System) -> Result<(), Failed>
+    ensures { PassesOn (K.written sink.old) (K.written sink.new)
+        (K.faults sink.old) (K.faults sink.new) chunk.old chunk.new result
+        (flat_map (λ tile. line_of (tile_words sys.now tile)) sys.now.types) }
+{
+    for index in 0..sys.type_count() {
+        put_type(chunk, sink, sys, TypeId(index))?;
+    }
+    Ok(())
+}
+
+fn put_type<K: Sink>(
+    chunk: &mut Chunk,
+    sink: &mut K,
+    sys: &System,
+    tile: TypeId,
+) -> Result<(), Failed>
+    requires { IsType sys.now tile }
+    ensures { (d : TileType) → PassesOn (K.written sink.old) (K.written sink.new)
+        (K.faults sink.old) (K.faults sink.new) chunk.old chunk.new result
+        (line_of (tile_words sys.now (slice_index_or sys.now.types tile.0 d))) }
+{
+    let north = side_name(sys, tile, Side::North);
+    let east = side_name(sys, tile, Side::East);
+    let south = side_name(sys, tile, Side::South);
+    let west = side_name(sys, tile, Side::West);
+    chunk.put_line(
+        sink,
+        b"tile",
+        &[sys.type_name(tile), north, east, south, west],
+    )
+}
+
+// The name of the glue of a side, or `-`.
+fn side_name<'a>(sys: &'a System, tile: TypeId, side: Side) -> &'a [u8]
+    requires { IsType sys.now tile }
+    ensures { result.now ≡ side_word sys.now (side_glue sys.now tile side) }
+{
+    match sys.side(tile, side) {
+        Some(glue) => sys.glue_name(glue),
+        None => b"-",
+    }
+}
+
+fn put_box<K: Sink>(chunk: &mut Chunk, sink: &mut K, area: BoxArea) -> Result<(), Failed>
+    ensures { PassesOn (K.written sink.old) (K.written sink.new)
+        (K.faults sink.old) (K.faults sink.new) chunk.old chunk.new result
+        (line_of (box_words area)) }
+{
+    let (mut left, mut bottom) = (Buffer::new(), Buffer::new());
+    let (mut right, mut top) = (Buffer::new(), Buffer::new());
+    let corners = [
+        left.format(area.x0).as_bytes(),
+        bottom.format(area.y0).as_bytes(),
+        right.format(area.x1).as_bytes(),
+        top.format(area.y1).as_bytes(),
+    ];
+    chunk.put_line(sink, b"box", &corners)
+}
+
+fn put_seeds<K: Sink>(chunk: &mut Chunk, sink: &mut K, sys: &System) -> Result<(), Failed>
+    ensures { PassesOn (K.written sink.old) (K.written sink.new)
+        (K.faults sink.old) (K.faults sink.new) chunk.old chunk.new result
+        (flat_map (λ seed. line_of (seed_words sys.now seed)) sys.now.seeds) }
+{
+    for seed in sys.seeds() {
+        put_seed(chunk, sink, sys, *seed)?;
+    }
+    Ok(())
+}
+
+fn put_seed<K: Sink>(
+    chunk: &mut Chunk,
+    sink: &mut K,
+    sys: &System,
+    seed: Place,
+) -> Result<(), Failed>
+    requires { IsType sys.now seed.tile }
+    ensures { PassesOn (K.written sink.old) (K.written sink.new)
+        (K.faults sink.old) (K.faults sink.new) chunk.old chunk.new result
+        (line_of (seed_words sys.now seed)) }
+{
+    let (mut column, mut row) = (Buffer::new(), Buffer::new());
+    let column = column.format(seed.site.x).as_bytes();
+    let row = row.format(seed.site.y).as_bytes();
+    chunk.put_line(sink, b"seed", &[column, row, sys.type_name(seed.tile)])
+}
