@@ -45,11 +45,7 @@ impl Answer {
 }
 
 /// The answer that the words and the source call for.
-pub fn answer_to<S: Source>(
-    alloc: Global,
-    words: &[String],
-    source: &mut S,
-) -> Result<Answer, Stop>
+pub fn answer_to<S: Source>(alloc: Global, words: &[String], source: &mut S) -> Result<Answer, Stop>
     ensures answer { AnswersWords (map string_bytes words.now) (S.left source.old) (S.left source.new)
         (S.faults source.old) (S.faults source.new) result }
     ensures unread { IsErr (command_of (map string_bytes words.now)) → source.new ≡ source.old }

@@ -244,7 +244,12 @@ fn refuses_each_front_of_a_text(rt: HostRuntime) -> Result<(), Fail> {
 fn refuses_too_many_items(rt: HostRuntime) -> Result<(), Fail> {
     for (item, rest, count, err) in [
         ("glue", "1", 8193, "refused text line 8195 TooMany\n"),
-        ("tile", "- - - -", 16385, "refused text line 16387 TooMany\n"),
+        (
+            "tile",
+            "- - - -",
+            16385,
+            "refused text line 16387 TooMany\n",
+        ),
     ] {
         let alloc = rt.alloc();
         let mut text = String::from_str(alloc, "tiles 1\ntau 1\n")?;
