@@ -186,7 +186,7 @@ impl Draft {
         ensures { TakesItem ((row_of kind).fields self.old (words_of line.now)) self.old self.new result }
     {
         match kind {
-            LineKind::Tiles => Err(LineStop::Fault(Cause::BadLine)),
+            LineKind::Tiles => unreachable!(),
             LineKind::Tau => self.take_tau(line),
             LineKind::Glue => self.take_glue(line),
             LineKind::Tile => self.take_tile(line),
