@@ -11,6 +11,7 @@ pub mod Sound
 pub mod Soundness
 pub mod BuilderLemmas
 pub mod Endings
+pub mod OneSystem
 pub mod PrintLemmas
 pub mod SoFar
 pub mod Valid

@@ -1,8 +1,8 @@
 -- A printed system reads as itself, whatever follows.
-use Rattle.std.proofs.Common.{◌≡◌, ◌≢◌, ℕ, suc, ◌+◌, ◌^◌, ◌≤◌, ◌<◌, Bool, true, false, cond, List, [], ◌∷◌, ◌++◌, length, map, get_or, slice_get, codes, decimal, pos, Option, Some, None, Ok, All, refl, sym, ap, subst, ◌∙◌, arith, append_assoc, append-nil, length-append, inl, inr}
-use Rattle.std.specs.Prelude.{ℤ, negsuc, nat_abs, int_le, bytes_eq, filter_map, position, flat_map, drop, AllPairs, IfSome, nat_lt, nat_le, ◌==◌, ◌&&◌, ◌||◌, ◌≤ℤ◌, ◌+ℤ◌, IsTrue}
+use Rattle.std.proofs.Common.{◌≡◌, ◌≢◌, ℕ, ◌+◌, ◌^◌, ◌≤◌, ◌<◌, Bool, true, false, List, [], ◌∷◌, ◌++◌, length, map, get_or, slice_get, codes, decimal, pos, Option, Some, None, Ok, All, refl, sym, ap, subst, ◌∙◌, arith, append_assoc, append-nil, length-append}
+use Rattle.std.specs.Prelude.{ℤ, negsuc, nat_abs, int_le, bytes_eq, filter_map, position, flat_map, drop, AllPairs, IfSome, nat_le, ◌==◌, ◌&&◌, ◌||◌, ◌≤ℤ◌}
 use Rattle.std.specs.Fmt.{signed_decimal}
-use Rattle.std.specs.List.{list_any, list_all, join_with_byte, position_or_len}
+use Rattle.std.specs.List.{list_any, list_all, position_or_len}
 use Rattle.std.specs.Option.{option_map_or}
 use Rattle.std.proofs.Math.Seq.{get_or-append_seam}
 use Rattle.std.proofs.lemmas.Bool.{leb-true, lt-ltb}
@@ -27,7 +27,7 @@ use Rattle.atam.specs.declared.site.Side.{Side}
 use Rattle.atam.specs.declared.site.Side.TheVariants.{North, East, South, West}
 use Rattle.atam.specs.Sites.{InBox, IsBox}
 use Rattle.atam.specs.TileSystem.{TileSystem, Glue, TileType, IsName, IsValid, IsType, side_of, glue_name, type_name, is_name, is_name_byte}
-use Rattle.tile_text.specs.SystemText.{SystemItem, ReadsSystem, system_format, system_items, system_check, glue_names, type_names, glue_of, type_of, area_of, side, coordinate, is_in_boxes, is_in_box, follows_tau_or_glue, follows_tau_glue_or_tile, follows_tile, follows_box, follows_seed}
+use Rattle.tile_text.specs.SystemText.{SystemItem, ReadsSystem, system_format, system_items, system_check, glue_names, type_names, type_of, area_of, side, coordinate, is_in_boxes, follows_tau_or_glue, follows_tau_glue_or_tile, follows_tile, follows_box, follows_seed}
 use Rattle.tile_text.specs.SystemText.SystemItem.{Header, TauLine, GlueLine, TileLine, BoxLine, SeedLine, EndLine}
 use Rattle.tile_text.specs.Spelling.{glue_words, side_word, tile_words, box_words, seed_words, printed_words, spelling, end_of_print}
 use Rattle.tile_text.specs.Drafts.{head_items}

@@ -21,7 +21,8 @@ use std::marker::Model;
 use tile_io::{Cause, LineStop, TakeLines};
 use tile_system::{BuildStop, System, SystemBuilder, is_name};
 
-/// What was read so far: the kind of the last kept line, and from the `tau` line on a system in the making.
+/// What was read so far: the kind of the last kept line, and from the `tau` line on a system
+/// in the making.
 #[derive(Drop)]
 pub(crate) struct Draft {
     alloc: Global,
@@ -164,7 +165,8 @@ impl Draft {
     // Takes a line of this keyword.
     fn take_kind(&mut self, kind: LineKind, line: &[u8]) -> Result<bool, LineStop>
         requires { length line.now ≤ 256 }
-        ensures { TakesItem (check_keyword (Some (row_of kind)) self.old (words_of line.now)) self.old self.new result }
+        ensures { TakesItem (check_keyword (Some (row_of kind)) self.old (words_of line.now))
+            self.old self.new result }
     {
         if word_count(line) != kind.words() {
             return Err(LineStop::Fault(Cause::BadLine));
@@ -183,10 +185,11 @@ impl Draft {
         requires words { length (words_of line.now) ≡ words_in kind }
         requires follows { (row_of kind).may_follow (last_of self.old) ≡ true }
         requires room { (row_of kind).has_room self.old (words_of line.now) ≡ true }
-        ensures { TakesItem ((row_of kind).fields self.old (words_of line.now)) self.old self.new result }
+        ensures { TakesItem ((row_of kind).fields self.old (words_of line.now))
+            self.old self.new result }
     {
         match kind {
-            LineKind::Tiles => Err(LineStop::Fault(Cause::BadLine)),
+            LineKind::Tiles => unreachable!(),
             LineKind::Tau => self.take_tau(line),
             LineKind::Glue => self.take_glue(line),
             LineKind::Tile => self.take_tile(line),
@@ -330,7 +333,8 @@ impl Draft {
     fn read_glue(&self, line: &[u8]) -> Result<u32, Cause>
         requires { length (words_of line.now) ≡ 3 }
         ensures { (name : List ℕ) → slice_get (words_of line.now) 1 ≡ Some name →
-            Gives (λ n. GlueLine (record { name = name; strength = n })) result (glue_fields self.now (words_of line.now)) }
+            Gives (λ n. GlueLine (record { name = name; strength = n })) result
+            (glue_fields self.now (words_of line.now)) }
     {
         let name = word_at(line, 1);
         if !is_name(name) {

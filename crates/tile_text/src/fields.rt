@@ -67,7 +67,8 @@ pub(crate) fn read_corners(
 // The strength of a `glue` line whose name is a new one.
 pub(crate) fn read_strength(line: &[u8]) -> Result<u32, Cause>
     requires { length (words_of line.now) ≡ 3 }
-    ensures { (word : List ℕ) → slice_get (words_of line.now) 2 ≡ Some word → Gives (λ n. n) result (count_in 0 250 word) }
+    ensures { (word : List ℕ) → slice_get (words_of line.now) 2 ≡ Some word →
+        Gives (λ n. n) result (count_in 0 250 word) }
 {
     read_count(word_at(line, 2), 0, 250)
 }

@@ -7,20 +7,26 @@ ghost use Rattle.tile_text.specs.SystemText.{SystemItem, ReadsSystem, system_for
 ghost use Rattle.tile_text.specs.Spelling.{spelling, end_of_print};
 ghost use Rattle.atam.specs.TileSystem.{TileSystem, IsValid};
 
-/// Each text from each start either reads, as one list of items and up to one mark, or has one fault.
+/// Each text, from each start, either reads as one list of items, of one system, up to one mark,
+/// or has one fault.
 pub fn law_one_of_two()
-    ensures one { (text : List ℕ) (from : Mark) → IsRead system_format text from ⊎ IsFaulty system_format text from }
-    ensures not_both { (text : List ℕ) (from to : Mark) (items : List SystemItem) (number : ℕ) (cause : Cause) →
+    ensures one { (text : List ℕ) (from : Mark) →
+        IsRead system_format text from ⊎ IsFaulty system_format text from }
+    ensures not_both { (text : List ℕ) (from to : Mark) (items : List SystemItem)
+        (number : ℕ) (cause : Cause) →
         Reads system_format text from items to → Fault system_format text from number cause → ⊥ }
     ensures one_value { (text : List ℕ) (from : Mark) (a b : List SystemItem) (s t : Mark) →
         Reads system_format text from a s → Reads system_format text from b t → (a ≡ b) × (s ≡ t) }
+    ensures one_system { (text : List ℕ) (from s t : Mark) (sys other : TileSystem) →
+        ReadsSystem text from sys s → ReadsSystem text from other t → (sys ≡ other) × (s ≡ t) }
     ensures one_fault { (text : List ℕ) (from : Mark) (m n : ℕ) (a b : Cause) →
         Fault system_format text from m a → Fault system_format text from n b → (m ≡ n) × (a ≡ b) }
 {}
 
 /// A text that reads is that of a valid system.
 pub fn law_reads_valid()
-    ensures { (text : List ℕ) (from to : Mark) (items : List SystemItem) → Reads system_format text from items to →
+    ensures { (text : List ℕ) (from to : Mark) (items : List SystemItem) →
+        Reads system_format text from items to →
         (sys : TileSystem) × (items ≡ system_items sys) × (sys.pairs ≡ []) × IsValid sys }
 {}
 

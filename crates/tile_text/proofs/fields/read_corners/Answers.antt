@@ -1,4 +1,4 @@
-use Rattle.std.proofs.Common.{◌≡◌, sym, rules, ◌∙◌}
+use Rattle.std.proofs.Common.{rules}
 use Rattle.tile_text.proofs.FieldLemmas.{corners_x0, corners_y0, corners_x1, corners_y1, corners_all}
 use Rattle.tile_text.proofs.fields.read_corners.Goals as goal
 
