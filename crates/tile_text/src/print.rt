@@ -1,21 +1,28 @@
 // A system is printed as its text.
-ghost use Rattle.std.specs.Prelude.{◌<◌, ◌≡◌, length, flat_map};
+ghost use Rattle.std.specs.Prelude.{◌<◌, ◌≡◌, ◌++◌, ℕ, List, drop, length, flat_map};
 ghost use Rattle.std.specs.List.{slice_index_or};
-ghost use Rattle.atam.specs.TileSystem.{Glue, TileType, IsType, side_glue};
+ghost use Rattle.atam.specs.TileSystem.{Glue, TileType, IsType, IsValid, side_glue};
+ghost use Rattle.tile_io.specs.declared.mark.Mark.{Mark};
 ghost use Rattle.tile_io.specs.Chunks.{PassesOn};
 ghost use Rattle.tile_io.specs.Lines.{line_of};
 ghost use Rattle.tile_io.specs.Prints.{Prints};
-ghost use Rattle.tile_text.specs.Spelling.{spelling, head_words, glue_words, side_word, tile_words, box_words, seed_words};
+ghost use Rattle.tile_text.specs.Spelling.{spelling, end_of_print, head_words, glue_words, side_word, tile_words, box_words, seed_words};
+ghost use Rattle.tile_text.specs.SystemText.{ReadsSystem};
 
 use atam::{BoxArea, GlueId, Place, Side, TypeId};
 use itoa::Buffer;
 use tile_io::{Chunk, Failed, Sink};
 use tile_system::System;
 
-/// Prints the one text of a system.
+/// Prints the one text of a system. It takes no memory.
 pub fn print_system<K: Sink>(sys: &System, sink: &mut K) -> Result<(), Failed>
-    ensures { Prints (K.written sink.old) (K.written sink.new)
+    ensures printed { Prints (K.written sink.old) (K.written sink.new)
         (K.faults sink.old) (K.faults sink.new) result (spelling sys.now) }
+
+    // What is printed reads as this system again, up to its end, whatever follows.
+    ensures reads_back { (text rest : List ℕ) (from : Mark) →
+        drop from.at text ≡ spelling sys.now ++ rest
+        → ReadsSystem text from sys.now (end_of_print sys.now from) }
 {
     let mut chunk = Chunk::new();
     put_system(&mut chunk, sink, sys)?;
@@ -23,7 +30,8 @@ pub fn print_system<K: Sink>(sys: &System, sink: &mut K) -> Result<(), Failed>
 }
 
 fn put_system<K: Sink>(chunk: &mut Chunk, sink: &mut K, sys: &System) -> Result<(), Failed>
-    ensures { PassesOn (K.written sink.old) (K.written sink.new)
+    ensures valid { IsValid sys.now }
+    ensures passed { PassesOn (K.written sink.old) (K.written sink.new)
         (K.faults sink.old) (K.faults sink.new) chunk.old chunk.new result (spelling sys.now) }
 {
     put_head(chunk, sink, sys.tau())?;
