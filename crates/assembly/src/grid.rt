@@ -1,10 +1,11 @@
 // An assembly in a box, as a flat array of words.
-ghost use Rattle.std.specs.Prelude.{ℕ, ◌≡◌, ◌≢◌, ◌<◌, ◌+◌, ◌^◌, ◌==◌, if◌then◌else◌, slice_index, count_by, [], ◌∷◌, ◌++◌, length, Some, None, All, IfOk};
+ghost use Rattle.std.specs.Prelude.{ℕ, ◌≡◌, ◌≢◌, ◌<◌, ◌+◌, ◌^◌, slice_index, count_by, [], ◌∷◌, ◌++◌, length, Some, None, All, IfOk};
 ghost use Rattle.atam.specs.declared.site.Site.{Site};
 ghost use Rattle.atam.specs.declared.place.TypeId.{TypeId};
 ghost use Rattle.atam.specs.Sites.{InBox, IsBox};
 ghost use Rattle.atam.specs.Placements.{tile_at, HasDistinctSites, SamePlacements};
 ghost use Rattle.assembly.specs.Grids.{is_tile};
+ghost use Rattle.assembly.specs.Filling.{filled_word};
 
 use crate::site_index;
 use std::alloc::Global;
@@ -130,8 +131,7 @@ fn fill_gaps(words: &mut [u16], other: &[u16]) -> u32
     requires equal { length words.old ≡ length other.now }
     requires short { length words.old < 2 ^ 32 }
     ensures filled { (k : ℕ) → k < length words.old →
-        slice_index words.new k ≡ (if slice_index words.old k == 0
-        then slice_index other.now k else slice_index words.old k) }
+        slice_index words.new k ≡ filled_word words.old other.now k }
     ensures count { count_by is_tile words.new ≡ count_by is_tile words.old + result }
 {
     let mut filled = 0;
