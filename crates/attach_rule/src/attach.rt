@@ -6,7 +6,7 @@ ghost use Rattle.atam.specs.Assembly.{Attaches, Fits};
 ghost use Rattle.atam.specs.Assembly as model;
 ghost use Rattle.attach_rule.specs.Searches.{IsFirstType};
 
-use crate::facing::{facing, hold};
+use crate::facing::{glues_facing, hold};
 use tile_system::{GlueId, Placed, Side, Site, System, TypeId};
 
 // The strength with which two sides interact.
@@ -78,7 +78,7 @@ pub fn first_type<P: Placed>(sys: &System, placed: &P, site: Site) -> Option<Typ
     if placed.at(site).is_some() {
         return None;
     }
-    let glues = facing(sys, placed, site);
+    let glues = glues_facing(sys, placed, site);
     for index in 0..sys.type_count() {
         if hold(sys, &glues, TypeId(index)) >= sys.tau() {
             return Some(TypeId(index));

@@ -10,7 +10,7 @@ use tile_system::{GlueId, Placed, Side, Site, System, TypeId};
 
 // The glue on the near side of the tile in each direction.
 #[derive(Clone, Copy)]
-pub(crate) struct Facing {
+pub(crate) struct FacingGlues {
     pub(crate) north: Option<GlueId>,
     pub(crate) east: Option<GlueId>,
     pub(crate) south: Option<GlueId>,
@@ -18,12 +18,12 @@ pub(crate) struct Facing {
 }
 
 // The glues that face the site.
-pub(crate) fn facing<P: Placed>(sys: &System, placed: &P, site: Site) -> Facing
+pub(crate) fn glues_facing<P: Placed>(sys: &System, placed: &P, site: Site) -> FacingGlues
     requires near { IsNearSite site }
     requires fits { Fits sys.now (P.placements placed.now) }
     ensures { FacesSite sys.now (P.placements placed.now) site result }
 {
-    Facing {
+    FacingGlues {
         north: glue_at(sys, placed, site.step(Side::North), Side::South),
         east: glue_at(sys, placed, site.step(Side::East), Side::West),
         south: glue_at(sys, placed, site.step(Side::South), Side::North),
@@ -32,7 +32,7 @@ pub(crate) fn facing<P: Placed>(sys: &System, placed: &P, site: Site) -> Facing
 }
 
 // The strength with which these glues hold a tile of this type.
-pub(crate) fn hold(sys: &System, glues: &Facing, tile: TypeId) -> u32
+pub(crate) fn hold(sys: &System, glues: &FacingGlues, tile: TypeId) -> u32
     requires { IsType sys.now tile }
     ensures value { result ≡ strength_of_hold sys.now glues.now tile }
     ensures bound { result ≤ 1000 }

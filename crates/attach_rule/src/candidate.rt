@@ -4,7 +4,7 @@ ghost use Rattle.atam.specs.Sites.{IsNearSite};
 ghost use Rattle.atam.specs.Assembly.{Fits};
 ghost use Rattle.attach_rule.specs.Candidates.{AreCandidates};
 
-use crate::facing::{facing, hold};
+use crate::facing::{glues_facing, hold};
 use crate::TypeList;
 use tile_system::{Placed, Site, System, TypeId};
 
@@ -20,7 +20,7 @@ pub fn candidates<P: Placed>(sys: &System, placed: &P, site: Site, into: &mut Ty
     if placed.at(site).is_some() {
         return;
     }
-    let glues = facing(sys, placed, site);
+    let glues = glues_facing(sys, placed, site);
     for index in 0..sys.type_count() {
         if hold(sys, &glues, TypeId(index)) >= sys.tau() {
             into.push(TypeId(index));
