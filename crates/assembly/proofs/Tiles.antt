@@ -1,10 +1,10 @@
 -- What stands at each site of two assemblies, and their placements.
-use Rattle.std.proofs.Common.{◌≡◌, ◌≢◌, ◌⊎◌, ◌++◌, List, [], ◌∷◌, Option, Some, None, Contains, refl, sym, ◌∙◌, ap, subst, inl, inr}
+use Rattle.std.proofs.Common.{◌≡◌, ◌≢◌, ◌++◌, List, [], ◌∷◌, Some, None, Contains, refl, sym, ◌∙◌, ap, subst, inl, inr}
 use Rattle.std.proofs.lemmas.List.Elements.{Contains-append_cases}
 use Rattle.atam.specs.declared.site.Site.{Site}
 use Rattle.atam.specs.declared.place.TypeId.{TypeId}
 use Rattle.atam.specs.declared.place.Place.{Place}
-use Rattle.atam.specs.Placements.{HasDistinctSites, IsPartOf, SamePlacements, tile_at}
+use Rattle.atam.specs.Placements.{HasDistinctSites, SamePlacements, tile_at}
 use Rattle.atam.proofs.Boxes.{same_site_tells}
 use Rattle.atam.proofs.Lists.{some_or_none}
 use Rattle.atam.proofs.Placements.{Contains-tile_at, tile_at-Contains, tile_at-here, tile_at-past, tile_at-append, tile_at-append_past, IsPartOf-Extends, HasDistinctSites-push}
