@@ -31,7 +31,8 @@ fn put_free(grid: &mut Grid, place: Place) {
 // The number of a site, if it is in the box.
 fn number(site: Site) -> Option<usize> {
     if AREA.holds(site) {
-        Some(site_index(&AREA, site))
+        let index = site_index(&AREA, site);
+        (site_of_index(&AREA, index) == site).then_some(index)
     } else {
         None
     }
