@@ -4,3 +4,4 @@ pub mod GrowthText
 pub mod Replies
 pub mod Statuses
 pub mod Stops
+pub mod GridGrowing
