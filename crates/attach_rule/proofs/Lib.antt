@@ -1,2 +1,4 @@
 pub mod Searched
 pub mod Ring
+pub mod Held
+pub mod Listed

@@ -6,10 +6,11 @@ ghost use Rattle.atam.specs.Assembly.{Attaches, Fits};
 ghost use Rattle.atam.specs.Assembly as model;
 ghost use Rattle.attach_rule.specs.Searches.{IsFirstType};
 
+use crate::facing::{glues_facing, hold};
 use tile_system::{GlueId, Placed, Side, Site, System, TypeId};
 
 // The strength with which two sides interact.
-fn interaction(sys: &System, own: Option<GlueId>, other: Option<GlueId>) -> u32
+pub(crate) fn interaction(sys: &System, own: Option<GlueId>, other: Option<GlueId>) -> u32
     requires { IfSome own (λ g. g.0 < length sys.now.glues) }
     ensures value { result ≡ model.interaction sys.now own other }
     ensures bound { result ≤ 250 }
@@ -21,7 +22,7 @@ fn interaction(sys: &System, own: Option<GlueId>, other: Option<GlueId>) -> u32
 }
 
 // The glue on a side of the tile at a site.
-fn glue_at<P: Placed>(sys: &System, placed: &P, site: Site, side: Side) -> Option<GlueId>
+pub(crate) fn glue_at<P: Placed>(sys: &System, placed: &P, site: Site, side: Side) -> Option<GlueId>
     requires { Fits sys.now (P.placements placed.now) }
     ensures { result ≡ model.glue_at sys.now (P.placements placed.now) site side }
 {
@@ -74,8 +75,12 @@ pub fn first_type<P: Placed>(sys: &System, placed: &P, site: Site) -> Option<Typ
     requires fits { Fits sys.now (P.placements placed.now) }
     ensures { IsFirstType sys.now (P.placements placed.now) site result }
 {
+    if placed.at(site).is_some() {
+        return None;
+    }
+    let glues = glues_facing(sys, placed, site);
     for index in 0..sys.type_count() {
-        if can_attach(sys, placed, site, TypeId(index)) {
+        if hold(sys, &glues, TypeId(index)) >= sys.tau() {
             return Some(TypeId(index));
         }
     }

@@ -5,4 +5,4 @@ use Rattle.attach_rule.proofs.attach.first_type.Given as goal
 
 -- no type so far attaches
 abbrev pub invariant-loop-index : goal.invariant-loop-index
-invariant-loop-index g l = (t : TypeId) → t.0 < l.index → ¬ CanGrow l.sys (g.P.Placed.placements l.placed) l.site t
+invariant-loop-index g l = (t : TypeId) → t.0 < l.index → ¬ CanGrow l.sys (g.P.Placed.placements l.placed) l.fn.site t

@@ -1,0 +1,71 @@
+-- A box's sites and their numbers.
+use Rattle.std.proofs.Common.{◌≡◌, ◌<◌, ◌≤◌, ℕ, ◌+◌, ◌*◌, ◌/◌, ◌%◌, ◌∙◌, sym, ap, arith, ℤ, pos, ◌+ℤ◌, ◌-ℤ◌, ◌≤ℤ◌, nat_abs}
+use Rattle.std.proofs.lemmas.Int.{ints}
+use Rattle.std.proofs.lemmas.Nat.{mul-add-lt, mod-mul-add, div-mul-add, div-add-mod', mul-le}
+use Rattle.std.proofs.Math.Nat.{div-lt_iff_lt-mul, mul_comm}
+use Rattle.atam.specs.declared.site.Site.{Site}
+use Rattle.atam.specs.declared.area.BoxArea.{BoxArea}
+use Rattle.atam.specs.Sites.{InBox, IsBox, IsNearSite, width_of, height_of, site_in}
+use Rattle.atam.proofs.Boxes.{same_coordinates}
+use Rattle.assembly.specs.Cells.{cell_count, site_at}
+
+site_at-cell : (area : BoxArea) (row column : ℕ) → column < width_of area → site_at area (row * width_of area + column) ≡ site_in area column row
+site_at-cell area row column inside = λ k. site_in area (mod-mul-add row (width_of area) column inside k) (div-mul-add row (width_of area) column inside k)
+
+-- a site by its row and column
+pub at_cell : (area : BoxArea) (m : Site) (row column w : ℕ) → InBox area m → w ≡ width_of area → m.y ≡ (area.y0 +ℤ pos row) → m.x ≡ (area.x0 +ℤ pos column) → (site_at area (row * w + column) ≡ m) × (row * w + column < cell_count area)
+at_cell area m row column w inside width is_y is_x =
+    let a = inside.left in
+    let b = inside.right in
+    let c = inside.bottom in
+    let d = inside.top in
+    let narrow : column < width_of area = omega (arith, ints) in
+    let low : row < height_of area = omega (arith, ints) in
+    rw width (
+      site_at-cell area row column narrow ∙ sym (same_coordinates m (site_in area column row) is_y is_x),
+      mul-add-lt row (width_of area) column (height_of area) low narrow,
+    )
+
+-- the number of a site of the box
+pub index_of : (area : BoxArea) (m : Site) → InBox area m → (i : ℕ) × (i < cell_count area) × (site_at area i ≡ m)
+index_of area m inside =
+    let row = nat_abs (m.y -ℤ area.y0) in
+    let column = nat_abs (m.x -ℤ area.x0) in
+    let is_y : m.y ≡ (area.y0 +ℤ pos row) = omega (arith, ints, inside.bottom) in
+    let is_x : m.x ≡ (area.x0 +ℤ pos column) = omega (arith, ints, inside.left) in
+    let both = at_cell area m row column (width_of area) inside (λ k. width_of area) is_y is_x in
+    (row * width_of area + column, both.1, both.0)
+
+same_row : (low : ℤ) (a b : ℕ) → (low +ℤ pos a) ≡ (low +ℤ pos b) → a ≡ b
+same_row low a b same = omega (arith, ints, same)
+
+-- two numbers of one site are one
+pub site_at-injective : (area : BoxArea) (i j : ℕ) → site_at area i ≡ site_at area j → i ≡ j
+site_at-injective area i j same =
+    let w = width_of area in
+    let columns : i % w ≡ j % w = same_row area.x0 (i % w) (j % w) (ap (λ m. m.x) same) in
+    let rows : i / w ≡ j / w = same_row area.y0 (i / w) (j / w) (ap (λ m. m.y) same) in
+    sym (div-add-mod' i w) ∙ ap (λ k. k * w + i % w) rows ∙ ap (λ k. j / w * w + k) columns ∙ div-add-mod' j w
+
+-- the sites with numbers below the count lie in the box
+pub site_at-inside : (area : BoxArea) (i : ℕ) → IsBox area → i < cell_count area → InBox area (site_at area i)
+site_at-inside area i limits below =
+    let corners = limits.corners in
+    let w = width_of area in
+    let wide : 0 < w = omega (arith, ints, corners.columns) in
+    let column : i % w < w = omega (arith, wide) in
+    let row : i / w < height_of area = (div-lt_iff_lt-mul {k = w} {x = i} {y = height_of area} wide).1 (rw (mul_comm (height_of area) w) below) in
+    record {
+      left = omega (arith, ints);
+      right = omega (arith, ints, column, corners.columns);
+      bottom = omega (arith, ints);
+      top = omega (arith, ints, row, corners.rows);
+    }
+
+-- there are at most 2^20 of them
+pub cell_count-most : (area : BoxArea) → IsBox area → cell_count area ≤ 1048576
+cell_count-most area limits =
+    let corners = limits.corners in
+    mul-le (width_of area) (height_of area) 1024 1024
+    (omega (arith, ints, corners.columns, limits.width))
+    (omega (arith, ints, corners.rows, limits.height))

@@ -1,0 +1,5 @@
+pub mod Cells
+pub mod Tiles
+pub mod Words
+pub mod Grids
+pub mod Filling

@@ -1,0 +1,7 @@
+use Rattle.std.proofs.Common.{◌≡◌, ◌<◌, ◌≤◌, ◌+◌, ◌==◌, ℕ, if◌then◌else◌, slice_index, length, count_by}
+use Rattle.assembly.specs.Grids.{is_tile}
+use Rattle.assembly.specs.Filling.{IsFilledTo}
+use Rattle.assembly.proofs.grid.fill_gaps.Given as goal
+
+abbrev pub invariant-loop-index : goal.invariant-loop-index
+invariant-loop-index l = IsFilledTo l.index l.initial.words l.other l.words l.filled

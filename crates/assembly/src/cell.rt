@@ -1,0 +1,18 @@
+// The number of a site in its box.
+ghost use Rattle.std.specs.Prelude.{◌≡◌, ◌<◌};
+ghost use Rattle.atam.specs.Sites.{InBox, IsBox};
+ghost use Rattle.assembly.specs.Cells.{cell_count, site_at};
+
+use atam::{BoxArea, Site};
+
+/// The number of a site of the box, by rows from the least corner, in a table of the box's sites.
+pub fn site_index(area: &BoxArea, site: Site) -> usize
+    requires limits { IsBox area.now }
+    requires inside { InBox area.now site }
+    ensures site { site_at area.now result ≡ site }
+    ensures within { result < cell_count area.now }
+{
+    let column = (site.x - area.x0) as usize;
+    let row = (site.y - area.y0) as usize;
+    row * area.width() as usize + column
+}

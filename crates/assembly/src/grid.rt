@@ -1,0 +1,145 @@
+// An assembly in a box, as a flat array of words.
+ghost use Rattle.std.specs.Prelude.{ℕ, ◌≡◌, ◌≢◌, ◌<◌, ◌+◌, ◌^◌, slice_index, count_by, [], ◌∷◌, ◌++◌, length, Some, None, All, IfOk};
+ghost use Rattle.atam.specs.declared.site.Site.{Site};
+ghost use Rattle.atam.specs.declared.place.TypeId.{TypeId};
+ghost use Rattle.atam.specs.Sites.{InBox, IsBox};
+ghost use Rattle.atam.specs.Placements.{tile_at, HasDistinctSites, SamePlacements};
+ghost use Rattle.assembly.specs.Grids.{is_tile};
+ghost use Rattle.assembly.specs.Filling.{filled_word};
+
+use crate::site_index;
+use std::alloc::Global;
+use std::marker::Model;
+use tile_system::{BoxArea, NoMemory, Place, Placed, Site, TypeId};
+
+/// Tiles in a box. All calls but `copy` take no memory, and look at one site, but for `merge` and `clear`.
+#[derive(Drop)]
+pub struct Grid {
+    area: BoxArea,
+    words: Vec<u16>,
+    count: u32,
+}
+
+impl Model for Grid {
+    ghost use Rattle.assembly.specs.Cells.{site_at};
+    ghost use Rattle.assembly.specs.Grids.{TileGrid, IsGrid, places_of};
+
+    ghost Value = { TileGrid };
+
+    ghost view = { λ g. record { area = g.area; tiles = places_of (site_at g.area) 0 g.words.items } };
+
+    ghost invariant = { λ g. IsGrid g.area g.words.items g.count };
+}
+
+impl Grid {
+    /// An empty grid over the box, of two bytes a site.
+    pub fn make(alloc: Global, area: BoxArea) -> Result<Grid, NoMemory>
+        requires { IsBox area }
+        ensures area { IfOk result (λ grid. grid.area ≡ area) }
+        ensures empty { IfOk result (λ grid. grid.tiles ≡ []) }
+    {
+        let cells = area.width() as usize * area.height() as usize;
+        Ok(Grid {
+            area,
+            words: Vec::from_elem(alloc, 0, cells)?,
+            count: 0,
+        })
+    }
+
+    pub fn area(&self) -> BoxArea
+        ensures area { result ≡ self.now.area }
+        ensures box_limits { IsBox result }
+        ensures inside { All (λ p. InBox result p.site) self.now.tiles }
+        ensures distinct { HasDistinctSites self.now.tiles }
+    {
+        self.area
+    }
+
+    /// The number of tiles.
+    pub fn count(&self) -> u32
+        ensures { result ≡ length self.now.tiles }
+    {
+        self.count
+    }
+
+    pub fn put(&mut self, place: Place)
+        requires inside { InBox self.old.area place.site }
+        requires empty { tile_at self.old.tiles place.site ≡ None }
+        requires small { place.tile.0 < 16384 }
+        ensures area { self.new.area ≡ self.old.area }
+        ensures here { tile_at self.new.tiles place.site ≡ Some place.tile }
+        ensures others { (m : Site) → m ≢ place.site →
+            tile_at self.new.tiles m ≡ tile_at self.old.tiles m }
+        ensures placements { SamePlacements (self.old.tiles ++ place ∷ []) self.new.tiles }
+        ensures count { length self.new.tiles ≡ length self.old.tiles + 1 }
+    {
+        let index = site_index(&self.area, place.site);
+        self.words[index] = place.tile.0 as u16 + 1;
+        self.count += 1;
+    }
+
+    /// The same grid once more.
+    pub fn copy(&self) -> Result<Grid, NoMemory>
+        ensures { IfOk result (λ grid. grid ≡ self.now) }
+    {
+        Ok(Grid {
+            area: self.area,
+            words: Vec::from_slice(*self.words.allocator(), self.words.as_slice())?,
+            count: self.count,
+        })
+    }
+
+    /// Adds the tiles of a grid over the same box that has no other tile at any site.
+    pub fn merge(&mut self, other: &Grid)
+        requires area { other.now.area ≡ self.old.area }
+        requires agree { (m : Site) (t u : TypeId) → tile_at self.old.tiles m ≡ Some t →
+            tile_at other.now.tiles m ≡ Some u → t ≡ u }
+        ensures area { self.new.area ≡ self.old.area }
+        ensures tiles { (m : Site) →
+            tile_at self.new.tiles m ≡ tile_at (self.old.tiles ++ other.now.tiles) m }
+        ensures placements { SamePlacements (self.old.tiles ++ other.now.tiles) self.new.tiles }
+    {
+        self.count += fill_gaps(self.words.as_mut_slice(), other.words.as_slice());
+    }
+
+    /// Takes all tiles out.
+    pub fn clear(&mut self)
+        ensures area { self.new.area ≡ self.old.area }
+        ensures empty { self.new.tiles ≡ [] }
+    {
+        self.words.as_mut_slice().fill(0);
+        self.count = 0;
+    }
+}
+
+impl Placed for Grid {
+    ghost placements = { λ g. g.tiles };
+
+    fn at(&self, site: Site) -> Option<TypeId> {
+        if !self.area.holds(site) {
+            return None;
+        }
+        match self.words[site_index(&self.area, site)] {
+            0 => None,
+            word => Some(TypeId(word as u32 - 1)),
+        }
+    }
+}
+
+// Copies the words of tiles to where there are none, and counts them.
+fn fill_gaps(words: &mut [u16], other: &[u16]) -> u32
+    requires equal { length words.old ≡ length other.now }
+    requires short { length words.old < 2 ^ 32 }
+    ensures filled { (k : ℕ) → k < length words.old →
+        slice_index words.new k ≡ filled_word words.old other.now k }
+    ensures count { count_by is_tile words.new ≡ count_by is_tile words.old + result }
+{
+    let mut filled = 0;
+    for index in 0..words.len() {
+        if words[index] == 0 && other[index] != 0 {
+            words[index] = other[index];
+            filled += 1;
+        }
+    }
+    filled
+}

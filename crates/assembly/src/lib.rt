@@ -1,0 +1,13 @@
+//! Assemblies in memory: a grid over a box, and a sequence of places.
+#![tactic(auto)]
+
+mod cell;
+mod grid;
+mod sequence;
+
+pub use cell::site_index;
+pub use grid::Grid;
+pub use sequence::Sequence;
+
+#[cfg(test)]
+mod tests;

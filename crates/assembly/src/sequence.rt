@@ -1,0 +1,65 @@
+// Places in an order.
+ghost use Rattle.std.specs.Prelude.{◌≡◌, ◌<◌, [], ◌∷◌, ◌++◌, length, slice_get, Some, IsTrue, ◌↔◌, OnOk, OnErr};
+
+use std::alloc::Global;
+use std::marker::Model;
+use tile_system::{NoMemory, Place};
+
+/// Places in the order in which they were pushed. Their sites may repeat.
+#[derive(Drop)]
+pub struct Sequence {
+    places: Vec<Place>,
+}
+
+impl Model for Sequence {
+    ghost use Rattle.std.specs.Prelude.{List};
+    ghost use Rattle.atam.specs.declared.place.Place.{Place};
+
+    ghost Value = { List Place };
+
+    ghost view = { λ s. s.places.items };
+}
+
+impl Sequence {
+    /// An empty sequence, which takes memory for its places as they come.
+    pub fn make(alloc: Global) -> Sequence
+        ensures { result ≡ [] }
+    {
+        Sequence {
+            places: Vec::new(alloc),
+        }
+    }
+
+    pub fn push(&mut self, place: Place) -> Result<(), NoMemory>
+        ensures ok { OnOk result (self.new ≡ self.old ++ place ∷ []) }
+        ensures unchanged { OnErr result (self.new ≡ self.old) }
+    {
+        self.places.push(place)?;
+        Ok(())
+    }
+
+    pub fn len(&self) -> usize
+        ensures { result ≡ length self.now }
+    {
+        self.places.len()
+    }
+
+    pub fn is_empty(&self) -> bool
+        ensures { IsTrue result ↔ (self.now ≡ []) }
+    {
+        self.places.is_empty()
+    }
+
+    pub fn get(&self, i: usize) -> Place
+        requires { i < length self.now }
+        ensures { slice_get self.now i ≡ Some result }
+    {
+        self.places[i]
+    }
+
+    pub fn as_slice(&self) -> &[Place]
+        ensures { result.now ≡ self.now }
+    {
+        self.places.as_slice()
+    }
+}

@@ -1,0 +1,53 @@
+-- The glues that face a site hold a type as strongly as the site pulls on it.
+use Rattle.std.proofs.Common.{◌≡◌, ◌≤◌, ◌<◌, ◌+◌, ◌∙◌, ℕ, Bool, false, true≢false, List, Option, Some, None, is_some, sym, subst, inl, inr, arith}
+use Rattle.std.proofs.lemmas.Bool.{cases_lt}
+use Rattle.atam.specs.declared.site.Site.{Site}
+use Rattle.atam.specs.declared.site.Side.TheVariants.{North, East, South, West}
+use Rattle.atam.specs.declared.place.TypeId.{TypeId}
+use Rattle.atam.specs.declared.place.Place.{Place}
+use Rattle.atam.specs.Placements.{tile_at}
+use Rattle.atam.specs.TileSystem.{TileSystem, IsType, side_glue}
+use Rattle.atam.specs.Assembly.{interaction, bond, pull, Attaches}
+use Rattle.atam.specs.Growth.{CanGrow}
+use Rattle.attach_rule.specs.declared.facing.FacingGlues.{FacingGlues}
+use Rattle.attach_rule.specs.Facing.{FacesSite, strength_of_hold}
+
+pub strength_of_hold-pull : (sys : TileSystem) (tiles : List Place) (m : Site) (glues : FacingGlues) (t : TypeId) → FacesSite sys tiles m glues →
+    strength_of_hold sys glues t ≡ pull sys tiles m t
+unfolding pull bond
+strength_of_hold-pull sys tiles m glues t faces =
+    λ k. interaction sys (side_glue sys t North) (faces.north k) + interaction sys (side_glue sys t East) (faces.east k)
+    + interaction sys (side_glue sys t South) (faces.south k) + interaction sys (side_glue sys t West) (faces.west k)
+
+module _ (sys : TileSystem) (tiles : List Place) (m : Site) (glues : FacingGlues) (faces : FacesSite sys tiles m glues) (t : TypeId) (strength : ℕ) (is : strength ≡ strength_of_hold sys glues t) where
+  -- so a type that they hold attaches where the site is empty
+  pub grows_held : IsType sys t → tile_at tiles m ≡ None → sys.tau ≤ strength → CanGrow sys tiles m t
+  grows_held kind empty held =
+      let Held : ℕ → Type 0 = λ n. sys.tau ≤ n in
+      record {
+        kind = kind;
+        attaches = record { empty = empty; held = subst Held (strength_of_hold-pull sys tiles m glues t faces) (subst Held is held) };
+      }
+
+  -- and one that they don't hold doesn't
+  pub fails_unheld : strength < sys.tau → ¬ CanGrow sys tiles m t
+  fails_unheld weak grows =
+      let same = strength_of_hold-pull sys tiles m glues t faces in
+      let never : ⊥ = omega (arith, weak, grows.attaches.held, same, is) in
+      never
+
+-- one type more that doesn't attach
+pub none_more : (sys : TileSystem) (tiles : List Place) (m : Site) (n : ℕ) → ((t : TypeId) → t.0 < n → ¬ CanGrow sys tiles m t) →
+    ¬ CanGrow sys tiles m (record { 0 = n }) → (t : TypeId) → t.0 < n + 1 → ¬ CanGrow sys tiles m t
+none_more sys tiles m n before none t below grows = elim (cases_lt t.0 n) [
+  | inl earlier ↦ before t earlier grows
+  | inr last ↦
+      let equal : t.0 ≡ n = omega (arith, below, last) in
+      let Grows : ℕ → Type 0 = λ k. CanGrow sys tiles m (record { 0 = k }) in
+      none (subst Grows equal grows)
+]
+
+-- a test that found no tile
+pub empty_from : (found tile : Option TypeId) (b : Bool) → found ≡ tile → b ≡ is_some found → b ≡ false → tile ≡ None
+empty_from None tile b at test none = sym at
+empty_from (Some t) tile b at test none = absurd (true≢false (sym test ∙ none))
