@@ -2,9 +2,9 @@
 ghost use Rattle.std.specs.Prelude.{◌≡◌, ◌↔◌, ◌∷◌, ◌++◌, [], Some, None, IsTrue, IfOk, OnOk};
 ghost use Rattle.std.specs.Bool.{OnFalse};
 ghost use Rattle.atam.specs.Sites.{InBox, IsNearSite};
-ghost use Rattle.atam.specs.Placements.{IsPartOf, tile_at};
+ghost use Rattle.atam.specs.Placements.{HasDistinctSites, IsPartOf, tile_at};
+ghost use Rattle.atam.specs.TileSystem.{IsValid};
 ghost use Rattle.atam.specs.Assembly.{Fits};
-ghost use Rattle.atam.specs.Growth.{IsProducible};
 ghost use Rattle.atam.specs.Canonical.{IsCanonical};
 ghost use Rattle.replay_order.specs.Replays.{IsBegun, IsReadySite, AreReadySites, AreReadySitesBut, AddsIfReady, AddsReadyBeside};
 ghost use Rattle.replay_order.specs.ReplayAnswers.{LacksSeed, IsReplayAnswer};
@@ -32,8 +32,9 @@ pub fn replay(alloc: Global, sys: &System, grid: &Grid) -> Result<Sequence, Repl
     if !holds_seeds(sys, grid) {
         return Err(ReplayStop::NoSeedThere);
     }
+    let area = grid.area();
     let listing = canonical_listing(alloc, sys, grid)?;
-    match least_left(grid, &listing) {
+    match least_left(&area, grid, &listing) {
         None => Ok(listing.into_order()),
         Some(least) => Err(ReplayStop::Stuck {
             left: grid.count() - listing.len() as u32,
@@ -46,6 +47,7 @@ pub fn replay(alloc: Global, sys: &System, grid: &Grid) -> Result<Sequence, Repl
 fn holds_seeds(sys: &System, grid: &Grid) -> bool
     ensures held { IsTrue result ↔ IsPartOf sys.now.seeds grid.now.tiles }
     ensures lacks { OnFalse result (LacksSeed sys.now grid.now.tiles) }
+    ensures distinct { HasDistinctSites sys.now.seeds }
 {
     sys.seeds()
         .iter()
@@ -56,10 +58,11 @@ fn holds_seeds(sys: &System, grid: &Grid) -> bool
 fn canonical_listing(alloc: Global, sys: &System, grid: &Grid) -> Result<Listing, NoMemory>
     requires area { grid.now.area ≡ sys.now.area }
     requires fits { Fits sys.now grid.now.tiles }
+    requires distinct { HasDistinctSites grid.now.tiles }
     requires seeded { IsPartOf sys.now.seeds grid.now.tiles }
     ensures { IfOk result (λ listing. IsCanonical sys.now grid.now.tiles listing.places) }
 {
-    let mut listing = Listing::make(alloc, sys)?;
+    let mut listing = Listing::make(alloc, sys.area())?;
     let mut ready = ReadySet::make(alloc);
     list_seeds(sys, grid, &mut listing, &mut ready)?;
     list_ready(sys, grid, &mut listing, &mut ready)?;
@@ -75,6 +78,7 @@ fn list_seeds(
 ) -> Result<(), NoMemory>
     requires area { grid.now.area ≡ sys.now.area }
     requires listing_area { listing.old.area ≡ sys.now.area }
+    requires valid { IsValid sys.now }
     requires fits { Fits sys.now grid.now.tiles }
     requires seeded { IsPartOf sys.now.seeds grid.now.tiles }
     requires unlisted { listing.old.places ≡ [] }
@@ -99,7 +103,9 @@ fn list_ready(
 ) -> Result<(), NoMemory>
     requires area { grid.now.area ≡ sys.now.area }
     requires listing_area { listing.old.area ≡ sys.now.area }
+    requires valid { IsValid sys.now }
     requires fits { Fits sys.now grid.now.tiles }
+    requires distinct { HasDistinctSites grid.now.tiles }
     requires begun { IsBegun sys.now grid.now.tiles listing.old.places }
     requires ready { AreReadySites sys.now grid.now.tiles listing.old.places ready.old }
     ensures { OnOk result (IsCanonical sys.now grid.now.tiles listing.new.places) }
@@ -121,6 +127,7 @@ fn list_place(
 ) -> Result<(), NoMemory>
     requires area { grid.now.area ≡ sys.now.area }
     requires listing_area { listing.old.area ≡ sys.now.area }
+    requires valid { IsValid sys.now }
     requires fits { Fits sys.now grid.now.tiles }
     requires part { IsPartOf listing.old.places grid.now.tiles }
     requires placed { tile_at grid.now.tiles place.site ≡ Some place.tile }
@@ -142,6 +149,7 @@ fn add_ready_beside(
     ready: &mut ReadySet,
     site: Site,
 ) -> Result<(), NoMemory>
+    requires valid { IsValid sys.now }
     requires inside { InBox sys.now.area site }
     requires fits { Fits sys.now grid.now.tiles }
     requires listing_fits { Fits sys.now listing.now.places }

@@ -1,9 +1,9 @@
 // Whether a sequence is legal.
 ghost use Rattle.std.specs.Prelude.{◌≡◌, ◌<◌, ◌^◌, ◌↔◌, [], length, take, IsTrue};
 ghost use Rattle.atam.specs.Placements.{SamePlacements};
+ghost use Rattle.atam.specs.TileSystem.{IsValid};
 ghost use Rattle.atam.specs.Assembly.{Fits};
 ghost use Rattle.atam.specs.Growth.{IsLegal};
-ghost use Rattle.replay_order.specs.declared.legal.Legality.TheVariants.{Legal as IsItLegal};
 ghost use Rattle.replay_order.specs.Legalities.{IsLegalityAnswer, legal_part};
 
 use assembly::{Grid, Sequence};
@@ -31,6 +31,7 @@ pub fn check_legal(sys: &System, seq: &Sequence, scratch: &mut Grid) -> Legality
     ensures area { scratch.new.area ≡ scratch.old.area }
     ensures placements { SamePlacements (legal_part seq.now result) scratch.new.tiles }
 {
+    let tau = sys.tau();
     if !begins_with_seeds(sys, seq) {
         return Legality::WrongSeed;
     }
@@ -43,7 +44,7 @@ pub fn check_legal(sys: &System, seq: &Sequence, scratch: &mut Grid) -> Legality
             };
         }
         let pull = pull(sys, scratch, place.site, place.tile);
-        if pull < sys.tau() {
+        if pull < tau {
             return Legality::TooWeak {
                 index: index as u32,
                 pull,
@@ -63,6 +64,7 @@ fn begins_with_seeds(sys: &System, seq: &Sequence) -> bool
 
 // Puts the seeds into an empty grid.
 fn put_seeds(sys: &System, scratch: &mut Grid)
+    requires valid { IsValid sys.now }
     requires area { scratch.old.area ≡ sys.now.area }
     requires empty { scratch.old.tiles ≡ [] }
     ensures area { scratch.new.area ≡ scratch.old.area }

@@ -1,12 +1,12 @@
 // Places in the order in which they were listed, with a grid to look them up.
 ghost use Rattle.std.specs.Prelude.{◌≡◌, ◌<◌, [], ◌∷◌, ◌++◌, length, None, IfOk, OnOk, OnErr};
-ghost use Rattle.atam.specs.Sites.{InBox};
+ghost use Rattle.atam.specs.Sites.{InBox, IsBox};
 ghost use Rattle.atam.specs.Placements.{tile_at};
 
 use assembly::{Grid, Sequence};
 use std::alloc::Global;
 use std::marker::Model;
-use tile_system::{NoMemory, Place, Placed, Site, System, TypeId};
+use tile_system::{BoxArea, NoMemory, Place, Placed, Site, TypeId};
 
 // Places with distinct sites, in their order.
 #[derive(Drop)]
@@ -26,14 +26,15 @@ impl Model for Listing {
 }
 
 impl Listing {
-    // A listing of no place in the system's box.
-    pub(crate) fn make(alloc: Global, sys: &System) -> Result<Listing, NoMemory>
-        ensures area { IfOk result (λ listing. listing.area ≡ sys.now.area) }
+    // A listing of no place in a box.
+    pub(crate) fn make(alloc: Global, area: BoxArea) -> Result<Listing, NoMemory>
+        requires { IsBox area }
+        ensures area { IfOk result (λ listing. listing.area ≡ area) }
         ensures empty { IfOk result (λ listing. listing.places ≡ []) }
     {
         Ok(Listing {
             order: Sequence::make(alloc),
-            grid: Grid::make(alloc, sys.area())?,
+            grid: Grid::make(alloc, area)?,
         })
     }
 
