@@ -25,6 +25,7 @@ pub record IsListing (places tiles : List Place) : Type 0 where
 pub record IsBegun (sys : TileSystem) (tiles s : List Place) : Type 0 where
   pub seeded : IsPartOf sys.seeds tiles
   pub seeds : take (length sys.seeds) s ≡ sys.seeds
+  pub distinct : HasDistinctSites s
   pub ready : (i : ℕ) (p : Place) → length sys.seeds ≤ i → slice_get s i ≡ Some p → IsReady sys tiles (take i s) p
   pub least : (i : ℕ) (p q : Place) → length sys.seeds ≤ i → slice_get s i ≡ Some p → IsReady sys tiles (take i s) q → ¬ IsBefore q.site p.site
 
