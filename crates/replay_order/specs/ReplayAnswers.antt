@@ -1,15 +1,19 @@
 -- What the replay of an assembly answers.
-use Rattle.std.specs.Prelude.{◌≢◌, ℕ, List, Result, Ok, Err, Any, Some}
+use Rattle.std.specs.Prelude.{◌≡◌, ◌≢◌, ℕ, List, Result, Ok, Err, All, Any, Some}
 use Rattle.atam.specs.declared.site.Site.{Site}
 use Rattle.atam.specs.declared.place.Place.{Place}
-use Rattle.atam.specs.Placements.{SamePlacements, IsPartOf, tile_at}
+use Rattle.atam.specs.Placements.{SamePlacements, tile_at}
 use Rattle.atam.specs.TileSystem.{TileSystem}
 use Rattle.atam.specs.Growth.{IsProducible}
 use Rattle.atam.specs.Canonical.{IsCanonical, LeavesOver}
 use Rattle.replay_order.specs.declared.stop.ReplayStop.{ReplayStop}
 use Rattle.replay_order.specs.declared.stop.ReplayStop.TheVariants.{NoSeedThere, Stuck, NoMemory}
 
--- some seed's site doesn't hold the seed's type
+-- each seed's site holds the seed's type
+abbrev pub HoldsSeeds : TileSystem → List Place → Type 0
+HoldsSeeds sys tiles = All (λ p. tile_at tiles p.site ≡ Some p.tile) sys.seeds
+
+-- some seed's site doesn't
 abbrev pub LacksSeed : TileSystem → List Place → Type 0
 LacksSeed sys tiles = Any (λ p. tile_at tiles p.site ≢ Some p.tile) sys.seeds
 
@@ -31,4 +35,4 @@ IsReplayAnswer sys tiles (Ok order) = IsWholeOrder sys tiles order
 IsReplayAnswer sys tiles (Err NoSeedThere) = LacksSeed sys tiles
 IsReplayAnswer sys tiles (Err (Stuck left least)) = IsStuckAt sys tiles left least
 -- there was no memory, and the seeds are there
-IsReplayAnswer sys tiles (Err NoMemory) = IsPartOf sys.seeds tiles
+IsReplayAnswer sys tiles (Err NoMemory) = HoldsSeeds sys tiles

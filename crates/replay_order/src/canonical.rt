@@ -1,13 +1,13 @@
 // The canonical order of an assembly.
 ghost use Rattle.std.specs.Prelude.{◌≡◌, ◌↔◌, ◌∷◌, ◌++◌, [], Some, None, IsTrue, IfOk, OnOk};
-ghost use Rattle.std.specs.Bool.{OnFalse};
+ghost use Rattle.std.specs.Bool.{OnTrue, OnFalse};
 ghost use Rattle.atam.specs.Sites.{InBox, IsNearSite};
 ghost use Rattle.atam.specs.Placements.{HasDistinctSites, IsPartOf, tile_at};
 ghost use Rattle.atam.specs.TileSystem.{IsValid};
 ghost use Rattle.atam.specs.Assembly.{Fits};
 ghost use Rattle.atam.specs.Canonical.{IsCanonical};
 ghost use Rattle.replay_order.specs.Replays.{IsBegun, IsReadySite, AreReadySites, AreReadySitesBut, AddsIfReady, AddsReadyBeside};
-ghost use Rattle.replay_order.specs.ReplayAnswers.{LacksSeed, IsReplayAnswer};
+ghost use Rattle.replay_order.specs.ReplayAnswers.{HoldsSeeds, LacksSeed, IsReplayAnswer};
 
 use crate::listing::Listing;
 use crate::ready_set::ReadySet;
@@ -45,7 +45,7 @@ pub fn replay(alloc: Global, sys: &System, grid: &Grid) -> Result<Sequence, Repl
 
 // Whether each seed stands in the grid.
 fn holds_seeds(sys: &System, grid: &Grid) -> bool
-    ensures held { IsTrue result ↔ IsPartOf sys.now.seeds grid.now.tiles }
+    ensures held { OnTrue result (HoldsSeeds sys.now grid.now.tiles) }
     ensures lacks { OnFalse result (LacksSeed sys.now grid.now.tiles) }
     ensures distinct { HasDistinctSites sys.now.seeds }
 {
@@ -59,7 +59,7 @@ fn canonical_listing(alloc: Global, sys: &System, grid: &Grid) -> Result<Listing
     requires area { grid.now.area ≡ sys.now.area }
     requires fits { Fits sys.now grid.now.tiles }
     requires distinct { HasDistinctSites grid.now.tiles }
-    requires seeded { IsPartOf sys.now.seeds grid.now.tiles }
+    requires seeded { HoldsSeeds sys.now grid.now.tiles }
     ensures { IfOk result (λ listing. IsCanonical sys.now grid.now.tiles listing.places) }
 {
     let mut listing = Listing::make(alloc, sys.area())?;
@@ -80,7 +80,7 @@ fn list_seeds(
     requires listing_area { listing.old.area ≡ sys.now.area }
     requires valid { IsValid sys.now }
     requires fits { Fits sys.now grid.now.tiles }
-    requires seeded { IsPartOf sys.now.seeds grid.now.tiles }
+    requires seeded { HoldsSeeds sys.now grid.now.tiles }
     requires unlisted { listing.old.places ≡ [] }
     requires no_site { ready.old ≡ [] }
     ensures listed { OnOk result (listing.new.places ≡ sys.now.seeds) }
