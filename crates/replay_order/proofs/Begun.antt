@@ -16,6 +16,7 @@ use Rattle.atam.specs.Canonical.{IsReady, IsCanonical}
 use Rattle.atam.proofs.Lists.{some_or_none, push_cases, seed_from, seeds_within, slice_get-Contains, Contains-slice_get}
 use Rattle.atam.proofs.Placements.{none_at, Contains-tile_at, tile_at-Contains, same_place, HasDistinctSites-push}
 use Rattle.atam.proofs.Count.{count_in_part}
+use Rattle.replay_order.specs.ReplayAnswers.{HoldsSeeds}
 use Rattle.replay_order.specs.Replays.{IsBegun, IsReadySite, AreReadySites}
 use Rattle.replay_order.proofs.ReadySites.{part_push}
 
@@ -122,3 +123,7 @@ module _ (sys : TileSystem) (tiles s : List Place) (begun : IsBegun sys tiles s)
                 subst (λ q. ¬ IsBefore r.site q.site) new.0 (least r.site ((ready r.site).1 (ready_site r ready_s)))
           ];
         }
+
+-- seeds that stand there are a part
+pub seeds_part : (sys : TileSystem) (tiles : List Place) → HoldsSeeds sys tiles → IsPartOf sys.seeds tiles
+seeds_part sys tiles held p seed = tile_at-Contains tiles p.site p.tile (All-contains (λ q. tile_at tiles q.site ≡ Some q.tile) sys.seeds p held seed)

@@ -1,6 +1,5 @@
 -- The least site of a box with a tile that isn't listed, by the sites' numbers.
-use Rattle.std.proofs.Common.{◌≡◌, ◌<◌, ◌≤◌, ◌+◌, ◌*◌, ◌/◌, ◌%◌, ℕ, List, Option, Some, None, true, true≢false, is_some, refl, sym, ◌∙◌, ap, subst, inl, inr, arith, pos, ◌+ℤ◌}
-use Rattle.std.specs.Option.{is_none}
+use Rattle.std.proofs.Common.{◌≡◌, ◌<◌, ◌≤◌, ◌+◌, ◌*◌, ◌/◌, ◌%◌, ℕ, List, Option, Some, None, true, false, true≢false, is_some, refl, sym, ◌∙◌, ap, subst, inl, inr, arith, pos, ◌+ℤ◌}
 use Rattle.std.proofs.lemmas.Int.{ints}
 use Rattle.std.proofs.lemmas.Nat.{div-add-mod', mul-le}
 use Rattle.std.proofs.lemmas.Bool.{cases_lt}
@@ -73,7 +72,7 @@ least_left-some area tiles s n m wide before here left = record {
 
 
 -- what two looks at a site tell
-pub left_from : (tiles s : List Place) (m : Site) (o q : Option TypeId) → o ≡ tile_at tiles m → q ≡ tile_at s m → is_some o ≡ true → is_none q ≡ true → IsLeftAt tiles s m
+pub left_from : (tiles s : List Place) (m : Site) (o q : Option TypeId) → o ≡ tile_at tiles m → q ≡ tile_at s m → is_some o ≡ true → is_some q ≡ false → IsLeftAt tiles s m
 left_from tiles s m None q at_tiles at_s some none = absurd (true≢false (sym some))
-left_from tiles s m (Some t) (Some u) at_tiles at_s some none = absurd (true≢false (sym none))
+left_from tiles s m (Some t) (Some u) at_tiles at_s some none = absurd (true≢false none)
 left_from tiles s m (Some t) None at_tiles at_s some none = record { tile = t; placed = sym at_tiles; unlisted = sym at_s }

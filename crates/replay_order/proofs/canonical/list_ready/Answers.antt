@@ -52,7 +52,4 @@ loop-site-preserved c =
 
 pub returns : goal.returns
 returns c =
-    let a = c.in_default.is in
-    let b = c.in_default.not-Some in
-    let n = c.in_default.ensures.none in
-    begun_whole c.args.sys.now c.args.grid.now.tiles c.loop-site.listing.places c.loop-site.invariant.begun c.requires.distinct c.loop-site.ready c.loop-site.invariant.ready ?
+    begun_whole c.args.sys.now c.args.grid.now.tiles c.loop-site.listing.places c.loop-site.invariant.begun c.requires.distinct c.loop-site.ready c.loop-site.invariant.ready c.in_default.ensures.none

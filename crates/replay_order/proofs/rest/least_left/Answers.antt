@@ -1,4 +1,4 @@
-use Rattle.std.proofs.Common.{◌≡◌, ◌<◌, ◌≤◌, ◌*◌, ◌/◌, ◌%◌, ℕ, ◌∙◌, ap, sym, arith}
+use Rattle.std.proofs.Common.{◌≡◌, ◌<◌, ◌≤◌, ◌*◌, ◌/◌, ◌%◌, ℕ, ◌∙◌, ap, sym, not, arith}
 use Rattle.std.proofs.lemmas.Int.{ints}
 use Rattle.atam.specs.Sites.{width_of, height_of, site_in}
 use Rattle.assembly.specs.Cells.{cell_count, site_at}
@@ -14,7 +14,7 @@ returns-then-is_none c =
     let here : site_at area n ≡ m = sym (c.site-site.ensures.value ∙ ap (λ (w : ℕ). site_in area (n % w) (n / w)) c.width-width.ensures) in
     least_left-some area c.args.grid.now.tiles c.args.listing.now.places n m wide c.loop-index.invariant here (
     left_from c.args.grid.now.tiles c.args.listing.now.places m c.at.result c.at-then-is_some.result c.at.ensures.tile c.at-then-is_some.ensures.tile
-    (sym c.is_some.ensures ∙ c.if-is_some.true) (sym c.is_none.ensures ∙ c.if-is_none.true)
+    (sym c.is_some.ensures ∙ c.if-is_some.true) (c.is_none.ensures ∙ ap not c.if-is_none.true)
     )
 
 pub returns : goal.returns
