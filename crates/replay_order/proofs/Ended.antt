@@ -1,0 +1,89 @@
+-- A canonical sequence with nothing left, and one that leaves tiles over.
+use Rattle.std.proofs.Common.{◌≡◌, ◌≤◌, ◌+◌, ◌-◌, ℕ, List, length, Some, None, slice_get, Contains, refl, sym, ◌∙◌, ap, subst, inl, inr, arith, All}
+use Rattle.std.proofs.lemmas.Option.{none-some}
+use Rattle.std.proofs.lemmas.List.Elements.{All-contains}
+use Rattle.atam.specs.declared.site.Site.{Site}
+use Rattle.atam.specs.declared.place.Place.{Place}
+use Rattle.atam.specs.Sites.{InBox, IsBefore}
+use Rattle.atam.specs.Placements.{HasDistinctSites, IsPartOf, tile_at}
+use Rattle.atam.specs.TileSystem.{TileSystem, IsType}
+use Rattle.atam.specs.Assembly.{Fits}
+use Rattle.atam.specs.Growth.{IsProducible}
+use Rattle.atam.specs.Canonical.{IsCanonical, IsLeft, LeavesOver}
+use Rattle.atam.proofs.Lists.{some_or_none}
+use Rattle.atam.proofs.Placements.{Contains-tile_at, tile_at-Contains, same_place}
+use Rattle.atam.proofs.Count.{count_in_part}
+use Rattle.atam.proofs.Canon.{canonical_part, canonical_IsLegal, producible_exactly}
+use Rattle.atam.proofs.Sequences.{IsLegal-distinct}
+use Rattle.replay_order.specs.Replays.{IsLeftAt, IsLeastLeft, IsLeastLeftSite}
+use Rattle.replay_order.specs.ReplayAnswers.{IsWholeOrder, IsStuckAt}
+
+module _ (sys : TileSystem) (tiles s : List Place) (fits : Fits sys tiles) (distinct : HasDistinctSites tiles)
+    (seeds_distinct : HasDistinctSites sys.seeds) (canonical : IsCanonical sys tiles s) where
+  part : IsPartOf s tiles
+  part = canonical_part sys tiles s distinct fits.types seeds_distinct canonical
+
+  listed_distinct : HasDistinctSites s
+  listed_distinct = IsLegal-distinct sys s seeds_distinct (canonical_IsLegal sys tiles s distinct fits.types seeds_distinct canonical)
+
+  -- no more places are listed than there are tiles
+  pub listed_count : length s ≤ length tiles
+  listed_count = count_in_part s tiles listed_distinct distinct part
+
+  -- a place is listed, or it is left at its site
+  listed_or_left : (q : Place) → Contains tiles q → ¬ IsLeftAt tiles s q.site → Contains s q
+  listed_or_left q placed not_left = elim (some_or_none (tile_at s q.site)) [
+    | inl empty ↦ absurd (not_left (record { tile = q.tile; placed = Contains-tile_at tiles q distinct placed; unlisted = empty }))
+    | inr some ↦
+        let r : Place = record { site = q.site; tile = some.0 } in
+        let listed : Contains s r = tile_at-Contains s q.site some.0 some.1 in
+        subst (Contains s) (same_place tiles r q distinct (part r listed) placed refl) listed
+  ]
+
+  left_at : (q : Place) → IsLeft tiles s q → IsLeftAt tiles s q.site
+  left_at q left = record {
+    tile = q.tile;
+    placed = Contains-tile_at tiles q distinct left.placed;
+    unlisted = elim (some_or_none (tile_at s q.site)) [
+      | inl empty ↦ empty
+      | inr some ↦
+          let r : Place = record { site = q.site; tile = some.0 } in
+          let listed : Contains s r = tile_at-Contains s q.site some.0 some.1 in
+          absurd (left.unlisted (subst (Contains s) (same_place tiles r q distinct (part r listed) left.placed refl) listed))
+    ];
+  }
+
+  inside : (q : Place) → Contains tiles q → InBox sys.area q.site
+  inside q placed = All-contains (λ p. InBox sys.area p.site) tiles q fits.sites placed
+
+  -- nothing is left
+  pub whole_order : IsLeastLeft sys.area tiles s None → IsWholeOrder sys tiles s
+  whole_order none =
+      let all_listed : IsPartOf tiles s = λ q placed. listed_or_left q placed (none q.site (inside q placed)) in
+      record {
+        canonical = canonical;
+        same = record { part = part; whole = all_listed };
+        producible = (producible_exactly sys tiles s distinct fits.types seeds_distinct canonical).1 all_listed;
+      }
+
+  -- something is left
+  pub stuck_at : (least : Site) → IsLeastLeft sys.area tiles s (Some least) → (count : ℕ) → count + length s ≡ length tiles → IsStuckAt sys tiles count least
+  stuck_at least found count counted =
+      let first : Place = record { site = least; tile = found.left.tile } in
+      let placed : Contains tiles first = tile_at-Contains tiles least found.left.tile found.left.placed in
+      let unlisted : ¬ Contains s first = λ listed.
+      none-some found.left.tile (sym found.left.unlisted ∙ Contains-tile_at s first listed_distinct listed)
+      in
+      record {
+        sequence = s;
+        canonical = canonical;
+        leaves = record {
+          counted = counted;
+          first = first;
+          first_left = record { placed = placed; unlisted = unlisted };
+          first_site = refl;
+          none_before = λ q left. found.least q.site (inside q left.placed) (left_at q left);
+        };
+        unproducible = λ producible.
+            unlisted ((producible_exactly sys tiles s distinct fits.types seeds_distinct canonical).0 producible first placed);
+      }

@@ -1,0 +1,49 @@
+use Rattle.std.proofs.Common.{◌≡◌, ◌≤◌, ◌+◌, ◌-◌, ◌∙◌, ap, sym, subst, arith, length, List, Some, None}
+use Rattle.atam.specs.declared.area.BoxArea.{BoxArea}
+use Rattle.atam.specs.declared.place.Place.{Place}
+use Rattle.atam.specs.Canonical.{IsCanonical}
+use Rattle.replay_order.specs.Replays.{IsLeastLeft}
+use Rattle.replay_order.specs.ReplayAnswers.{IsWholeOrder}
+use Rattle.replay_order.proofs.Ended.{listed_count, whole_order, stuck_at}
+use Rattle.replay_order.proofs.canonical.replay.Goals as goal
+
+pub overflow_cast-result : goal.overflow_cast-result
+overflow_cast-result c =
+    let sys = c.args.sys.now in
+    let tiles = c.args.grid.now.tiles in
+    let s = c.in_ok-listing.listing.places in
+    let few : length s ≤ length tiles =
+    listed_count sys tiles s c.requires.fits c.area-area.ensures.distinct c.holds_seeds.ensures.distinct c.in_ok-listing.ensures in
+    omega (arith, few, c.len.ensures, c.count.ensures, c.count.type_inv)
+
+pub overflow_sub-result : goal.overflow_sub-result
+overflow_sub-result c =
+    let sys = c.args.sys.now in
+    let tiles = c.args.grid.now.tiles in
+    let s = c.in_ok-listing.listing.places in
+    let few : length s ≤ length tiles =
+    listed_count sys tiles s c.requires.fits c.area-area.ensures.distinct c.holds_seeds.ensures.distinct c.in_ok-listing.ensures in
+    omega (arith, few, c.len.ensures, c.count.ensures)
+
+pub returns-in-None-clause-answer : goal.returns-in-None-clause-answer
+returns-in-None-clause-answer c =
+    let sys = c.args.sys.now in
+    let tiles = c.args.grid.now.tiles in
+    let s = c.in_ok-listing.listing.places in
+    let Least : BoxArea → Type 0 = λ area. IsLeastLeft area tiles s None in
+    let none : Least sys.area = subst Least (c.area-area.ensures.area ∙ c.requires.area) c.in-None.ensures in
+    subst (IsWholeOrder sys tiles) (sym c.into_order.ensures) (
+    whole_order sys tiles s c.requires.fits c.area-area.ensures.distinct c.holds_seeds.ensures.distinct c.in_ok-listing.ensures none
+    )
+
+pub returns-in-Some-clause-answer : goal.returns-in-Some-clause-answer
+returns-in-Some-clause-answer c =
+    let sys = c.args.sys.now in
+    let tiles = c.args.grid.now.tiles in
+    let s = c.in_ok-listing.listing.places in
+    let Least : BoxArea → Type 0 = λ area. IsLeastLeft area tiles s (Some c.in-Some.least) in
+    let found : Least sys.area = subst Least (c.area-area.ensures.area ∙ c.requires.area) c.in-Some.ensures in
+    let few : length s ≤ length tiles =
+    listed_count sys tiles s c.requires.fits c.area-area.ensures.distinct c.holds_seeds.ensures.distinct c.in_ok-listing.ensures in
+    stuck_at sys tiles s c.requires.fits c.area-area.ensures.distinct c.holds_seeds.ensures.distinct c.in_ok-listing.ensures c.in-Some.least found
+    (c.count.result - c.len.result) (omega (arith, few, c.len.ensures, c.count.ensures))

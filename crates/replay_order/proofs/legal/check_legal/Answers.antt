@@ -1,0 +1,80 @@
+use Rattle.std.proofs.Common.{◌≡◌, ◌≤◌, ◌+◌, ◌∙◌, List, arith, sym, subst}
+use Rattle.atam.specs.declared.area.BoxArea.{BoxArea}
+use Rattle.atam.specs.Sites.{InBox}
+use Rattle.atam.specs.TileSystem.{IsType}
+use Rattle.atam.proofs.Lists.{All-slice_get}
+use Rattle.replay_order.specs.Legalities.{IsFirstTaken, IsFirstWeak}
+use Rattle.replay_order.proofs.ReadySites.{near_inside, Fits-part}
+use Rattle.replay_order.proofs.Sequences.{part_take, first_taken, first_weak, legal_more, SamePlacements-more, taken_illegal, weak_illegal}
+use Rattle.replay_order.proofs.legal.check_legal.Goals as goal
+
+pub returns-then-is_some-clause-answer : goal.returns-then-is_some-clause-answer
+returns-then-is_some-clause-answer c =
+    first_taken c.args.sys.now c.args.seq.now c.loop-index.scratch.tiles c.loop-index.index c.get-place.result c.get-place.ensures
+    c.loop-index.invariant.legal c.loop-index.invariant.placed c.at.result c.at.ensures.tile (sym c.is_some.ensures ∙ c.if-is_some.true)
+
+pub returns-then-is_some-clause-legal : goal.returns-then-is_some-clause-legal
+returns-then-is_some-clause-legal c =
+    let taken =
+    first_taken c.args.sys.now c.args.seq.now c.loop-index.scratch.tiles c.loop-index.index c.get-place.result c.get-place.ensures
+    c.loop-index.invariant.legal c.loop-index.invariant.placed c.at.result c.at.ensures.tile (sym c.is_some.ensures ∙ c.if-is_some.true)
+    in
+    (λ e. absurd (cc e), λ legal. absurd (taken_illegal c.args.sys.now c.args.seq.now c.loop-index.index c.loop-index.invariant.seeded taken legal))
+
+pub pull-pull-requires-clause-kind : goal.pull-pull-requires-clause-kind
+pull-pull-requires-clause-kind c =
+    All-slice_get (λ p. IsType c.args.sys.now p.tile) c.args.seq.now c.loop-index.index c.get-place.result c.requires.fits.types c.get-place.ensures
+
+pub pull-pull-requires-clause-near : goal.pull-pull-requires-clause-near
+pull-pull-requires-clause-near c =
+    near_inside c.args.sys.now.area c.get-place.result.site c.tau-tau.ensures.valid.box
+    (All-slice_get (λ p. InBox c.args.sys.now.area p.site) c.args.seq.now c.loop-index.index c.get-place.result c.requires.fits.sites c.get-place.ensures)
+
+pub pull-pull-requires-clause-fits : goal.pull-pull-requires-clause-fits
+pull-pull-requires-clause-fits c =
+    Fits-part c.args.sys.now c.loop-index.scratch.tiles c.args.seq.now
+    (λ q contains. part_take c.args.seq.now c.loop-index.index q (c.loop-index.invariant.placed.whole q contains)) c.requires.fits
+
+pub returns-then-pull-tau-clause-answer : goal.returns-then-pull-tau-clause-answer
+returns-then-pull-tau-clause-answer c =
+    first_weak c.args.sys.now c.args.seq.now c.loop-index.scratch.tiles c.loop-index.index c.get-place.result c.get-place.ensures
+    c.loop-index.invariant.legal c.loop-index.invariant.placed c.tau-tau.ensures.valid.distinct_seeds c.at.ensures.distinct
+    c.at.result c.at.ensures.tile (sym c.is_some.ensures ∙ c.if-is_some.false) c.pull-pull.result c.pull-pull.ensures.value
+    (omega (arith, c.if-pull-tau.true, c.tau-tau.ensures.tau))
+
+pub returns-then-pull-tau-clause-legal : goal.returns-then-pull-tau-clause-legal
+returns-then-pull-tau-clause-legal c =
+    let is_weak =
+    first_weak c.args.sys.now c.args.seq.now c.loop-index.scratch.tiles c.loop-index.index c.get-place.result c.get-place.ensures
+    c.loop-index.invariant.legal c.loop-index.invariant.placed c.tau-tau.ensures.valid.distinct_seeds c.at.ensures.distinct
+    c.at.result c.at.ensures.tile (sym c.is_some.ensures ∙ c.if-is_some.false) c.pull-pull.result c.pull-pull.ensures.value
+    (omega (arith, c.if-pull-tau.true, c.tau-tau.ensures.tau))
+    in
+    (λ e. absurd (cc e), λ legal. absurd (weak_illegal c.args.sys.now c.args.seq.now c.loop-index.index c.pull-pull.result c.loop-index.invariant.seeded is_weak legal))
+
+pub put-requires-clause-inside : goal.put-requires-clause-inside
+put-requires-clause-inside c =
+    subst (λ (area : BoxArea). InBox area c.get-place.result.site) (sym c.loop-index.invariant.area)
+    (All-slice_get (λ p. InBox c.args.sys.now.area p.site) c.args.seq.now c.loop-index.index c.get-place.result c.requires.fits.sites c.get-place.ensures)
+
+pub put-requires-clause-small : goal.put-requires-clause-small
+put-requires-clause-small c =
+    let kind = All-slice_get (λ p. IsType c.args.sys.now p.tile) c.args.seq.now c.loop-index.index c.get-place.result c.requires.fits.types c.get-place.ensures in
+    omega (arith, kind, c.tau-tau.ensures.valid.type_count)
+
+pub loop-index-preserved : goal.loop-index-preserved
+loop-index-preserved c =
+    let kind = All-slice_get (λ p. IsType c.args.sys.now p.tile) c.args.seq.now c.loop-index.index c.get-place.result c.requires.fits.types c.get-place.ensures in
+    record {
+      area = c.put.ensures.area ∙ c.loop-index.invariant.area;
+      seeded = omega (arith, c.loop-index.invariant.seeded);
+      within = omega (arith, c.loop-index-test.true, c.len-index-end.ensures);
+      legal =
+          legal_more c.args.sys.now c.args.seq.now c.loop-index.scratch.tiles c.loop-index.index c.get-place.result c.get-place.ensures
+          c.loop-index.invariant.legal c.loop-index.invariant.placed c.tau-tau.ensures.valid.distinct_seeds c.at.ensures.distinct
+          c.at.result c.at.ensures.tile (sym c.is_some.ensures ∙ c.if-is_some.false) c.pull-pull.result c.pull-pull.ensures.value kind
+          (omega (arith, c.if-pull-tau.false, c.tau-tau.ensures.tau));
+      placed =
+          SamePlacements-more c.args.seq.now c.loop-index.index c.get-place.result c.loop-index.scratch.tiles c.put.new.self.tiles c.get-place.ensures
+          c.loop-index.invariant.placed c.put.ensures.placements;
+    }

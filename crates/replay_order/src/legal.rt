@@ -1,0 +1,76 @@
+// Whether a sequence is legal.
+ghost use Rattle.std.specs.Prelude.{◌≡◌, ◌<◌, ◌^◌, ◌↔◌, [], length, take, IsTrue};
+ghost use Rattle.atam.specs.Placements.{SamePlacements};
+ghost use Rattle.atam.specs.TileSystem.{IsValid};
+ghost use Rattle.atam.specs.Assembly.{Fits};
+ghost use Rattle.atam.specs.Growth.{IsLegal};
+ghost use Rattle.replay_order.specs.Legalities.{IsLegalityAnswer, legal_part};
+
+use assembly::{Grid, Sequence};
+use attach_rule::pull;
+use tile_system::{Placed, System};
+
+/// Whether a sequence is legal, and else the first place that is not.
+#[derive(Debug, Clone, Copy, PartialEq, Eq)]
+pub enum Legality {
+    Legal,
+    WrongSeed,
+    SiteTaken { index: u32 },
+    TooWeak { index: u32, pull: u32 },
+}
+
+/// Puts the places of the sequence into an empty grid, as long as they are legal.
+/// It takes no memory.
+pub fn check_legal(sys: &System, seq: &Sequence, scratch: &mut Grid) -> Legality
+    requires area { scratch.old.area ≡ sys.now.area }
+    requires empty { scratch.old.tiles ≡ [] }
+    requires fits { Fits sys.now seq.now }
+    requires short { length seq.now < 2 ^ 32 }
+    ensures answer { IsLegalityAnswer sys.now seq.now result }
+    ensures legal { (result ≡ Legality.Legal) ↔ IsLegal sys.now seq.now }
+    ensures area { scratch.new.area ≡ scratch.old.area }
+    ensures placements { SamePlacements (legal_part seq.now result) scratch.new.tiles }
+{
+    let tau = sys.tau();
+    if !begins_with_seeds(sys, seq) {
+        return Legality::WrongSeed;
+    }
+    put_seeds(sys, scratch);
+    for index in sys.seeds().len()..seq.len() {
+        let place = seq.get(index);
+        if scratch.at(place.site).is_some() {
+            return Legality::SiteTaken {
+                index: index as u32,
+            };
+        }
+        let pull = pull(sys, scratch, place.site, place.tile);
+        if pull < tau {
+            return Legality::TooWeak {
+                index: index as u32,
+                pull,
+            };
+        }
+        scratch.put(place);
+    }
+    Legality::Legal
+}
+
+// Whether the sequence begins with the seeds in their order.
+fn begins_with_seeds(sys: &System, seq: &Sequence) -> bool
+    ensures { IsTrue result ↔ (take (length sys.now.seeds) seq.now ≡ sys.now.seeds) }
+{
+    seq.as_slice().starts_with(sys.seeds())
+}
+
+// Puts the seeds into an empty grid.
+fn put_seeds(sys: &System, scratch: &mut Grid)
+    requires valid { IsValid sys.now }
+    requires area { scratch.old.area ≡ sys.now.area }
+    requires empty { scratch.old.tiles ≡ [] }
+    ensures area { scratch.new.area ≡ scratch.old.area }
+    ensures placements { SamePlacements sys.now.seeds scratch.new.tiles }
+{
+    for seed in sys.seeds() {
+        scratch.put(*seed);
+    }
+}

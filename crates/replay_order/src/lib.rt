@@ -1,0 +1,13 @@
+//! The canonical order of an assembly, and the legality of a given order.
+#![tactic(auto)]
+
+mod canonical;
+mod legal;
+mod listing;
+mod ready_set;
+mod rest;
+mod stop;
+
+pub use legal::{check_legal, Legality};
+pub use canonical::replay;
+pub use stop::ReplayStop;
