@@ -9,7 +9,8 @@ use Rattle.atam.specs.Placements.{HasDistinctSites, IsPartOf, tile_at}
 use Rattle.atam.specs.TileSystem.{TileSystem, IsType}
 use Rattle.atam.specs.Assembly.{Fits}
 use Rattle.atam.specs.Growth.{IsProducible}
-use Rattle.atam.specs.Canonical.{IsCanonical, IsLeft, LeavesOver}
+use Rattle.atam.specs.Canonical.{IsCanonical}
+use Rattle.replay_order.specs.Leavings.{IsLeft, LeavesOver}
 use Rattle.atam.proofs.Lists.{some_or_none}
 use Rattle.atam.proofs.Placements.{Contains-tile_at, tile_at-Contains, same_place}
 use Rattle.atam.proofs.Count.{count_in_part}

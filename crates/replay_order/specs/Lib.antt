@@ -1,3 +1,4 @@
+pub mod Leavings
 pub mod Replays
 pub mod ReplayAnswers
 pub mod Legalities

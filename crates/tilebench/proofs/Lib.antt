@@ -1,3 +1,4 @@
 pub mod Writing
 pub mod Replying
 pub mod Looked
+pub mod Growths

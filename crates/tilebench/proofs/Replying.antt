@@ -18,7 +18,7 @@ use Rattle.tile_text.specs.SystemText.{system_format, system_items}
 use Rattle.tilebench.specs.declared.words.Command.{Command}
 use Rattle.tilebench.specs.declared.words.Command.TheVariants.{Grow, Format}
 use Rattle.tilebench.specs.declared.answer.Answer.{Answer}
-use Rattle.tilebench.specs.declared.answer.Growth.{Growth}
+use Rattle.tilebench.specs.declared.growth_order.Growth.{Growth}
 use Rattle.tilebench.specs.declared.stop.Stop.{Stop}
 use Rattle.tilebench.specs.declared.stop.Stop.TheVariants as stops
 use Rattle.tilebench.specs.declared.status.Status.{Status}
@@ -40,18 +40,22 @@ growth_answers input sys growth whole grown = (
   (
     growth.sys,
     subst (IsWholeSystem input) (sym grown.same) whole,
-    record {
-      sequence = growth.tiles;
-      legal = grown.legal;
-      inside = grown.fits.sites;
-      closed = grown.closed;
-      outside = growth.outside;
-      least = grown.least;
-      printed = refl;
-      answer = refl;
-    },
+    (
+      grown.tiles,
+      record {
+        full = grown.full;
+        text_of = record {
+          order = growth.order;
+          canonical = grown.canonical;
+          outside = growth.outside;
+          least = grown.least;
+          printed = refl;
+          answer = refl;
+        };
+      },
+    ),
   ),
-  record { tiles = grown.fits.types; outside = open_type growth.sys growth.tiles growth.outside grown.least },
+  record { order = grown.types; outside = open_type growth.sys grown.tiles growth.outside grown.least },
 )
 
 -- what a command answers to all that was left is its answer to the source

@@ -5,17 +5,32 @@ use Rattle.atam.specs.declared.place.TypeId.{TypeId}
 use Rattle.atam.specs.declared.place.Place.{Place}
 use Rattle.atam.specs.Sites.{InBox}
 use Rattle.atam.specs.TileSystem.{TileSystem}
-use Rattle.atam.specs.Growth.{IsLegal, IsClosedInBox, IsLeastOpenOutside}
+use Rattle.atam.specs.Placements.{HasDistinctSites}
+use Rattle.atam.specs.Growth.{IsProducible, IsClosedInBox, IsLeastOpenOutside}
+use Rattle.atam.specs.Canonical.{IsCanonical}
 use Rattle.seq_text.specs.GrowthLines.{place_lines, closed_line}
 
--- The places of a legal sequence in the box that nothing extends there, in its order, and then what is open outside.
--- It is a yes where nothing is.
-pub record IsGrowthText (sys : TileSystem) (is_yes : Bool) (text : List ℕ) : Type 0 where
-  pub sequence : List Place
-  pub legal : IsLegal sys sequence
-  pub inside : All (λ p. InBox sys.area p.site) sequence
-  pub closed : IsClosedInBox sys sequence
+-- a producible assembly in the box that nothing extends there
+pub record IsFullGrowth (sys : TileSystem) (tiles : List Place) : Type 0 where
+  pub distinct : HasDistinctSites tiles
+  pub inside : All (λ p. InBox sys.area p.site) tiles
+  pub producible : IsProducible sys tiles
+  pub closed : IsClosedInBox sys tiles
+
+-- The places of the assembly in canonical order, and then what is open outside the box. It is a yes where nothing is.
+pub record IsGrowthText (sys : TileSystem) (tiles : List Place) (is_yes : Bool) (text : List ℕ) : Type 0 where
+  pub order : List Place
+  pub canonical : IsCanonical sys tiles order
   pub outside : Option (Site × TypeId)
-  pub least : IsLeastOpenOutside sys sequence outside
-  pub printed : text ≡ place_lines sys sequence ++ closed_line sys outside
+  pub least : IsLeastOpenOutside sys tiles outside
+  pub printed : text ≡ place_lines sys order ++ closed_line sys outside
   pub answer : is_yes ≡ is_none outside
+
+-- the growth text of this assembly
+pub record IsGrowthOf (sys : TileSystem) (tiles : List Place) (is_yes : Bool) (text : List ℕ) : Type 0 where
+  pub full : IsFullGrowth sys tiles
+  pub text_of : IsGrowthText sys tiles is_yes text
+
+-- the growth text of some assembly
+abbrev pub IsGrowthAnswer : TileSystem → Bool → List ℕ → Type 0
+IsGrowthAnswer sys is_yes text = (tiles : List Place) × IsGrowthOf sys tiles is_yes text

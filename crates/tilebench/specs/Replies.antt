@@ -18,7 +18,7 @@ use Rattle.tilebench.specs.declared.words.Command.{Command}
 use Rattle.tilebench.specs.declared.words.Command.TheVariants.{Grow, Format}
 use Rattle.tilebench.specs.declared.words.WordsStop.{WordsStop}
 use Rattle.tilebench.specs.Commands.{command_of, refused_words}
-use Rattle.tilebench.specs.GrowthText.{IsGrowthText}
+use Rattle.tilebench.specs.GrowthText.{IsGrowthAnswer}
 
 -- the start of an input
 abbrev pub first_mark : Mark
@@ -47,7 +47,7 @@ refused_text fault = line_of (codes "refused" ∷ codes "text" ∷ codes "line" 
 
 -- what a command answers to an input, and whether it is a yes
 abbrev pub Answers : Command → List ℕ → Bool → List ℕ → Type 0
-Answers Grow input is_yes text = (sys : TileSystem) × IsWholeSystem input sys × IsGrowthText sys is_yes text
+Answers Grow input is_yes text = (sys : TileSystem) × IsWholeSystem input sys × IsGrowthAnswer sys is_yes text
 Answers Format input is_yes text = (sys : TileSystem) × IsWholeSystem input sys × (text ≡ spelling sys) × (is_yes ≡ true)
 
 -- the first fault of an input for a command

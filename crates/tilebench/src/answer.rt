@@ -1,27 +1,17 @@
 // From words and a source to an answer, all of it in memory before anything is written.
-ghost use Rattle.std.specs.Prelude.{◌≡◌, ◌≤◌, length, map, string_bytes, IfOk, IsErr};
+ghost use Rattle.std.specs.Prelude.{◌≡◌, ◌≤◌, length, map, string_bytes, IsErr};
 ghost use Rattle.tile_io.specs.declared.whole.TheConstants.{MOST_INPUT};
 ghost use Rattle.tilebench.specs.Commands.{command_of};
-ghost use Rattle.tilebench.specs.AnswerText.{IsGrownFrom, is_yes};
+ghost use Rattle.tilebench.specs.AnswerText.{is_yes};
 ghost use Rattle.tilebench.specs.Stops.{ReadsInput, ReadsAlone, AnswersInput, AnswersCommand, AnswersWords};
 
-use crate::growth::grow;
-use crate::place_list::PlaceList;
+use crate::growth_order::{Growth, growth_of};
 use crate::stop::Stop;
 use crate::words::{Command, command_of};
-use attach_rule::least_open_outside;
 use std::alloc::Global;
 use tile_io::{Cause, Mark, ReadStop, Source, TextFault, TextStop, check_rest, read_whole};
-use tile_system::{NoMemory, Site, System, TypeId};
+use tile_system::System;
 use tile_text::read_system;
-
-/// What a system grew into, and what is open outside its box.
-#[derive(Drop)]
-pub struct Growth {
-    pub sys: System,
-    pub tiles: PlaceList,
-    pub outside: Option<(Site, TypeId)>,
-}
 
 /// What a command answers.
 #[derive(Drop)]
@@ -107,19 +97,6 @@ fn input_answer(alloc: Global, command: Command, input: &[u8]) -> Result<Answer,
         },
         Command::Format => Ok(Answer::Spelling(sys)),
     }
-}
-
-// What a system grows into.
-fn growth_of(alloc: Global, sys: System) -> Result<Growth, NoMemory>
-    ensures { IfOk result (IsGrownFrom sys) }
-{
-    let tiles = grow(&sys, alloc)?;
-    let outside = least_open_outside(&sys, &tiles);
-    Ok(Growth {
-        sys,
-        tiles,
-        outside,
-    })
 }
 
 // The system whose text the input is.

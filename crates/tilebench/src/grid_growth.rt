@@ -2,7 +2,7 @@
 ghost use Rattle.std.specs.Prelude.{◌≡◌, ◌<◌, [], ◌∷◌, ◌++◌, None, All, Contains, OnOk, IfOk};
 ghost use Rattle.atam.specs.declared.site.Site.{Site};
 ghost use Rattle.atam.specs.Sites.{InBox, IsBox, IsNearSite};
-ghost use Rattle.atam.specs.Placements.{SamePlacements, tile_at};
+ghost use Rattle.atam.specs.Placements.{tile_at};
 ghost use Rattle.atam.specs.Assembly.{Fits};
 ghost use Rattle.atam.specs.Growth.{IsClosedInBox, IsLegal};
 ghost use Rattle.tilebench.specs.GridGrowing.{IsInStep, IsGrownSoFar, IsClosedBut, AddsSite, AddsNeighbors, LooksAt};
@@ -115,8 +115,7 @@ pub(crate) fn grow_grid(alloc: Global, sys: &System) -> Result<GridGrowth, NoMem
     ensures fits { IfOk result (λ growth. Fits sys.now growth.sequence) }
     ensures closed { IfOk result (λ growth. IsClosedInBox sys.now growth.sequence) }
     ensures area { IfOk result (λ growth. growth.grid.area ≡ sys.now.area) }
-    ensures placements { IfOk result (λ growth.
-        SamePlacements growth.sequence growth.grid.tiles) }
+    ensures step { IfOk result IsInStep }
 {
     let mut growth = start_grid(alloc, sys)?;
     let mut sites = all_sites(alloc, sys.area())?;

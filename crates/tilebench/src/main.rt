@@ -3,7 +3,10 @@
 
 mod answer;
 mod grid_growth;
-mod growth;
+mod growth_order;
+#[cfg(test)]
+mod list_growth;
+#[cfg(test)]
 mod place_list;
 mod status;
 mod stop;

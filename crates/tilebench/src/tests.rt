@@ -1,11 +1,15 @@
 // Worked examples, run over memory.
 ghost use Rattle.std.specs.Prelude.{◌≤◌};
 
+use crate::grid_growth::grow_grid;
+use crate::list_growth;
 use crate::{Status, tilebench};
 use std::alloc::Global;
 use std::test::Fail;
 use std::thread::Threads;
-use tile_io::{MemorySink, MemorySource, OpenGate};
+use tile_io::{Mark, MemorySink, MemorySource, OpenGate};
+use tile_system::{Placed, System};
+use tile_text::read_system;
 
 const CHAIN: &str = "tiles 1\ntau 2\nglue a 2\nglue b 2\ntile S - a - -\ntile B - b - a\n\
     tile C - - - b\nbox 0 0 2 0\nseed 0 0 S\nend\n";
@@ -150,6 +154,39 @@ fn names_the_least_open_site_outside(rt: HostRuntime) -> Result<(), Fail> {
         let ran = grown(&rt, rt.alloc(), text.as_str())?;
         assert_eq!(rt; ran.status, Status::No, "{sides}");
         assert_eq!(rt; ran.out.as_slice(), out.as_bytes(), "{sides}");
+    }
+    Ok(())
+}
+
+// The system whose text this is, or a failure.
+#[tactic(auto, using(tile_io::proofs::Progress::start_is_mark))]
+fn system_of(alloc: Global, text: &str) -> Result<System, Fail> {
+    let text = text.as_bytes();
+    if text.len() > 67108864 {
+        return Err("too long").map_err(Fail::from);
+    }
+    let (sys, _) = read_system(alloc, text, Mark::start())?;
+    Ok(sys)
+}
+
+// The plain growth over a list and the growth over a grid place the same tiles.
+#[test]
+fn grows_the_same_over_a_list(rt: HostRuntime) -> Result<(), Fail> {
+    for text in [
+        SINGLE,
+        CHAIN,
+        "tiles 1\ntau 2\nglue 0 1\nglue 1 1\nglue h 2\nglue v 2\ntile S v h - -\n\
+         tile B 1 h - h\ntile L v 1 v -\ntile r00 0 0 0 0\ntile r01 1 1 1 0\n\
+         tile r10 1 1 0 1\ntile r11 0 0 1 1\nbox 0 0 7 7\nseed 0 0 S\nend\n",
+    ] {
+        let alloc = rt.alloc();
+        let sys = system_of(alloc, text)?;
+        let list = list_growth::grow(&sys, alloc)?;
+        let growth = grow_grid(alloc, &sys)?;
+        assert_eq!(rt; list.places().len(), growth.grid.count() as usize, "{text}");
+        for place in list.places() {
+            assert_eq!(rt; growth.grid.at(place.site), Some(place.tile), "{text}");
+        }
     }
     Ok(())
 }

@@ -7,7 +7,8 @@ ghost use Rattle.tilebench.specs.Replies.{IsAnswer, IsWordsRefusal, IsTextRefusa
 ghost use Rattle.tilebench.specs.Statuses.{IsAnswered, Writes, answer_status, written_status};
 ghost use Rattle.tilebench.specs.AnswerText.{growth_text, answer_text, is_yes, HasTypes, IsPrintable};
 
-use crate::answer::{Answer, Growth, answer_to};
+use crate::answer::{Answer, answer_to};
+use crate::growth_order::Growth;
 use crate::status::{Ran, Status};
 use crate::stop::Stop;
 use crate::words::WordsStop;
@@ -118,7 +119,7 @@ fn print_growth<K: Sink>(growth: &Growth, out: &mut K) -> Result<(), Failed>
     ensures { Prints (K.written out.old) (K.written out.new) (K.faults out.old) (K.faults out.new) result
         (growth_text growth.now) }
 {
-    print_places(&growth.sys, growth.tiles.places(), out)?;
+    print_places(&growth.sys, growth.order.as_slice(), out)?;
     print_closed(&growth.sys, growth.outside, out)
 }
 

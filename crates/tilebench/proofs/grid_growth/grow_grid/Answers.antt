@@ -51,5 +51,5 @@ returns c =
           let never : ⊥ = omega (arith, listed.1, none) in
           never;
       area = invariant.grown.area;
-      placements = invariant.grown.step.placements;
+      step = invariant.grown.step;
     }

@@ -7,4 +7,4 @@ use Rattle.tilebench.proofs.top.print_growth.Goals as goal
 pub returns : goal.returns
 returns g c =
     let lines : List Place → List ℕ = λ places. place_lines c.args.growth.now.sys places in
-    Prints-then c.print_closed.result (Prints-text (ap lines c.places.ensures) c.in_ok-print_places.ensures) c.print_closed.ensures
+    Prints-then c.print_closed.result (Prints-text (ap lines c.as_slice.ensures) c.in_ok-print_places.ensures) c.print_closed.ensures

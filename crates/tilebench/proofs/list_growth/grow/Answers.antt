@@ -6,7 +6,7 @@ use Rattle.atam.specs.Assembly.{Fits}
 use Rattle.atam.specs.Growth.{IsLegal}
 use Rattle.atam.proofs.Sequences.{IsLegal-push, Fits-push}
 use Rattle.atam.proofs.Count.{count_in_box}
-use Rattle.tilebench.proofs.growth.grow.Goals as goal
+use Rattle.tilebench.proofs.list_growth.grow.Goals as goal
 
 -- the tile that was found is added
 pub loop-site-preserved : goal.loop-site-preserved

@@ -1,5 +1,5 @@
 use Rattle.std.proofs.Common.{◌≡◌, take}
-use Rattle.tilebench.proofs.growth.start.Given as goal
+use Rattle.tilebench.proofs.list_growth.start.Given as goal
 
 -- the seeds so far
 abbrev pub invariant-loop-index : goal.invariant-loop-index

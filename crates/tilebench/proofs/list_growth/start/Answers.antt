@@ -3,7 +3,7 @@ use Rattle.std.proofs.lemmas.Option.{slice_get-get_or}
 use Rattle.atam.specs.declared.place.Place.{Place}
 use Rattle.atam.specs.Placements.{tile_at}
 use Rattle.atam.proofs.Placements.{distinct-empty}
-use Rattle.tilebench.proofs.growth.start.Goals as goal
+use Rattle.tilebench.proofs.list_growth.start.Goals as goal
 
 -- no other seed has the site
 pub push-requires : goal.push-requires

@@ -2,7 +2,7 @@ use Rattle.std.proofs.Common.{◌*◌, ◌-◌, length}
 use Rattle.atam.specs.Sites.{width_of, height_of}
 use Rattle.atam.specs.Assembly.{Fits}
 use Rattle.atam.specs.Growth.{IsLegal}
-use Rattle.tilebench.proofs.growth.grow.Given as goal
+use Rattle.tilebench.proofs.list_growth.grow.Given as goal
 
 abbrev pub invariant-loop-site : goal.invariant-loop-site
 invariant-loop-site l = IsLegal l.sys l.tiles × Fits l.sys l.tiles
