@@ -1,5 +1,5 @@
 // Two rows of three tiles, replayed and judged.
-ghost use Rattle.std.specs.Prelude.{◌≡◌, ◌<◌, ◌^◌, length, IfOk, IfSome};
+ghost use Rattle.std.specs.Prelude.{◌≡◌, ◌<◌, ◌≤◌, ◌+◌, ◌^◌, length, IfOk, IfSome, OnOk};
 ghost use Rattle.atam.specs.Sites.{InBox};
 ghost use Rattle.atam.specs.TileSystem.{IsType};
 ghost use Rattle.atam.specs.Assembly.{Fits};
@@ -51,6 +51,15 @@ const PLACES: [(i32, i32, u32); 6] = [
     (2, 1, 5),
 ];
 
+const REVERSED: [(i32, i32, u32); 6] = [
+    (2, 1, 5),
+    (1, 1, 4),
+    (0, 1, 3),
+    (2, 0, 2),
+    (1, 0, 1),
+    (0, 0, 0),
+];
+
 fn two_rows(alloc: Global) -> Result<System, BuildStop> {
     let mut draft = SystemBuilder::make(alloc, 2)?;
     for (name, strength) in GLUES {
@@ -71,6 +80,7 @@ fn two_rows(alloc: Global) -> Result<System, BuildStop> {
 fn fitting_place(sys: &System, place: (i32, i32, u32)) -> Option<Place>
     ensures kind { IfSome result (λ place. IsType sys.now place.tile) }
     ensures inside { IfSome result (λ place. InBox sys.now.area place.site) }
+    ensures small { IfSome result (λ place. place.tile.0 < 16384) }
 {
     let (x, y, tile) = place;
     let site = Site { x, y };
@@ -84,13 +94,13 @@ fn fitting_place(sys: &System, place: (i32, i32, u32)) -> Option<Place>
     }
 }
 
-// A grid with these places, put from the last to the first.
+// A grid with these places.
 fn grid_of(alloc: Global, sys: &System, places: &[(i32, i32, u32)]) -> Result<Grid, NoMemory>
     ensures area { IfOk result (λ grid. grid.area ≡ sys.now.area) }
     ensures fits { IfOk result (λ grid. Fits sys.now grid.tiles) }
 {
     let mut grid = Grid::make(alloc, sys.area())?;
-    for place in places.iter().rev() {
+    for place in places {
         put_fitting(sys, &mut grid, *place);
     }
     Ok(grid)
@@ -121,17 +131,27 @@ fn sequence_of(
 {
     let mut order = Sequence::make(alloc);
     for place in places {
-        if let Some(place) = fitting_place(sys, *place) {
-            order.push(place)?;
-        }
+        push_fitting(sys, &mut order, *place)?;
     }
     Ok(order)
+}
+
+// Lists a place where it fits.
+fn push_fitting(sys: &System, order: &mut Sequence, place: (i32, i32, u32)) -> Result<(), NoMemory>
+    requires { Fits sys.now order.old }
+    ensures fits { OnOk result (Fits sys.now order.new) }
+    ensures few { length order.new ≤ length order.old + 1 }
+{
+    match fitting_place(sys, place) {
+        Some(place) => order.push(place),
+        None => Ok(()),
+    }
 }
 
 #[test]
 fn replays_in_canonical_order(rt: HostRuntime) -> Result<(), Fail> {
     let sys = two_rows(rt.alloc())?;
-    let grid = grid_of(rt.alloc(), &sys, &PLACES)?;
+    let grid = grid_of(rt.alloc(), &sys, &REVERSED)?;
     let order = replay(rt.alloc(), &sys, &grid)?;
     assert_eq!(rt; order.len(), 6);
     for (found, place) in order.as_slice().iter().zip(PLACES) {
