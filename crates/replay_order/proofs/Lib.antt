@@ -5,3 +5,4 @@ pub mod Rests
 pub mod Begun
 pub mod Ended
 pub mod Sequences
+pub mod Fitting

@@ -59,8 +59,7 @@ near_beside area m West limits inside = record {
 -- the tile at a site of an assembly that fits
 pub Fits-tile : (sys : TileSystem) (tiles : List Place) (m : Site) (t : TypeId) → Fits sys tiles → tile_at tiles m ≡ Some t → IsType sys t × InBox sys.area m
 Fits-tile sys tiles m t fits found =
-    let q = tile_at-place tiles m t found in
-    (
+    let q = tile_at-place tiles m t found in (
       subst (λ u. IsType sys u) q.4 (All-slice_get (λ p. IsType sys p.tile) tiles q.0 q.1 fits.types q.2),
       subst (λ n. InBox sys.area n) q.3 (All-slice_get (λ p. InBox sys.area p.site) tiles q.0 q.1 fits.sites q.2),
     )

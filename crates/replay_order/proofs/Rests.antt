@@ -70,7 +70,6 @@ least_left-some area tiles s n m wide before here left = record {
       ];
 }
 
-
 -- what two looks at a site tell
 pub left_from : (tiles s : List Place) (m : Site) (o q : Option TypeId) → o ≡ tile_at tiles m → q ≡ tile_at s m → is_some o ≡ true → is_some q ≡ false → IsLeftAt tiles s m
 left_from tiles s m None q at_tiles at_s some none = absurd (true≢false (sym some))

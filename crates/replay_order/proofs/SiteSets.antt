@@ -80,8 +80,7 @@ site_added old new k updates m = elim (same_site_tells k m) [
     λ either. has_site-Contains new m (updates m ∙ ap (λ b. cond b true (has_site old m)) (subst (λ q. is_at (site_cmp k) q ≡ true) same.1 (at_itself k))),
   )
   | inr differ ↦
-      let same : has_site new m ≡ has_site old m = updates m ∙ ap (λ b. cond b true (has_site old m)) (at_other k m differ.1) in
-      (
+      let same : has_site new m ≡ has_site old m = updates m ∙ ap (λ b. cond b true (has_site old m)) (at_other k m differ.1) in (
         λ contains. inl (has_site-Contains old m (sym same ∙ Contains-has_site new m contains)),
         λ either. elim either [
           | inl before ↦ has_site-Contains new m (same ∙ Contains-has_site old m before)
@@ -95,14 +94,12 @@ pub site_removed : (old new : List Site) (k : Site) → ((q : Site) → has_site
     (m : Site) → Contains new m ↔ (Contains old m × (m ≢ k))
 site_removed old new k updates m = elim (same_site_tells k m) [
   | inl same ↦
-      let none : has_site new m ≡ false = updates m ∙ ap (λ b. cond b false (has_site old m)) (subst (λ q. is_at (site_cmp k) q ≡ true) same.1 (at_itself k)) in
-      (
+      let none : has_site new m ≡ false = updates m ∙ ap (λ b. cond b false (has_site old m)) (subst (λ q. is_at (site_cmp k) q ≡ true) same.1 (at_itself k)) in (
         λ contains. absurd (true≢false (sym (Contains-has_site new m contains) ∙ none)),
         λ both. absurd (both.1 (sym same.1)),
       )
   | inr differ ↦
-      let same : has_site new m ≡ has_site old m = updates m ∙ ap (λ b. cond b false (has_site old m)) (at_other k m differ.1) in
-      (
+      let same : has_site new m ≡ has_site old m = updates m ∙ ap (λ b. cond b false (has_site old m)) (at_other k m differ.1) in (
         λ contains. (has_site-Contains old m (sym same ∙ Contains-has_site new m contains), λ one. differ.1 (sym one)),
         λ both. has_site-Contains new m (same ∙ Contains-has_site old m both.0),
       )

@@ -10,7 +10,8 @@ use assembly::{Grid, Sequence};
 use attach_rule::pull;
 use tile_system::{Placed, System};
 
-/// Whether a sequence is legal, and else the first place that is not.
+/// Whether a sequence is legal, and else what breaks legality first.
+/// An index is that of a place, from 0; it is at least the number of seeds.
 #[derive(Debug, Clone, Copy, PartialEq, Eq)]
 pub enum Legality {
     Legal,
@@ -19,8 +20,9 @@ pub enum Legality {
     TooWeak { index: u32, pull: u32 },
 }
 
-/// Puts the places of the sequence into an empty grid, as long as they are legal.
-/// It takes no memory.
+/// Puts the places of the sequence into an empty grid, as long as they are legal. A place at a
+/// taken site is reported as such, however weak its pull is.
+/// It takes no memory, and looks at each place once.
 pub fn check_legal(sys: &System, seq: &Sequence, scratch: &mut Grid) -> Legality
     requires area { scratch.old.area ≡ sys.now.area }
     requires empty { scratch.old.tiles ≡ [] }
@@ -36,19 +38,14 @@ pub fn check_legal(sys: &System, seq: &Sequence, scratch: &mut Grid) -> Legality
         return Legality::WrongSeed;
     }
     put_seeds(sys, scratch);
-    for index in sys.seeds().len()..seq.len() {
-        let place = seq.get(index);
+    for index in sys.seeds().len() as u32..seq.len() as u32 {
+        let place = seq.get(index as usize);
         if scratch.at(place.site).is_some() {
-            return Legality::SiteTaken {
-                index: index as u32,
-            };
+            return Legality::SiteTaken { index };
         }
         let pull = pull(sys, scratch, place.site, place.tile);
         if pull < tau {
-            return Legality::TooWeak {
-                index: index as u32,
-                pull,
-            };
+            return Legality::TooWeak { index, pull };
         }
         scratch.put(place);
     }

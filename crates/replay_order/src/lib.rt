@@ -8,6 +8,9 @@ mod ready_set;
 mod rest;
 mod stop;
 
-pub use legal::{check_legal, Legality};
 pub use canonical::replay;
+pub use legal::{Legality, check_legal};
 pub use stop::ReplayStop;
+
+#[cfg(test)]
+mod tests;

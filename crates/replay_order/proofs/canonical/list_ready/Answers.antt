@@ -45,8 +45,8 @@ loop-site-preserved c =
     record {
       area = c.in_ok-list_place.ensures.area ∙ c.loop-site.invariant.area;
       begun = subst (IsBegun sys tiles) (sym c.in_ok-list_place.ensures.listed) (
-      begun_push sys tiles s c.loop-site.invariant.begun c.requires.distinct c.loop-site.ready c.loop-site.invariant.ready p placed c.in-Some.ensures.member c.in-Some.ensures.least
-      );
+          begun_push sys tiles s c.loop-site.invariant.begun c.requires.distinct c.loop-site.ready c.loop-site.invariant.ready p placed c.in-Some.ensures.member c.in-Some.ensures.least
+          );
       ready = c.in_ok-list_place.ensures.ready;
     }
 

@@ -12,5 +12,5 @@ loop-seed-preserved c =
     record {
       area = c.put.ensures.area ∙ c.loop-seed.invariant.area;
       placed = SamePlacements-more c.seeds-seed-items.result.now c.loop-seed.seed-index _ c.loop-seed.scratch.tiles c.put.new.self.tiles (slice_get-get_or c.seeds-seed-items.result.now c.loop-seed.seed-index _ c.loop-seed-test.true)
-      c.loop-seed.invariant.placed c.put.ensures.placements;
+          c.loop-seed.invariant.placed c.put.ensures.placements;
     }
