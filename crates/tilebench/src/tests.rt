@@ -2,8 +2,7 @@
 ghost use Rattle.std.specs.Prelude.{◌≤◌};
 
 use crate::grid_growth::grow_grid;
-use crate::list_growth;
-use crate::{Status, tilebench};
+use crate::{Status, list_growth, tilebench};
 use std::alloc::Global;
 use std::test::Fail;
 use std::thread::Threads;
