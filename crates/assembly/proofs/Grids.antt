@@ -1,5 +1,5 @@
 -- The tiles of a grid's words.
-use Rattle.std.proofs.Common.{◌≡◌, ◌≢◌, ◌<◌, ◌≤◌, ◌+◌, ◌-◌, ◌==◌, ℕ, false, true, if◌then◌else◌, cond, not, List, [], ◌∷◌, ◌++◌, length, get_or, set, count_by, Some, None, All, sym, ◌∙◌, ap, subst, inl, inr, arith}
+use Rattle.std.proofs.Common.{◌≡◌, ◌≢◌, ◌<◌, ◌≤◌, ◌+◌, ◌-◌, ◌==◌, ℕ, false, cond, not, List, [], ◌∷◌, ◌++◌, length, get_or, set, count_by, Some, None, All, sym, ◌∙◌, ap, subst, inl, inr, arith}
 use Rattle.std.proofs.lemmas.Bool.{cases_Bool}
 use Rattle.std.proofs.lemmas.Bool.Decides.{nat_tests}
 use Rattle.std.proofs.lemmas.List.{get_or-set_same, length-set}
@@ -11,9 +11,9 @@ use Rattle.atam.specs.declared.place.Place.{Place}
 use Rattle.atam.specs.declared.area.BoxArea.{BoxArea}
 use Rattle.atam.specs.Sites.{InBox}
 use Rattle.atam.specs.Placements.{HasDistinctSites, SamePlacements, tile_at}
-use Rattle.assembly.specs.Cells.{cell_count, site_at}
+use Rattle.assembly.specs.Cells.{site_at}
 use Rattle.assembly.specs.Grids.{IsGrid, is_tile, places_of}
-use Rattle.assembly.proofs.Cells.{index_of, site_at-injective, site_at-inside, cell_count-most}
+use Rattle.assembly.proofs.Cells.{site_at-injective, site_at-inside, cell_count-most}
 use Rattle.assembly.specs.Filling.{filled_word}
 use Rattle.assembly.proofs.Tiles.{SameTiles, SamePlacements-put, SamePlacements-merge}
 use Rattle.assembly.proofs.Words.{type_in, type_in-tile, length-places, All-places, places-distinct, tile_at-cell, tile_at-outside, tile_at-set_other, tile_at-merged}

@@ -1,5 +1,6 @@
 pub mod Cells
 pub mod Tiles
 pub mod Words
+pub mod Opening
 pub mod Grids
 pub mod Filling

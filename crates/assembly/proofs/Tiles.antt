@@ -1,12 +1,12 @@
 -- What stands at each site of two assemblies, and their placements.
-use Rattle.std.proofs.Common.{◌≡◌, ◌≢◌, ◌⊎◌, ◌++◌, List, [], ◌∷◌, Option, Some, None, Contains, refl, sym, ◌∙◌, ap, subst, inl, inr}
-use Rattle.std.proofs.lemmas.List.Elements.{Contains-append_cases}
+use Rattle.std.proofs.Common.{◌≡◌, ◌≢◌, ◌++◌, List, [], ◌∷◌, Some, None, Contains, refl, sym, ◌∙◌, ap, subst, inl, inr, arith}
+use Rattle.std.proofs.lemmas.List.Elements.{Contains-append_cases, Contains-append_left, Contains-append_right}
 use Rattle.atam.specs.declared.site.Site.{Site}
 use Rattle.atam.specs.declared.place.TypeId.{TypeId}
 use Rattle.atam.specs.declared.place.Place.{Place}
 use Rattle.atam.specs.Placements.{HasDistinctSites, IsPartOf, SamePlacements, tile_at}
 use Rattle.atam.proofs.Boxes.{same_site_tells}
-use Rattle.atam.proofs.Lists.{some_or_none}
+use Rattle.atam.proofs.Lists.{some_or_none, Contains-push}
 use Rattle.atam.proofs.Placements.{Contains-tile_at, tile_at-Contains, tile_at-here, tile_at-past, tile_at-append, tile_at-append_past, IsPartOf-Extends, HasDistinctSites-push}
 
 -- one type or none stands at each site of both
@@ -74,3 +74,22 @@ SamePlacements-merge a b c distinct_a distinct_b distinct_c agree same =
       part = λ p contains. elim (Contains-append_cases a b p contains) [ inl in_a ↦ from_a p in_a | inr in_b ↦ from_b p in_b ];
       whole = λ p contains. tile_at-Contains (a ++ b) p.site p.tile (sym (same p.site) ∙ Contains-tile_at c p distinct_c contains);
     }
+
+pub IsPartOf-push : (a b : List Place) (p : Place) → IsPartOf a b → IsPartOf (a ++ p ∷ []) (b ++ p ∷ [])
+IsPartOf-push a b p part q contains = elim (Contains-push a p q contains) [
+  | inl in_a ↦ Contains-append_left b (p ∷ []) q (part q in_a)
+  | inr new ↦ subst (Contains (b ++ p ∷ [])) new (Contains-append_right b (p ∷ []) p (0, omega arith, refl))
+]
+
+-- one assembly is one assembly with more tiles
+pub SamePlacements-push : (a b : List Place) (p : Place) → SamePlacements a b → SamePlacements (a ++ p ∷ []) (b ++ p ∷ [])
+SamePlacements-push a b p same = record {
+  part = IsPartOf-push a b p same.part;
+  whole = IsPartOf-push b a p same.whole;
+}
+
+pub SamePlacements-trans : (a b c : List Place) → SamePlacements a b → SamePlacements b c → SamePlacements a c
+SamePlacements-trans a b c first second = record {
+  part = λ p in_a. second.part p (first.part p in_a);
+  whole = λ p in_c. first.whole p (second.whole p in_c);
+}

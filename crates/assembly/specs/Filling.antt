@@ -1,5 +1,5 @@
 -- Words that fill the gaps of others.
-use Rattle.std.specs.Prelude.{◌≡◌, ℕ, ◌+◌, ◌<◌, ◌≤◌, ◌==◌, List, if◌then◌else◌, slice_index, length, count_by}
+use Rattle.std.specs.Prelude.{◌≡◌, ℕ, ◌+◌, ◌<◌, ◌≤◌, ◌==◌, List, if◌then◌else◌, slice_index, count_by}
 use Rattle.assembly.specs.Grids.{is_tile}
 
 -- the word of another list where there was none

@@ -1,11 +1,10 @@
 -- A box with the tiles in it, and the words that stand for them.
 use Rattle.std.specs.Prelude.{◌≡◌, ℕ, suc, ◌-◌, ◌==◌, not, Bool, List, [], ◌∷◌, ◌++◌, if◌then◌else◌, length, count_by}
 use Rattle.atam.specs.declared.site.Site.{Site}
-use Rattle.atam.specs.declared.place.TypeId.{TypeId}
 use Rattle.atam.specs.declared.place.Place.{Place}
 use Rattle.atam.specs.declared.area.BoxArea.{BoxArea}
 use Rattle.atam.specs.Sites.{IsBox}
-use Rattle.assembly.specs.Cells.{cell_count, site_at}
+use Rattle.assembly.specs.Cells.{cell_count}
 
 -- the tiles in the order of their sites
 pub record TileGrid : Type 0 where

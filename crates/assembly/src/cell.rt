@@ -16,3 +16,14 @@ pub fn site_index(area: &BoxArea, site: Site) -> usize
     let row = (site.y - area.y0) as usize;
     row * area.width() as usize + column
 }
+
+/// The site of the box with this number.
+pub fn site_of_index(area: &BoxArea, index: usize) -> Site
+    requires limits { IsBox area.now }
+    requires within { index < cell_count area.now }
+    ensures site { result ≡ site_at area.now index }
+    ensures inside { InBox area.now result }
+{
+    let width = area.width() as usize;
+    area.site((index % width) as u32, (index / width) as u32)
+}

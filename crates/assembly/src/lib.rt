@@ -5,7 +5,7 @@ mod cell;
 mod grid;
 mod sequence;
 
-pub use cell::site_index;
+pub use cell::{site_index, site_of_index};
 pub use grid::Grid;
 pub use sequence::Sequence;
 

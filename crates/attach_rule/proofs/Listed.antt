@@ -21,7 +21,7 @@ pub record AreCandidatesBelow (sys : TileSystem) (tiles : List Place) (m : Site)
 
 module _ (sys : TileSystem) (tiles : List Place) (m : Site) where
   pub candidates_none : (types : List TypeId) → types ≡ [] → AreCandidatesBelow sys tiles m 0 types
-  candidates_none types empty = 
+  candidates_none types empty =
       let Candidates : List TypeId → Type 0 = AreCandidatesBelow sys tiles m 0 in
       subst Candidates (sym empty) (record {
         sorted = λ i j d less within. let never : ⊥ = omega (arith, within) in absurd never;

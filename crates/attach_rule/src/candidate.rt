@@ -4,8 +4,8 @@ ghost use Rattle.atam.specs.Sites.{IsNearSite};
 ghost use Rattle.atam.specs.Assembly.{Fits};
 ghost use Rattle.attach_rule.specs.Candidates.{AreCandidates};
 
-use crate::facing::{glues_facing, hold};
 use crate::TypeList;
+use crate::facing::{glues_facing, hold};
 use tile_system::{Placed, Site, System, TypeId};
 
 /// Lists all types that attach at the site. It takes no memory.

@@ -13,3 +13,6 @@ pub use candidate::candidates;
 pub use inside::{closed_in_box, least_open_inside};
 pub use outside::least_open_outside;
 pub use type_list::TypeList;
+
+#[cfg(test)]
+mod tests;

@@ -1,12 +1,9 @@
 -- From what was read to the reply, and from the reply to the clauses of the top call.
-use Rattle.std.proofs.Common.{◌≡◌, ◌⊎◌, ◌<◌, ◌≤◌, ◌+◌, ◌++◌, ◌∙◌, ℕ, Bool, true, false, List, [], length, Option, Some, None, Result, Ok, Err, IfSome, refl, sym, ap, subst, arith, inl, inr, append-nil, length-append}
-use Rattle.std.proofs.lemmas.Option.{same_Some}
-use Rattle.std.specs.Io.KnownBytes.{Appends, Consumes, IsAtEnd}
+use Rattle.std.proofs.Common.{◌≡◌, ◌≤◌, ◌+◌, ◌++◌, ◌∙◌, ℕ, Bool, true, false, List, [], length, Option, Some, None, Result, Ok, Err, IfSome, refl, sym, ap, subst, arith, inl, inr, append-nil, length-append}
+use Rattle.std.specs.Io.KnownBytes.{Consumes, IsAtEnd}
 use Rattle.tile_io.specs.declared.fault.TextFault.{TextFault}
-use Rattle.tile_io.specs.declared.mark.Mark.{Mark}
 use Rattle.tile_io.specs.declared.whole.TheConstants.{MOST_INPUT}
 use Rattle.tile_io.specs.Checks.{nothing_more}
-use Rattle.tile_io.specs.Faults.{Rose}
 use Rattle.tile_io.specs.Rest.{HasNoMore}
 use Rattle.tile_io.proofs.Laws.{not_both, reads_once}
 use Rattle.atam.specs.declared.site.Site.{Site}
@@ -24,7 +21,7 @@ use Rattle.tilebench.specs.declared.status.Status.{Status}
 use Rattle.tilebench.specs.declared.status.Status.TheVariants.{Done, No, WriteFault}
 use Rattle.tilebench.specs.Replies.{first_mark, IsWholeSystem, FailsAsSystem, Fails, IsAnswer, IsTextRefusal, CanAnswer, Tells}
 use Rattle.tilebench.specs.Statuses.{Writes, answer_status}
-use Rattle.tilebench.specs.Stops.{GrowsInput, AnswersCommand, IsGrown, is_terminal, growth_text}
+use Rattle.tilebench.specs.Stops.{GrowsInput, AnswersCommand}
 
 -- the type that is open outside is one of the system
 open_type : (sys : TileSystem) (tiles : List Place) (outside : Option (Site × TypeId)) → IsLeastOpenOutside sys tiles outside → IfSome outside (λ found. IsType sys found.1)

@@ -1,5 +1,5 @@
 -- The words of a command line.
-use Rattle.std.specs.Prelude.{ℕ, List, [], ◌∷◌, ◌++◌, codes, bytes_eq, if◌then◌else◌, Result, Ok, Err}
+use Rattle.std.specs.Prelude.{ℕ, List, [], ◌∷◌, codes, bytes_eq, if◌then◌else◌, Result, Ok, Err}
 use Rattle.tilebench.specs.declared.words.Command.{Command}
 use Rattle.tilebench.specs.declared.words.Command.TheVariants.{Grow}
 use Rattle.tilebench.specs.declared.words.WordsStop.{WordsStop}

@@ -3,3 +3,4 @@ pub mod GrowthText
 pub mod Replies
 pub mod Statuses
 pub mod Stops
+pub mod GridGrowing

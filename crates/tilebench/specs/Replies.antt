@@ -1,7 +1,6 @@
 -- What the program has to say to its words and its input.
-use Rattle.std.specs.Prelude.{◌≡◌, ◌⊎◌, ◌<◌, ◌≤◌, ℕ, Bool, List, [], ◌∷◌, length, codes, decimal, Option, Some, Result, Ok, Err}
+use Rattle.std.specs.Prelude.{◌≡◌, ◌⊎◌, ◌<◌, ◌≤◌, ℕ, Bool, List, [], ◌∷◌, length, codes, decimal, Option, Some, Ok, Err}
 use Rattle.std.specs.Io.KnownBytes.{Appends, Consumes, IsAtEnd}
-use Rattle.tile_io.specs.declared.fault.Cause.{Cause}
 use Rattle.tile_io.specs.declared.fault.Cause.TheVariants.{TooLong}
 use Rattle.tile_io.specs.declared.fault.TextFault.{TextFault}
 use Rattle.tile_io.specs.declared.mark.Mark.{Mark}

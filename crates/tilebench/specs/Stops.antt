@@ -1,5 +1,5 @@
 -- What the steps towards an answer hand back: a growth, or why there is none.
-use Rattle.std.specs.Prelude.{◌≡◌, ◌≤◌, ℕ, Bool, is_none, List, ◌++◌, ◌⊎◌, length, Option, Some, Result, Ok, Err, IfSome, All}
+use Rattle.std.specs.Prelude.{◌≡◌, ◌≤◌, ℕ, Bool, is_none, List, ◌++◌, ◌⊎◌, length, Option, Result, Ok, Err, IfSome, All}
 use Rattle.std.specs.Io.KnownBytes.{Consumes, IsAtEnd}
 use Rattle.tile_io.specs.declared.whole.TheConstants.{MOST_INPUT}
 use Rattle.tile_io.specs.Faults.{Rose}

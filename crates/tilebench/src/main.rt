@@ -2,6 +2,7 @@
 #![tactic(auto)]
 
 mod answer;
+mod grid_growth;
 mod growth;
 mod place_list;
 mod status;

@@ -1,5 +1,3 @@
-use Rattle.std.proofs.Common.{◌≡◌, ◌<◌, ◌≤◌, ◌+◌, ◌==◌, ℕ, if◌then◌else◌, slice_index, length, count_by}
-use Rattle.assembly.specs.Grids.{is_tile}
 use Rattle.assembly.specs.Filling.{IsFilledTo}
 use Rattle.assembly.proofs.grid.fill_gaps.Given as goal
 

@@ -23,9 +23,9 @@ returns-then-hold-tau g c =
     let n = c.loop-index.index in
     record {
       grows = grows_held sys tiles c.args.site c.glues_facing-glues.result c.glues_facing-glues.ensures (record { 0 = n }) c.hold.result c.hold.ensures.value
-      (omega (arith, c.type_count-index-end.ensures.count))
-      (empty_from c.at.result _ c.is_some.result c.at.ensures.tile c.is_some.ensures c.if-is_some.false)
-      (omega (arith, c.tau.ensures.tau));
+          (omega (arith, c.type_count-index-end.ensures.count))
+          (empty_from c.at.result _ c.is_some.result c.at.ensures.tile c.is_some.ensures c.if-is_some.false)
+          (omega (arith, c.tau.ensures.tau));
       least = λ u grows. elim (cases_lt u.0 n) [ inl earlier ↦ absurd (c.loop-index.invariant u earlier grows) | inr rest ↦ rest ];
     }
 

@@ -1,4 +1,4 @@
-use Rattle.std.proofs.Common.{◌≡◌, ◌<◌, ◌≤◌, ◌+◌, ◌∙◌, ◌++◌, ℕ, List, length, get_or, take, drop, Some, count_by, ap, sym, subst, arith}
+use Rattle.std.proofs.Common.{◌≡◌, ◌<◌, ◌∙◌, ◌++◌, ℕ, List, length, get_or, take, drop, Some, count_by, ap, sym, subst, arith}
 use Rattle.std.proofs.lemmas.List.{take_at}
 use Rattle.std.proofs.lemmas.List.Sums.{count_by-le-length}
 use Rattle.atam.specs.declared.area.BoxArea.{BoxArea}
@@ -21,8 +21,15 @@ overflow_add-self c =
     let grid = c.self.invariant in
     let before : count_by is_tile c.as_mut_slice.result.now ≡ count_by is_tile words = ap (count_by is_tile) c.as_mut_slice.ensures.value in
     omega (
-      arith, count_by-le-length is_tile new, cell_count-most c.self.inside.area grid.box_limits, grid.cells, grid.counted,
-      before, c.fill_gaps.ensures.count, c.fill_gaps.auto.words, ap length c.as_mut_slice.ensures.value,
+      arith,
+      count_by-le-length is_tile new,
+      cell_count-most c.self.inside.area grid.box_limits,
+      grid.cells,
+      grid.counted,
+      before,
+      c.fill_gaps.ensures.count,
+      c.fill_gaps.auto.words,
+      ap length c.as_mut_slice.ensures.value,
     )
 
 -- what the words that were filled stand for

@@ -1,4 +1,4 @@
-use Rattle.std.proofs.Common.{◌<◌, length, ap, sym, subst, arith}
+use Rattle.std.proofs.Common.{◌<◌, length, ap, arith}
 use Rattle.assembly.proofs.Grids.{count-small, put_grid, put_here, put_others, put_placements, put_count}
 use Rattle.assembly.proofs.grid.Grid.put.Goals as goal
 
@@ -34,4 +34,3 @@ returns-clause-count c =
     let below : c.site_index-index.result < length c.self.inside.words.items = omega (arith, c.site_index-index.ensures.within, c.self.invariant.cells) in
     put_count c.self.inside.area c.self.inside.words.items c.self.inside.count c.self.invariant c.args.self.now.tiles (ap (λ v. v.tiles) c.self.view_is)
     c.site_index-index.result c.args.place c.site_index-index.ensures.site below c.requires.empty
-

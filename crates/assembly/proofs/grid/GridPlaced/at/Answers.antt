@@ -1,9 +1,6 @@
-use Rattle.std.proofs.Common.{true≢false, ◌≡◌, ◌≢◌, ◌<◌, ℕ, List, Some, None, length, get_or, sym, ◌∙◌, ap, subst, arith}
+use Rattle.std.proofs.Common.{true≢false, ◌≡◌, ◌≢◌, ◌<◌, length, get_or, sym, ◌∙◌, ap, subst, arith}
 use Rattle.std.proofs.lemmas.Grind.{get_or_default_zero}
-use Rattle.atam.specs.declared.place.Place.{Place}
 use Rattle.atam.specs.Placements.{HasDistinctSites, tile_at}
-use Rattle.assembly.specs.Cells.{site_at}
-use Rattle.assembly.specs.Grids.{places_of}
 use Rattle.assembly.proofs.Words.{type_in, type_in-tile}
 use Rattle.assembly.proofs.Grids.{grid_at, grid_outside, grid_distinct, not_gap}
 use Rattle.assembly.proofs.grid.GridPlaced.at.Goals as goal
