@@ -1,8 +1,8 @@
 -- An order that has been begun: it takes the ready place with the least site, and is canonical once none is ready.
-use Rattle.std.proofs.Common.{◌≡◌, ◌≢◌, ◌⊎◌, ◌↔◌, ◌<◌, ◌≤◌, ◌+◌, ◌-◌, ℕ, List, [], ◌∷◌, ◌++◌, length, length-append, take, Some, None, slice_get, Contains, refl, sym, ◌∙◌, ap, subst, inl, inr, arith, Result, Ok, Err, OnOk}
+use Rattle.std.proofs.Common.{◌≡◌, ◌≢◌, ◌≤◌, ◌+◌, ℕ, List, [], ◌∷◌, ◌++◌, length, length-append, Some, None, slice_get, Contains, refl, sym, ◌∙◌, subst, inl, inr, arith, Result, Ok, Err, OnOk}
 use Rattle.std.proofs.Math.Seq.{take-length}
 use Rattle.std.proofs.lemmas.Bool.{cases_lt}
-use Rattle.std.proofs.lemmas.Option.{same_Some, none-some, slice_get_within}
+use Rattle.std.proofs.lemmas.Option.{same_Some, slice_get_within}
 use Rattle.std.proofs.lemmas.List.{take-append-le}
 use Rattle.std.proofs.lemmas.List.Elements.{All-contains}
 use Rattle.atam.specs.declared.site.Site.{Site}
@@ -13,7 +13,7 @@ use Rattle.atam.specs.Placements.{HasDistinctSites, IsPartOf, tile_at}
 use Rattle.atam.specs.TileSystem.{TileSystem}
 use Rattle.atam.specs.Assembly.{pull}
 use Rattle.atam.specs.Canonical.{IsReady, IsCanonical}
-use Rattle.atam.proofs.Lists.{some_or_none, push_cases, seed_from, seeds_within, slice_get-Contains, Contains-slice_get}
+use Rattle.atam.proofs.Lists.{some_or_none, push_cases, seed_from, seeds_within, Contains-slice_get}
 use Rattle.atam.proofs.Placements.{none_at, Contains-tile_at, tile_at-Contains, same_place, HasDistinctSites-push}
 use Rattle.atam.proofs.Count.{count_in_part}
 use Rattle.replay_order.specs.ReplayAnswers.{HoldsSeeds}

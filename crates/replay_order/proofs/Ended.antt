@@ -1,22 +1,21 @@
 -- A canonical sequence with nothing left, and one that leaves tiles over.
-use Rattle.std.proofs.Common.{◌≡◌, ◌≤◌, ◌+◌, ◌-◌, ℕ, List, length, Some, None, slice_get, Contains, refl, sym, ◌∙◌, ap, subst, inl, inr, arith, All}
+use Rattle.std.proofs.Common.{◌≡◌, ◌≤◌, ◌+◌, ℕ, List, length, Some, None, Contains, refl, sym, ◌∙◌, subst, inl, inr}
 use Rattle.std.proofs.lemmas.Option.{none-some}
 use Rattle.std.proofs.lemmas.List.Elements.{All-contains}
 use Rattle.atam.specs.declared.site.Site.{Site}
 use Rattle.atam.specs.declared.place.Place.{Place}
-use Rattle.atam.specs.Sites.{InBox, IsBefore}
+use Rattle.atam.specs.Sites.{InBox}
 use Rattle.atam.specs.Placements.{HasDistinctSites, IsPartOf, tile_at}
-use Rattle.atam.specs.TileSystem.{TileSystem, IsType}
+use Rattle.atam.specs.TileSystem.{TileSystem}
 use Rattle.atam.specs.Assembly.{Fits}
-use Rattle.atam.specs.Growth.{IsProducible}
 use Rattle.atam.specs.Canonical.{IsCanonical}
-use Rattle.replay_order.specs.Leavings.{IsLeft, LeavesOver}
+use Rattle.replay_order.specs.Leavings.{IsLeft}
 use Rattle.atam.proofs.Lists.{some_or_none}
 use Rattle.atam.proofs.Placements.{Contains-tile_at, tile_at-Contains, same_place}
 use Rattle.atam.proofs.Count.{count_in_part}
 use Rattle.atam.proofs.Canon.{canonical_part, canonical_IsLegal, producible_exactly}
 use Rattle.atam.proofs.Sequences.{IsLegal-distinct}
-use Rattle.replay_order.specs.Replays.{IsLeftAt, IsLeastLeft, IsLeastLeftSite}
+use Rattle.replay_order.specs.Replays.{IsLeftAt, IsLeastLeft}
 use Rattle.replay_order.specs.ReplayAnswers.{IsWholeOrder, IsStuckAt}
 
 module _ (sys : TileSystem) (tiles s : List Place) (fits : Fits sys tiles) (distinct : HasDistinctSites tiles)

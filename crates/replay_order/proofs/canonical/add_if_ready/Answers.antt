@@ -1,4 +1,3 @@
-use Rattle.std.proofs.Common.{◌≡◌}
 use Rattle.replay_order.proofs.ReadySites.{added_ready}
 use Rattle.replay_order.proofs.canonical.add_if_ready.Goals as goal
 

@@ -1,4 +1,4 @@
-use Rattle.std.proofs.Common.{◌≡◌, ◌∷◌, ◌++◌, List, [], arith, sym, subst}
+use Rattle.std.proofs.Common.{◌∷◌, ◌++◌, List, [], arith, sym, subst}
 use Rattle.atam.specs.declared.place.Place.{Place}
 use Rattle.atam.specs.declared.area.BoxArea.{BoxArea}
 use Rattle.atam.specs.Sites.{InBox}

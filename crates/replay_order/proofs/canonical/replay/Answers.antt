@@ -1,7 +1,5 @@
-use Rattle.std.proofs.Common.{◌≡◌, ◌≤◌, ◌+◌, ◌-◌, ◌∙◌, ap, sym, subst, arith, length, List, Some, None}
+use Rattle.std.proofs.Common.{◌≤◌, ◌-◌, ◌∙◌, sym, subst, arith, length, Some, None}
 use Rattle.atam.specs.declared.area.BoxArea.{BoxArea}
-use Rattle.atam.specs.declared.place.Place.{Place}
-use Rattle.atam.specs.Canonical.{IsCanonical}
 use Rattle.replay_order.specs.Replays.{IsLeastLeft}
 use Rattle.replay_order.specs.ReplayAnswers.{IsWholeOrder}
 use Rattle.replay_order.proofs.Ended.{listed_count, whole_order, stuck_at}

@@ -1,9 +1,8 @@
-use Rattle.std.proofs.Common.{◌≡◌, ◌≤◌, ◌+◌, ◌∙◌, List, arith, sym, subst}
+use Rattle.std.proofs.Common.{◌∙◌, arith, sym, subst}
 use Rattle.atam.specs.declared.area.BoxArea.{BoxArea}
 use Rattle.atam.specs.Sites.{InBox}
 use Rattle.atam.specs.TileSystem.{IsType}
 use Rattle.atam.proofs.Lists.{All-slice_get}
-use Rattle.replay_order.specs.Legalities.{IsFirstTaken, IsFirstWeak}
 use Rattle.replay_order.proofs.ReadySites.{near_inside, Fits-part}
 use Rattle.replay_order.proofs.Sequences.{part_take, first_taken, first_weak, legal_more, SamePlacements-more, taken_illegal, weak_illegal}
 use Rattle.replay_order.proofs.legal.check_legal.Goals as goal

@@ -1,4 +1,4 @@
-use Rattle.std.proofs.Common.{◌≡◌, ◌∙◌}
+use Rattle.std.proofs.Common.{◌∙◌}
 use Rattle.std.proofs.lemmas.Option.{slice_get-get_or}
 use Rattle.replay_order.proofs.Sequences.{seed_empty, SamePlacements-more}
 use Rattle.replay_order.proofs.legal.put_seeds.Goals as goal

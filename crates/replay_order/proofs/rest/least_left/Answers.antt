@@ -1,18 +1,16 @@
-use Rattle.std.proofs.Common.{◌≡◌, ◌<◌, ◌≤◌, ◌*◌, ◌/◌, ◌%◌, ℕ, ◌∙◌, ap, sym, not, arith}
+use Rattle.std.proofs.Common.{◌≡◌, ◌<◌, ◌≤◌, ◌*◌, ◌∙◌, ap, sym, not, arith}
 use Rattle.std.proofs.lemmas.Int.{ints}
-use Rattle.atam.specs.Sites.{width_of, height_of, site_in}
-use Rattle.assembly.specs.Cells.{cell_count, site_at}
+use Rattle.atam.specs.Sites.{width_of}
+use Rattle.assembly.specs.Cells.{cell_count}
 use Rattle.replay_order.proofs.Rests.{least_left-none, least_left-some, left_from}
 use Rattle.replay_order.proofs.rest.least_left.Goals as goal
 
 pub returns-then-is_none : goal.returns-then-is_none
 returns-then-is_none c =
     let area = c.args.area.now in
-    let n = c.loop-index.index in
-    let m = c.site-site.result in
+    let m = c.site_of_index-site.result in
     let wide : 0 < width_of area = omega (arith, ints, c.requires.corners.columns) in
-    let here : site_at area n ≡ m = sym (c.site-site.ensures.value ∙ ap (λ (w : ℕ). site_in area (n % w) (n / w)) c.width-width.ensures) in
-    least_left-some area c.args.grid.now.tiles c.args.listing.now.places n m wide c.loop-index.invariant here (
+    least_left-some area c.args.grid.now.tiles c.args.listing.now.places c.loop-index.index m wide c.loop-index.invariant (sym c.site_of_index-site.ensures.site) (
     left_from c.args.grid.now.tiles c.args.listing.now.places m c.at.result c.at-then-is_some.result c.at.ensures.tile c.at-then-is_some.ensures.tile
     (sym c.is_some.ensures ∙ c.if-is_some.true) (c.is_none.ensures ∙ ap not c.if-is_none.true)
     )
@@ -20,6 +18,6 @@ returns-then-is_none c =
 pub returns : goal.returns
 returns c =
     let area = c.args.area.now in
-    let cells : c.width-width.result * c.height.result ≡ cell_count area = λ k. c.width-width.ensures k * c.height.ensures k in
-    let end : c.width-width.result * c.height.result ≤ c.loop-index.index = c.loop-index-test.false in
+    let cells : c.width.result * c.height.result ≡ cell_count area = λ k. c.width.ensures k * c.height.ensures k in
+    let end : c.width.result * c.height.result ≤ c.loop-index.index = c.loop-index-test.false in
     least_left-none area c.args.grid.now.tiles c.args.listing.now.places (λ k below. c.loop-index.invariant k (omega (arith, below, cells, end)))

@@ -1,4 +1,4 @@
-use Rattle.std.proofs.Common.{◌≡◌, ap, ◌∙◌, None}
+use Rattle.std.proofs.Common.{ap, ◌∙◌}
 use Rattle.atam.specs.Placements.{tile_at}
 use Rattle.replay_order.proofs.Listings.{IsListing-push}
 use Rattle.replay_order.proofs.listing.Listing.push.Goals as goal

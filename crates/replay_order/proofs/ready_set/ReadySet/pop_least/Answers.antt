@@ -1,7 +1,6 @@
-use Rattle.std.proofs.Common.{◌≡◌, ◌≢◌, ◌↔◌, Contains, cond, false, List, IfSome, subst}
-use Rattle.std.specs.BTreeMap.{is_at}
+use Rattle.std.proofs.Common.{◌≢◌, ◌↔◌, Contains, false, List, IfSome, subst}
 use Rattle.atam.specs.declared.site.Site.{Site}
-use Rattle.replay_order.proofs.SiteSets.{site_cmp, has_site, site_removed, IfSome-map}
+use Rattle.replay_order.proofs.SiteSets.{site_cmp, site_removed, IfSome-map}
 use Rattle.std.specs.BTreeSet.{Updates}
 use Rattle.replay_order.proofs.ready_set.ReadySet.pop_least.Goals as goal
 

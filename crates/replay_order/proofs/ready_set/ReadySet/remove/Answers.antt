@@ -1,4 +1,4 @@
-use Rattle.std.proofs.Common.{◌≡◌, ◌≢◌, ◌↔◌, Contains, List, subst}
+use Rattle.std.proofs.Common.{◌≢◌, ◌↔◌, Contains, List, subst}
 use Rattle.atam.specs.declared.site.Site.{Site}
 use Rattle.replay_order.proofs.SiteSets.{site_removed}
 use Rattle.replay_order.proofs.ready_set.ReadySet.remove.Goals as goal
