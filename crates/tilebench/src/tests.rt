@@ -13,6 +13,10 @@ use tile_text::read_system;
 const CHAIN: &str = "tiles 1\ntau 2\nglue a 2\nglue b 2\ntile S - a - -\ntile B - b - a\n\
     tile C - - - b\nbox 0 0 2 0\nseed 0 0 S\nend\n";
 
+const SIERPINSKI: &str = "tiles 1\ntau 2\nglue 0 1\nglue 1 1\nglue h 2\nglue v 2\n\
+    tile S v h - -\ntile B 1 h - h\ntile L v 1 v -\ntile r00 0 0 0 0\ntile r01 1 1 1 0\n\
+    tile r10 1 1 0 1\ntile r11 0 0 1 1\nbox 0 0 7 7\nseed 0 0 S\nend\n";
+
 const SINGLE: &str = "tiles 1\ntau 1\ntile S - - - -\nbox 0 0 0 0\nseed 0 0 S\nend\n";
 
 // How a run ended, and what its sinks hold.
@@ -171,13 +175,7 @@ fn system_of(alloc: Global, text: &str) -> Result<System, Fail> {
 // The plain growth over a list and the growth over a grid place the same tiles.
 #[test]
 fn grows_the_same_over_a_list(rt: HostRuntime) -> Result<(), Fail> {
-    for text in [
-        SINGLE,
-        CHAIN,
-        "tiles 1\ntau 2\nglue 0 1\nglue 1 1\nglue h 2\nglue v 2\ntile S v h - -\n\
-         tile B 1 h - h\ntile L v 1 v -\ntile r00 0 0 0 0\ntile r01 1 1 1 0\n\
-         tile r10 1 1 0 1\ntile r11 0 0 1 1\nbox 0 0 7 7\nseed 0 0 S\nend\n",
-    ] {
+    for text in [SINGLE, CHAIN, SIERPINSKI] {
         let alloc = rt.alloc();
         let sys = system_of(alloc, text)?;
         let list = list_growth::grow(&sys, alloc)?;
@@ -190,18 +188,59 @@ fn grows_the_same_over_a_list(rt: HostRuntime) -> Result<(), Fail> {
     Ok(())
 }
 
+// The name of a tile of the Sierpinski triangle. A tile inside tells by its digits whether its west
+// and its south neighbour are black, which is so exactly where two numbers share no binary one.
+fn sierpinski_name(x: u32, y: u32) -> &'static str {
+    if x == 0 && y == 0 {
+        return "S";
+    }
+    if y == 0 {
+        return "B";
+    }
+    if x == 0 {
+        return "L";
+    }
+    let west = (x - 1) & y == 0;
+    let south = x & (y - 1) == 0;
+    match (west, south) {
+        (false, false) => "r00",
+        (false, true) => "r01",
+        (true, false) => "r10",
+        (true, true) => "r11",
+    }
+}
+
 #[test]
-fn fills_a_box(rt: HostRuntime) -> Result<(), Fail> {
+fn grows_the_sierpinski_triangle(rt: HostRuntime) -> Result<(), Fail> {
     let alloc = rt.alloc();
     let mut out = String::new(alloc);
     for y in 0..8 {
         for x in 0..8 {
+            let name = sierpinski_name(x, y);
+            let line = format!(in alloc; "place {x} {y} {name}\n")?;
+            out.push_str(line.as_str())?;
+        }
+    }
+    out.push_str("closed clipped 8 0 B\n")?;
+    let ran = grown(&rt, alloc, SIERPINSKI)?;
+    assert_eq!(rt; ran.status, Status::No);
+    assert_eq!(rt; ran.out.as_slice(), out.as_bytes());
+    Ok(())
+}
+
+// A box that one type fills, by y, then x.
+#[test]
+fn fills_a_box(rt: HostRuntime) -> Result<(), Fail> {
+    let alloc = rt.alloc();
+    let mut out = String::new(alloc);
+    for y in 0..64 {
+        for x in 0..64 {
             let line = format!(in alloc; "place {x} {y} T\n")?;
             out.push_str(line.as_str())?;
         }
     }
     out.push_str("closed clipped 0 -1 T\n")?;
-    let text = "tiles 1\ntau 1\nglue a 1\ntile T a a a a\nbox 0 0 7 7\nseed 0 0 T\nend\n";
+    let text = "tiles 1\ntau 1\nglue a 1\ntile T a a a a\nbox 0 0 63 63\nseed 0 0 T\nend\n";
     let ran = grown(&rt, rt.alloc(), text)?;
     assert_eq!(rt; ran.status, Status::No);
     assert_eq!(rt; ran.out.as_slice(), out.as_bytes());
@@ -243,9 +282,9 @@ fn refuses_words_and_texts(rt: HostRuntime) -> Result<(), Fail> {
         ),
         (
             &["grow"][..],
-            "tiles 1\ntau 1",
+            "tiles 1\ntau 1\ntile S - - - -\nbox 0 0 0 0\nseed 0 0 S\nend\n\n# behind\ntau 1\n",
             Status::Text,
-            "refused text line 2 NoEnd\n",
+            "refused text line 9 AfterEnd\n",
         ),
     ] {
         let ran = run(&rt, rt.alloc(), words, text, 4096, failures)?;
@@ -272,6 +311,21 @@ fn refuses_each_front_of_a_text(rt: HostRuntime) -> Result<(), Fail> {
             line = line.saturating_add(1);
         }
     }
+    Ok(())
+}
+
+// A remark of as many bytes as a line may have.
+#[test]
+fn takes_a_long_remark(rt: HostRuntime) -> Result<(), Fail> {
+    let alloc = rt.alloc();
+    let mut text = String::new(alloc);
+    for _ in 0..256 {
+        text.push_str("#")?;
+    }
+    text.push_str("\n")?;
+    text.push_str(CHAIN)?;
+    let ran = grown(&rt, alloc, text.as_str())?;
+    assert_eq!(rt; ran.status, Status::Done);
     Ok(())
 }
 
