@@ -1,0 +1,14 @@
+//! The words of a command line, read by clap.
+#![tactic(auto)]
+
+mod clap_command;
+mod command;
+mod words;
+mod words_stop;
+
+pub use command::Command;
+pub use words::command_of;
+pub use words_stop::WordsStop;
+
+#[cfg(test)]
+mod tests;
