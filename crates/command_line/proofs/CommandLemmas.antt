@@ -1,42 +1,50 @@
--- What clap makes of the plainest words of each command.
-use Rattle.std.proofs.Common.{◌≡◌, ◌∙◌, ap, ap₂, sym, true, false, true≢false, List, [], ◌∷◌, refl, Option, Some, unwrap_or}
-use Rattle.clap.specs.Words.{Text, is_simple_and_free, takes}
-use Rattle.clap.proofs.OnLiterals.{clap_on_literals}
-use Rattle.command_line.specs.declared.command.Command.{Command}
-use Rattle.command_line.specs.declared.command.Command.TheVariants.{Grow, Check, Replay, Format}
-use Rattle.command_line.specs.declared.words_stop.WordsStop.{WordsStop}
-use Rattle.command_line.specs.declared.words_stop.WordsStop.TheVariants.{NoCommand, Usage, NoMemory}
-use Rattle.command_line.specs.Commands.{Spells, command_app, command_named, command_word}
+-- What a parse of each command finds.
+use Rattle.std.proofs.Common.{◌≡◌, ◌∙◌, ◌^◌, ◌-◌, ap, true, List, refl, codes, arith}
+use Rattle.clap.specs.Built.{IsParsedFrom}
+use Rattle.clap.specs.Matches.{found_of}
+use Rattle.clap.specs.Simple.{App, HasMatchesOf, app_of, is_simple, matches_of}
+use Rattle.clap.specs.Words.{Text, is_simple_and_free}
+use Rattle.clap.specs.declared.builder.command.Command.{Command}
+use Rattle.clap.specs.declared.parser.matches.ArgMatches.{ArgMatches}
+use Rattle.clap.proofs.WalkLemmas.{both}
+use Rattle.command_line.specs.declared.command.CommandName.{CommandName}
+use Rattle.command_line.specs.declared.command.CommandName.TheVariants.{Grow, Check, Replay, Format}
+use Rattle.command_line.specs.Commands.{command_app}
+use Rattle.command_line.specs.Options.{FindsOptions}
+use Rattle.command_line.specs.Stated.{IsExact}
+use Rattle.command_line.proofs.OptionLemmas.{HasNumberOption, option_found}
 
 -- clap's words for faults and for what is taken are about such commands
-pub app_simple : (command : Command) → is_simple_and_free (command_app command) ≡ true
+pub app_simple : (name : CommandName) → is_simple_and_free (command_app name) ≡ true
 unfolding command_app
 app_simple Grow = refl
 app_simple Check = refl
 app_simple Replay = refl
 app_simple Format = refl
 
-pub alone_taken : (command : Command) → takes (command_app command) (command_word command ∷ []) ≡ true
-unfolding command_app clap_on_literals
-alone_taken Grow = refl
-alone_taken Check = refl
-alone_taken Replay = refl
-alone_taken Format = refl
+grow_choice : HasNumberOption (command_app Grow) 0 (codes "choice") (codes "0") 0 (2 ^ 64 - 1)
+unfolding command_app
+grow_choice = record {
+  simple = refl;
+  free = refl;
+  below = omega arith;
+  at = λ other. refl;
+  only = refl;
+  own = refl;
+}
 
-pub alone_named : (command : Command) → command_named (command_word command ∷ []) ≡ Some command
-alone_named Grow = refl
-alone_named Check = refl
-alone_named Replay = refl
-alone_named Format = refl
+-- a parse finds a number for each option of the command
+options_found : (name : CommandName) (command : Command) (found : ArgMatches) → app_of command ≡ command_app name → IsParsedFrom command found
+    → FindsOptions name (found_of found)
+options_found Grow command found is parsed = option_found command found (command_app Grow) is parsed 0 (codes "choice") (codes "0") 0 (2 ^ 64 - 1) grow_choice
+options_found Check command found is parsed = tt
+options_found Replay command found is parsed = tt
+options_found Format command found is parsed = tt
 
--- where the words are the plainest ones for a command, only want of memory stops the reading
-pub spelled_stops : (words : List Text) (command : Command) (stop : WordsStop) → command_named words ≡ Some command
-    → (stop ≡ NoCommand → ⊥) → (stop ≡ Usage → takes (command_app command) words ≡ false)
-    → (spelled : Command) → Spells words spelled → stop ≡ NoMemory
-spelled_stops words command NoMemory named other untaken spelled is = refl
-spelled_stops words command NoCommand named other untaken spelled is = absurd (other refl)
-spelled_stops words command Usage named other untaken spelled is =
-    let same : Some spelled ≡ Some command = sym (alone_named spelled) ∙ ap command_named (sym is) ∙ named in
-    let command_is : spelled ≡ command = ap (λ (o : Option Command). unwrap_or o spelled) same in
-    let taken : takes (command_app command) words ≡ true = ap₂ (λ (c : Command) (w : List Text). takes (command_app c) w) (sym command_is) is ∙ alone_taken spelled in
-    absurd (true≢false (sym taken ∙ untaken refl))
+-- a parse finds what clap states, and a number for each option
+pub command_parsed : (name : CommandName) (command : Command) (words : List Text) (found : ArgMatches) → app_of command ≡ command_app name
+    → IsParsedFrom command found → HasMatchesOf (app_of command) words found → IsExact (command_app name) words (found_of found) × FindsOptions name (found_of found)
+unfolding IsExact
+command_parsed name command words found is parsed matches =
+    let simple : is_simple (app_of command) ≡ true = ap is_simple is ∙ (both _ _ (app_simple name)).0 in
+    ((matches simple).0 ∙ ap (λ (app : App). matches_of app words) is, options_found name command found is parsed)

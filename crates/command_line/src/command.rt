@@ -1,10 +1,19 @@
 // The commands and their words.
 ghost use Rattle.std.specs.Prelude.{◌≡◌};
-ghost use Rattle.command_line.specs.Commands.{command_of_word};
+ghost use Rattle.command_line.specs.Commands.{name_of_word};
 
-/// A command of the program.
+/// A command of the program, with what its options say.
 #[derive(Clone, Copy, Debug, PartialEq, Eq)]
 pub enum Command {
+    Grow { choice: u64 },
+    Check,
+    Replay,
+    Format,
+}
+
+/// Which command the first word names.
+#[derive(Clone, Copy, Debug, PartialEq, Eq)]
+pub enum CommandName {
     Grow,
     Check,
     Replay,
@@ -12,14 +21,14 @@ pub enum Command {
 }
 
 // The command that a word names.
-pub fn command_of_word(word: &str) -> Option<Command>
-    ensures { result ≡ command_of_word word.now }
+pub fn name_of_word(word: &str) -> Option<CommandName>
+    ensures { result ≡ name_of_word word.now }
 {
     match word {
-        "grow" => Some(Command::Grow),
-        "check" => Some(Command::Check),
-        "replay" => Some(Command::Replay),
-        "format" => Some(Command::Format),
+        "grow" => Some(CommandName::Grow),
+        "check" => Some(CommandName::Check),
+        "replay" => Some(CommandName::Replay),
+        "format" => Some(CommandName::Format),
         _ => None,
     }
 }

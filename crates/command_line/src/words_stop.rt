@@ -28,3 +28,13 @@ impl WordsStop {
         }
     }
 }
+
+impl From<AllocError> for WordsStop {
+    ghost use Rattle.command_line.specs.declared.words_stop.WordsStop.TheVariants.{NoMemory};
+
+    ghost from_gives = { λ _ stop. stop ≡ NoMemory };
+
+    fn from(_: AllocError) -> WordsStop {
+        WordsStop::NoMemory
+    }
+}
