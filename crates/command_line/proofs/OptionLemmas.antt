@@ -20,7 +20,7 @@ use Rattle.clap.proofs.WalkLemmas.{both, one_text-rows}
 use Rattle.command_line.specs.Commands.{number_option}
 use Rattle.command_line.specs.Stated.{FindsInRange, FindsNumber, FindsText, IsExact, States, number_of_text}
 use Rattle.command_line.proofs.SimpleLemmas.{no_globals, plain_command, rule_at, set_option, wants_default}
-use Rattle.command_line.proofs.StatedLemmas.{default_states_text}
+use Rattle.command_line.proofs.FoundLemmas.{default_found}
 
 -- of the rules, only the one at a place may have the id
 abbrev pub only_at : List Rule → ℕ → Text → Bool
@@ -110,7 +110,7 @@ module _ (c : Command) (m : ArgMatches) (app : App) (is : app_of c ≡ app) (par
 
       states : (d : Arg) → FindsInRange (found_of m) id least most
       states d =
-          let got = default_states_text c m parsed (plain_command c simple free) (no_globals c simple) place d (Unsigned least most)
+          let got = default_found c m parsed (plain_command c simple free) (no_globals c simple) place d (Unsigned least most)
           (set_option c place d (number_option id default least most) (Unsigned least most) under simple (here d) refl refl refl (own_not_empty id has.own)
           (own_not_auto id has.own) (alone d))
           (wants_default c place d (number_option id default least most) under simple (here d) (omega arith)) in

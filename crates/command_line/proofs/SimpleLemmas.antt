@@ -17,7 +17,7 @@ use Rattle.clap.specs.declared.builder.arg.Arg.{Arg}
 use Rattle.clap.specs.declared.builder.command.Command.{Command}
 use Rattle.clap.specs.declared.builder.command.Command.TheViews.{out-Command}
 use Rattle.clap.specs.declared.builder.value_parser.ValueParser.{ValueParser}
-use Rattle.command_line.proofs.StatedLemmas.{IsAlone, IsSetOption}
+use Rattle.command_line.proofs.FoundLemmas.{IsAlone, IsSetOption}
 
 pub plain_command : (c : Command) → has_simple_rules (app_of c).top ≡ true → list_all (λ r. r.is_free) (app_of c).top.rules ≡ true → IsPlain c
 plain_command c simple free = (
