@@ -1,0 +1,65 @@
+// What is made of lists of words.
+use crate::{Command, WordsStop, command_of};
+use std::alloc::{AllocError, Global};
+use std::test::Fail;
+
+// What `text`, split at its newlines, comes to.
+fn read(alloc: Global, text: &str) -> Result<Result<Command, WordsStop>, AllocError> {
+    let mut words = Vec::new(alloc);
+    for word in text.split('\n') {
+        words.push(String::from_str(alloc, word)?)?;
+    }
+    Ok(command_of(alloc, &words))
+}
+
+#[test]
+fn reads_words(rt: HostRuntime) -> Result<(), Fail> {
+    let alloc = rt.alloc();
+    assert_eq!(rt; command_of(alloc, &[]), Err(WordsStop::NoCommand));
+    for (text, wanted) in [
+        ("gorw", Err(WordsStop::NoCommand)),
+        ("", Err(WordsStop::NoCommand)),
+        ("--help", Err(WordsStop::NoCommand)),
+        ("grow check", Err(WordsStop::NoCommand)),
+        ("Grow", Err(WordsStop::NoCommand)),
+        ("grow", Ok(Command::Grow { choice: 0 })),
+        ("grow\n--choice\n7", Ok(Command::Grow { choice: 7 })),
+        ("grow\n--choice=7", Ok(Command::Grow { choice: 7 })),
+        (
+            "grow\n--choice\n18446744073709551615",
+            Ok(Command::Grow { choice: u64::MAX }),
+        ),
+        (
+            "grow\n--choice\n18446744073709551616",
+            Err(WordsStop::Usage),
+        ),
+        ("grow\n--choice\n-1", Err(WordsStop::Usage)),
+        ("grow\n--choice\nx", Err(WordsStop::Usage)),
+        ("grow\n--choice", Err(WordsStop::Usage)),
+        ("grow\n--choice\n1\n--choice\n1", Err(WordsStop::Usage)),
+        ("check\n--choice\n1", Err(WordsStop::Usage)),
+        ("check", Ok(Command::Check)),
+        ("replay", Ok(Command::Replay)),
+        ("format", Ok(Command::Format)),
+        ("grow\n--", Ok(Command::Grow { choice: 0 })),
+        ("grow\n--\n--", Err(WordsStop::Usage)),
+        ("grow\ncheck", Err(WordsStop::Usage)),
+        ("grow\n--workers\n2", Err(WordsStop::Usage)),
+        ("grow\n--help", Err(WordsStop::Usage)),
+        ("grow\nhelp", Err(WordsStop::Usage)),
+        ("grow\n-h", Err(WordsStop::Usage)),
+        ("grow\n--version", Err(WordsStop::Usage)),
+        ("grow\n-V", Err(WordsStop::Usage)),
+        ("grow\n-", Err(WordsStop::Usage)),
+        ("grow\n", Err(WordsStop::Usage)),
+        ("grow\n ", Err(WordsStop::Usage)),
+        ("check\na b", Err(WordsStop::Usage)),
+        ("replay\nx", Err(WordsStop::Usage)),
+        ("format\n\n", Err(WordsStop::Usage)),
+    ] {
+        assert_eq!(rt; read(alloc, text)?, wanted, "at {text:?}");
+    }
+    assert_eq!(rt; WordsStop::NoCommand.name(), "NoCommand");
+    assert_eq!(rt; WordsStop::Usage.name(), "Usage");
+    Ok(())
+}
