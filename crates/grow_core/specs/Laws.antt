@@ -1,0 +1,43 @@
+-- Laws of the core, over every state.
+use Rattle.std.specs.Prelude.{◌≡◌, ℕ, List, Some, Result, Err}
+use Rattle.atam.specs.TileSystem.{TileSystem, IsValid}
+use Rattle.atam.specs.Growth.{IsProducible, IsClosedInBox}
+use Rattle.atam.specs.Placements.{SamePlacements}
+use Rattle.grow_core.specs.declared.event.Event.{Event}
+use Rattle.grow_core.specs.declared.event.Seen.{Seen}
+use Rattle.grow_core.specs.declared.event.CoreStop.{CoreStop}
+use Rattle.grow_core.specs.Core.{Scout, CoreState, scout_named, places, IsSound}
+use Rattle.grow_core.specs.Steps.{CoreStep, CoreRun, IsStart, without_scout}
+
+-- the start has the core's invariant
+abbrev pub StartIsSound : Type 0
+StartIsSound = (sys : TileSystem) (s : CoreState) → IsValid sys → IsStart sys s → IsSound sys s
+
+-- and each event keeps it, answered or refused
+abbrev pub EventsKeepSoundness : Type 0
+EventsKeepSoundness = (sys : TileSystem) (s t : CoreState) (event : Event) (reply : Result Seen CoreStop) →
+    IsValid sys → CoreStep sys s event reply t → IsSound sys s → IsSound sys t
+
+-- so it holds after all events from the start, and the tiles can be produced
+abbrev pub RunsStaySound : Type 0
+RunsStaySound = (sys : TileSystem) (s t : CoreState) (replies : List (Event × Result Seen CoreStop)) →
+    IsValid sys → IsStart sys s → CoreRun sys s replies t → IsSound sys t × IsProducible sys (places t.tiles)
+
+-- it stays where a scout is left out
+abbrev pub LeavingKeepsSoundness : Type 0
+LeavingKeepsSoundness = (sys : TileSystem) (s : CoreState) (name : ℕ) → IsSound sys s → IsSound sys (without_scout s name)
+
+-- a refused event leaves the state as it was
+abbrev pub RefusalsChangeNothing : Type 0
+RefusalsChangeNothing = (sys : TileSystem) (s t : CoreState) (event : Event) (stop : CoreStop) →
+    CoreStep sys s event (Err stop) t → t ≡ s
+
+-- where a scout has seen a closed assembly, that is all of the tiles, and no event adds one
+abbrev pub SeenAndClosedIsAll : Type 0
+SeenAndClosedIsAll = (sys : TileSystem) (s : CoreState) (name : ℕ) (v : Scout) →
+    IsSound sys s → scout_named s.scouts name ≡ Some v → IsClosedInBox sys v.seen → SamePlacements v.seen (places s.tiles)
+
+abbrev pub ClosedIsFinal : Type 0
+ClosedIsFinal = (sys : TileSystem) (s t : CoreState) (event : Event) (reply : Result Seen CoreStop) (name : ℕ) (v : Scout) →
+    IsValid sys → IsSound sys s → scout_named s.scouts name ≡ Some v → IsClosedInBox sys v.seen →
+    CoreStep sys s event reply t → t.tiles ≡ s.tiles
