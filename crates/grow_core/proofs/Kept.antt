@@ -1,8 +1,9 @@
 -- One scout changes, and maybe the tiles; a tile is seen or won.
-use Rattle.std.proofs.Common.{◌≡◌, ◌≢◌, ◌<◌, ◌≤◌, ◌^◌, ◌==◌, ℕ, cond, List, [], ◌∷◌, ◌++◌, set, Option, Some, None, Contains, ne_eqb, sym, ◌∙◌, ap, subst, inl, inr, append-nil}
+use Rattle.std.proofs.Common.{◌≡◌, ◌≢◌, ◌<◌, ◌≤◌, ◌^◌, ◌==◌, ℕ, cond, List, [], ◌∷◌, ◌++◌, set, get_or, Option, Some, None, Contains, ne_eqb, sym, ◌∙◌, ap, subst, inl, inr, append-nil}
 use Rattle.std.proofs.Math.Nat.{le_trans}
+use Rattle.std.proofs.lemmas.List.Quantifiers.{all_pairs_push}
 use Rattle.std.proofs.lemmas.Option.{same_Some, none-some}
-use Rattle.std.proofs.lemmas.List.Elements.{Contains-push, Contains-push_cases, Contains-append_left, All-push, filter-append}
+use Rattle.std.proofs.lemmas.List.Elements.{Contains-push, Contains-push_cases, Contains-append_left, Contains-get_or, All-contains, All-push, filter-append}
 use mathlib.Core.List.{map-append}
 use Rattle.atam.specs.declared.place.Place.{Place}
 use Rattle.atam.specs.Sites.{InBox}
@@ -11,10 +12,10 @@ use Rattle.atam.specs.Placements.{HasDistinctSites, IsPartOf, tile_at}
 use Rattle.atam.specs.Assembly.{pull, Attaches}
 use Rattle.atam.specs.Growth.{IsLegal}
 use Rattle.atam.proofs.Bonds.{pull-mono}
-use Rattle.atam.proofs.Placements.{Extends, Extends-IsPartOf, HasDistinctSites-push, Contains-tile_at}
+use Rattle.atam.proofs.Placements.{Extends, Extends-IsPartOf, HasDistinctSites-push, none_at, Contains-tile_at}
 use Rattle.atam.proofs.Sequences.{IsLegal-push}
 use Rattle.grow_core.specs.declared.tile.Tile.{Tile}
-use Rattle.grow_core.specs.Core.{Scout, CoreState, scout_named, Owns, least, places, placed_by, IsNumbered, IsGrounded, Knows, IsSound}
+use Rattle.grow_core.specs.Core.{Scout, CoreState, scout_named, Owns, least, places, placed_by, HasDistinctTiles, IsNumbered, IsGrounded, Knows, IsSound}
 use Rattle.grow_core.specs.Steps.{tile_of, IsScoutOf}
 use Rattle.grow_core.proofs.Named.{named_after, length_set}
 use Rattle.grow_core.proofs.Numbers.{least-owned}
@@ -30,6 +31,7 @@ pub record IsKnown (sys : TileSystem) (log : List Tile) (numbers : ℕ) (tiles :
   pub part : IsPartOf tiles (places log)
   pub mine_seen : (t : Tile) → Contains wins t → Contains tiles t.place
   pub mine_owned : (t : Tile) → Contains wins t → Owns numbers t.placer
+  pub mine_distinct : HasDistinctTiles wins
   pub history : (n : ℕ) → Owns numbers n → placed_by n log ≡ placed_by n wins
 
 module _ (sys : TileSystem) where
@@ -47,6 +49,7 @@ module _ (sys : TileSystem) where
         distinct = is.distinct;
         mine_seen = λ t c. is.seen.part t.place (known.mine_seen t (won t c));
         mine_owned = λ t c. from t.placer (known.mine_owned t (won t c));
+        mine_distinct = subst HasDistinctTiles (sym is.mine) known.mine_distinct;
         history = λ n o. known.history n (own n o) ∙ ap (placed_by n) (sym is.mine);
       }
 
@@ -122,6 +125,7 @@ module _ (sys : TileSystem) where
           part = seen_more log (λ q c. c) there;
           mine_seen = λ t c. Contains-append_left v.seen (p ∷ []) t.place (known.mine_seen t c);
           mine_owned = known.mine_owned;
+          mine_distinct = known.mine_distinct;
           history = known.history;
         }))
         (same_name is.owned) (still_alone is.owned)
@@ -179,6 +183,7 @@ module _ (sys : TileSystem) where
             distinct = knows.distinct;
             mine_seen = knows.mine_seen;
             mine_owned = knows.mine_owned;
+            mine_distinct = knows.mine_distinct;
             history = λ n owns. other_history n (λ e. sound.apart b a u v at_b here differ n owns (subst (Owns v.owned) (sym e) own.1)) ∙ knows.history n owns;
           }
 
@@ -197,6 +202,10 @@ module _ (sys : TileSystem) where
               | inl old ↦ known.mine_owned t old
               | inr new ↦ subst (λ (z : Tile). Owns v.owned z.placer) new own.1
             ];
+            mine_distinct = all_pairs_push (λ (t u : Tile). t.place.site ≢ u.place.site) v.mine fresh known.mine_distinct
+                (λ k d within. let t : Tile = get_or v.mine k d in
+                All-contains (λ (q : Place). q.site ≢ p.site) (places log) t.place (none_at (places log) p.site empty)
+                (known.part t.place (known.mine_seen t (Contains-get_or v.mine k d within))));
             history = λ n owns. filter-append (λ (t : Tile). t.placer == n) log (fresh ∷ [])
                 ∙ (ap (λ l. l ++ placed_by n (fresh ∷ [])) (known.history n owns) ∙ sym (filter-append (λ (t : Tile). t.placer == n) v.mine (fresh ∷ [])));
           }))

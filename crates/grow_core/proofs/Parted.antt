@@ -8,7 +8,9 @@ use Rattle.atam.specs.TileSystem.{TileSystem}
 use Rattle.grow_core.specs.declared.tile.Tile.{Tile}
 use Rattle.grow_core.specs.Core.{Scout, scout_named, Owns, least, greatest, OwnsTwoOrMore, placed_by, Knows, IsSound}
 use Rattle.grow_core.specs.Steps.{IsScoutOf, kept_tiles}
-use Rattle.grow_core.proofs.Lists.{Contains-append_right, filter-from, filter-passed}
+use Rattle.grow_core.proofs.Lists.{Contains-append_right, filter-from, filter-passed, all_pairs_append}
+use Rattle.std.proofs.lemmas.List.Kept.{AllPairs-filter}
+use Rattle.grow_core.proofs.Own.{same_tile, mine_tile}
 use Rattle.grow_core.proofs.Named.{named_after}
 use Rattle.grow_core.proofs.Numbers.{IsTop, top, greatest-owned, left-owned, left-other, left-owns, alone, owns_itself, both-owned, either-owns, by_itself, by_other, by_none, is_equal, least-of_greatest, least-of_rest, some_rest, some_owned, least-owned, least-of_both}
 use Rattle.grow_core.proofs.Kept.{state, knows-by, placed, left_out}
@@ -39,6 +41,7 @@ module _ (sys : TileSystem) (log : List Tile) (scouts : List (Option Scout)) (a 
         mine_owned = λ t c. let from = filter-from (λ (y : Tile). not (y.placer == g)) v.mine t c in
             let passed = not_true (t.placer == g) (filter-passed (λ (y : Tile). not (y.placer == g)) v.mine t c) in
             left-owns v.owned is_top t.placer (known.mine_owned t from) (λ e. false≢true (sym passed ∙ eq-eqb t.placer g e));
+        mine_distinct = AllPairs-filter (λ (t u : Tile). t.place.site ≢ u.place.site) (λ (y : Tile). not (y.placer == g)) v.mine known.mine_distinct;
         history = λ n own. known.history n (left-owned v.owned is_top n own) ∙ sym (by_other n g v.mine (left-other v.owned is_top n own));
       }))
       (ap least is.owned ∙ (least-of_rest v.owned known.some_number known.numbers two ∙ sound.named a v here))
@@ -60,6 +63,7 @@ module _ (sys : TileSystem) (log : List Tile) (scouts : List (Option Scout)) (a 
         mine_seen = λ t c. known.mine_seen t (filter-from (λ (y : Tile). y.placer == g) v.mine t c);
         mine_owned = λ t c. let e = is_equal t.placer g (filter-passed (λ (y : Tile). y.placer == g) v.mine t c) in
             subst (Owns (2 ^ g)) (sym e) (owns_itself v.owned is_top);
+        mine_distinct = AllPairs-filter (λ (t u : Tile). t.place.site ≢ u.place.site) (λ (y : Tile). y.placer == g) v.mine known.mine_distinct;
         history = λ n own. let e = alone v.owned is_top n own in
             subst (λ k. placed_by k log ≡ placed_by k (placed_by g v.mine)) (sym e)
             (known.history g (greatest-owned v.owned is_top) ∙ sym (by_itself g v.mine));
@@ -116,6 +120,10 @@ module _ (sys : TileSystem) (log : List Tile) (scouts : List (Option Scout)) (a 
           | inl one ↦ either-owns v.owned w.owned t.placer (inl (knows_v.mine_owned t one))
           | inr other ↦ either-owns v.owned w.owned t.placer (inr (knows_w.mine_owned t other))
         ];
+        mine_distinct = all_pairs_append (λ (t u : Tile). t.place.site ≢ u.place.site) v.mine w.mine knows_v.mine_distinct knows_w.mine_distinct
+            (λ t u in_v in_w one. let same = same_tile log t u sound.ground.distinct (mine_tile sys log v knows_v t in_v) (mine_tile sys log w knows_w u in_w) one in
+            sound.apart a b v w at_a at_b differ t.placer (knows_v.mine_owned t in_v)
+            (subst (λ (z : Tile). Owns w.owned z.placer) (sym same) (knows_w.mine_owned u in_w)));
         history = λ n own. elim (both-owned v.owned w.owned n own) [
           | inl one ↦ knows_v.history n one ∙ (sym (append-nil (placed_by n v.mine))
               ∙ (ap (λ l. placed_by n v.mine ++ l) (sym (none_of n w.owned w.mine knows_w.mine_owned (sound.apart a b v w at_a at_b differ n one)))

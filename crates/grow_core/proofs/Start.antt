@@ -60,6 +60,7 @@ module _ (sys : TileSystem) (valid : IsValid sys) where
     part = λ p c. subst (λ l. Contains l p) (sym first_places) c;
     mine_seen = λ t c. absurd (Contains-nil t c);
     mine_owned = λ t c. absurd (Contains-nil t c);
+    mine_distinct = λ i j d before within. let l : j < 0 = within in absurd (omega (arith, l));
     history = λ n own. let l = below n own in by_none n first_tiles (λ t c e. let s = seed_placer t c in omega (arith, l, e, s));
   })
 

@@ -1,6 +1,6 @@
 -- The state of the growth core, and what holds of it after every event.
 -- The tiles are listed in the order in which they were placed, so that the list is itself one legal history.
-use Rattle.std.specs.Prelude.{◌≡◌, ◌≢◌, ℕ, ◌<◌, ◌-◌, ◌^◌, ◌==◌, List, Option, Some, None, length, map, filter, slice_get, Contains, All}
+use Rattle.std.specs.Prelude.{◌≡◌, ◌≢◌, ℕ, ◌<◌, ◌-◌, ◌^◌, ◌==◌, List, Option, Some, None, length, map, filter, slice_get, Contains, All, AllPairs}
 use Rattle.std.specs.Option.{unwrap_or}
 use Rattle.std.specs.Int.{bit_at, trailing_zeros, leading_zeros, w64}
 use Rattle.atam.specs.declared.place.Place.{Place}
@@ -46,6 +46,10 @@ places tiles = map (λ t. t.place) tiles
 abbrev pub placed_by : ℕ → List Tile → List Tile
 placed_by n tiles = filter (λ t. t.placer == n) tiles
 
+-- no site has two of the tiles
+abbrev pub HasDistinctTiles : List Tile → Type 0
+HasDistinctTiles tiles = AllPairs (λ t u. t.place.site ≢ u.place.site) tiles
+
 -- a seed has the placer 65535, and every other tile one from 0 to 63
 pub record IsNumbered (sys : TileSystem) (t : Tile) : Type 0 where
   pub seed : Contains sys.seeds t.place → t.placer ≡ 65535
@@ -67,6 +71,7 @@ pub record Knows (sys : TileSystem) (tiles : List Tile) (v : Scout) : Type 0 whe
   pub distinct : HasDistinctSites v.seen
   pub mine_seen : (t : Tile) → Contains v.mine t → Contains v.seen t.place
   pub mine_owned : (t : Tile) → Contains v.mine t → Owns v.owned t.placer
+  pub mine_distinct : HasDistinctTiles v.mine
   -- the wins of each number are listed in the order in which they were won
   pub history : (n : ℕ) → Owns v.owned n → placed_by n tiles ≡ placed_by n v.mine
 

@@ -1,12 +1,15 @@
 -- Laws of the core, over every state.
-use Rattle.std.specs.Prelude.{◌≡◌, ℕ, List, Some, Result, Err}
+use Rattle.std.specs.Prelude.{◌≡◌, ◌↔◌, ℕ, List, Some, Result, Err, Contains}
 use Rattle.atam.specs.TileSystem.{TileSystem, IsValid}
 use Rattle.atam.specs.Growth.{IsProducible, IsClosedInBox}
-use Rattle.atam.specs.Placements.{SamePlacements}
+use Rattle.atam.specs.Placements.{SamePlacements, tile_at}
+use Rattle.atam.specs.declared.site.Site.{Site}
+use Rattle.atam.specs.declared.place.TypeId.{TypeId}
+use Rattle.grow_core.specs.declared.tile.Tile.{Tile}
 use Rattle.grow_core.specs.declared.event.Event.{Event}
 use Rattle.grow_core.specs.declared.event.Seen.{Seen}
 use Rattle.grow_core.specs.declared.event.CoreStop.{CoreStop}
-use Rattle.grow_core.specs.Core.{Scout, CoreState, scout_named, places, IsSound}
+use Rattle.grow_core.specs.Core.{Scout, CoreState, scout_named, Owns, places, IsSound}
 use Rattle.grow_core.specs.Steps.{CoreStep, CoreRun, IsStart, without_scout}
 
 -- the start has the core's invariant
@@ -41,3 +44,14 @@ abbrev pub ClosedIsFinal : Type 0
 ClosedIsFinal = (sys : TileSystem) (s t : CoreState) (event : Event) (reply : Result Seen CoreStop) (name : ℕ) (v : Scout) →
     IsValid sys → IsSound sys s → scout_named s.scouts name ≡ Some v → IsClosedInBox sys v.seen →
     CoreStep sys s event reply t → t.tiles ≡ s.tiles
+
+-- a scout's own tiles are those that its numbers have placed
+abbrev pub OwnTilesAreOfItsNumbers : Type 0
+OwnTilesAreOfItsNumbers = (sys : TileSystem) (s : CoreState) (name : ℕ) (v : Scout) (t : Tile) →
+    IsSound sys s → scout_named s.scouts name ≡ Some v → Contains v.mine t ↔ (Contains s.tiles t × Owns v.owned t.placer)
+
+-- what two scouts have seen at a site is the same
+abbrev pub ScoutsAgree : Type 0
+ScoutsAgree = (sys : TileSystem) (s : CoreState) (a b : ℕ) (v w : Scout) (m : Site) (t u : TypeId) →
+    IsSound sys s → scout_named s.scouts a ≡ Some v → scout_named s.scouts b ≡ Some w →
+    tile_at v.seen m ≡ Some t → tile_at w.seen m ≡ Some u → t ≡ u

@@ -1,5 +1,5 @@
 // Laws of the core, each as the contract of a function that does nothing.
-ghost use Rattle.grow_core.specs.Laws.{StartIsSound, EventsKeepSoundness, RunsStaySound, LeavingKeepsSoundness, RefusalsChangeNothing, SeenAndClosedIsAll, ClosedIsFinal};
+ghost use Rattle.grow_core.specs.Laws.{StartIsSound, EventsKeepSoundness, RunsStaySound, LeavingKeepsSoundness, RefusalsChangeNothing, SeenAndClosedIsAll, ClosedIsFinal, OwnTilesAreOfItsNumbers, ScoutsAgree};
 
 /// The invariant, which names one legal history, holds at the start, and each event keeps it.
 pub fn law_kept()
@@ -22,4 +22,10 @@ pub fn law_refused()
 pub fn law_quiet()
     ensures whole { SeenAndClosedIsAll }
     ensures last { ClosedIsFinal }
+{}
+
+/// What scouts know.
+pub fn law_scouts()
+    ensures own { OwnTilesAreOfItsNumbers }
+    ensures agree { ScoutsAgree }
 {}
