@@ -15,13 +15,10 @@ use Rattle.atam.proofs.Bonds.{pull-mono}
 use Rattle.atam.proofs.Placements.{Extends, Extends-IsPartOf, HasDistinctSites-push, none_at, Contains-tile_at}
 use Rattle.atam.proofs.Sequences.{IsLegal-push}
 use Rattle.grow_core.specs.declared.tile.Tile.{Tile}
-use Rattle.grow_core.specs.Core.{Scout, CoreState, scout_named, Owns, least, places, placed_by, HasDistinctTiles, IsNumbered, IsGrounded, Knows, IsSound}
+use Rattle.grow_core.specs.Core.{Scout, scout_at, Owns, least, places, placed_by, HasDistinctTiles, IsNumbered, IsGrounded, Knows, IsConsistent}
 use Rattle.grow_core.specs.Steps.{tile_of, IsScoutOf}
-use Rattle.grow_core.proofs.Named.{named_after, length_set}
+use Rattle.grow_core.proofs.Named.{named_after}
 use Rattle.grow_core.proofs.Numbers.{least-owned}
-
-abbrev pub state : List Tile → List (Option Scout) → CoreState
-state tiles scouts = record { tiles = tiles; scouts = scouts }
 
 -- what is known of numbers, an assembly and own tiles makes a scout of them one that knows
 pub record IsKnown (sys : TileSystem) (log : List Tile) (numbers : ℕ) (tiles : List Place) (wins : List Tile) : Type 0 where
@@ -54,17 +51,12 @@ module _ (sys : TileSystem) where
       }
 
   -- a scout comes to a name, in the place of who had it, and maybe the tiles change
-  pub placed : (log later : List Tile) (scouts : List (Option Scout)) (a : ℕ) (w : Scout) → IsSound sys (state log scouts) → IsGrounded sys later →
-      ((b : ℕ) (u : Scout) → b ≢ a → scout_named scouts b ≡ Some u → Knows sys later u) → Knows sys later w → least w.owned ≡ a →
-      ((b : ℕ) (u : Scout) → b ≢ a → scout_named scouts b ≡ Some u → (n : ℕ) → Owns u.owned n → ¬ Owns w.owned n) →
-      IsSound sys (state later (set scouts a (Some w)))
-  placed log later scouts a w sound ground others mine name alone = record {
+  pub placed : (log later : List Tile) (scouts : List (Option Scout)) (a : ℕ) (w : Scout) → IsConsistent sys log scouts → IsGrounded sys later →
+      ((b : ℕ) (u : Scout) → b ≢ a → scout_at scouts b ≡ Some u → Knows sys later u) → Knows sys later w →
+      ((b : ℕ) (u : Scout) → b ≢ a → scout_at scouts b ≡ Some u → (n : ℕ) → Owns u.owned n → ¬ Owns w.owned n) →
+      IsConsistent sys later (set scouts a (Some w))
+  placed log later scouts a w sound ground others mine alone = record {
     ground = ground;
-    names = length_set scouts a (Some w) ∙ sound.names;
-    named = λ b u at_b. elim (named_after scouts a b (Some w) u at_b) [
-      | inl t ↦ ap (λ (x : Scout). least x.owned) (sym (same_Some w u t.1)) ∙ (name ∙ sym t.0)
-      | inr t ↦ sound.named b u t.1
-    ];
     knows = λ b u at_b. elim (named_after scouts a b (Some w) u at_b) [
       | inl t ↦ subst (Knows sys later) (same_Some w u t.1) mine
       | inr t ↦ others b u t.0 t.1
@@ -82,14 +74,12 @@ module _ (sys : TileSystem) where
   }
 
   -- a scout is left out
-  pub left_out : (log : List Tile) (scouts : List (Option Scout)) (a : ℕ) → IsSound sys (state log scouts) → IsSound sys (state log (set scouts a None))
+  pub left_out : (log : List Tile) (scouts : List (Option Scout)) (a : ℕ) → IsConsistent sys log scouts → IsConsistent sys log (set scouts a None)
   left_out log scouts a sound =
-      let there : (b : ℕ) (u : Scout) → scout_named (set scouts a None) b ≡ Some u → scout_named scouts b ≡ Some u =
+      let there : (b : ℕ) (u : Scout) → scout_at (set scouts a None) b ≡ Some u → scout_at scouts b ≡ Some u =
       λ b u at_b. elim (named_after scouts a b None u at_b) [ inl t ↦ absurd (none-some u t.1) | inr t ↦ t.1 ] in
       record {
         ground = sound.ground;
-        names = length_set scouts a None ∙ sound.names;
-        named = λ b u at_b. sound.named b u (there b u at_b);
         knows = λ b u at_b. sound.knows b u (there b u at_b);
         apart = λ b c u x at_b at_c. sound.apart b c u x (there b u at_b) (there c x at_c);
       }
@@ -98,15 +88,12 @@ module _ (sys : TileSystem) where
   pub extends : (log : List Tile) (v : Scout) → IsGrounded sys log → Knows sys log v → Extends v.seen (places log)
   extends log v ground knows = Extends-IsPartOf v.seen (places log) ground.distinct knows.part
 
-  module _ (log : List Tile) (scouts : List (Option Scout)) (a : ℕ) (v w : Scout) (p : Place) (sound : IsSound sys (state log scouts)) (here : scout_named scouts a ≡ Some v) where
+  module _ (log : List Tile) (scouts : List (Option Scout)) (a : ℕ) (v w : Scout) (p : Place) (sound : IsConsistent sys log scouts) (here : scout_at scouts a ≡ Some v) where
     known : Knows sys log v
     known = sound.knows a v here
 
-    -- the scout keeps its numbers, so it keeps its name, and they are nobody else's
-    same_name : w.owned ≡ v.owned → least w.owned ≡ a
-    same_name e = ap least e ∙ sound.named a v here
-
-    still_alone : w.owned ≡ v.owned → (b : ℕ) (u : Scout) → b ≢ a → scout_named scouts b ≡ Some u → (n : ℕ) → Owns u.owned n → ¬ Owns w.owned n
+    -- the scout keeps its numbers, so they are nobody else's
+    still_alone : w.owned ≡ v.owned → (b : ℕ) (u : Scout) → b ≢ a → scout_at scouts b ≡ Some u → (n : ℕ) → Owns u.owned n → ¬ Owns w.owned n
     still_alone e b u differ at_b n own_u own_w = sound.apart b a u v at_b here differ n own_u (subst (λ x. Owns x n) e own_w)
 
     seen_more : (later : List Tile) → IsPartOf (places log) (places later) → Contains (places later) p → IsPartOf (v.seen ++ p ∷ []) (places later)
@@ -116,7 +103,7 @@ module _ (sys : TileSystem) where
     ]
 
     -- a look, or a claim that is lost
-    pub seen-sound : Contains (places log) p → IsScoutOf v.owned (v.seen ++ p ∷ []) v.mine w → IsSound sys (state log (set scouts a (Some w)))
+    pub seen-sound : Contains (places log) p → IsScoutOf v.owned (v.seen ++ p ∷ []) v.mine w → IsConsistent sys log (set scouts a (Some w))
     seen-sound there is = placed log log scouts a w sound sound.ground (λ b u _ at_b. sound.knows b u at_b)
         (knows-by log v.owned (v.seen ++ p ∷ []) v.mine w is (record {
           some_number = known.some_number;
@@ -128,7 +115,7 @@ module _ (sys : TileSystem) where
           mine_distinct = known.mine_distinct;
           history = known.history;
         }))
-        (same_name is.owned) (still_alone is.owned)
+        (still_alone is.owned)
 
     -- a claim that is won
     module _ (kind : IsType sys p.tile) (inside : InBox sys.area p.site) (supported : sys.tau ≤ pull sys v.seen p.site p.tile) (empty : tile_at (places log) p.site ≡ None) where
@@ -172,7 +159,7 @@ module _ (sys : TileSystem) where
       other_history n other = filter-append (λ (t : Tile). t.placer == n) log (fresh ∷ [])
           ∙ (ap (λ b. placed_by n log ++ cond b (fresh ∷ []) []) (ne_eqb (least v.owned) n (λ e. other (sym e))) ∙ append-nil (placed_by n log))
 
-      others : (b : ℕ) (u : Scout) → b ≢ a → scout_named scouts b ≡ Some u → Knows sys later u
+      others : (b : ℕ) (u : Scout) → b ≢ a → scout_at scouts b ≡ Some u → Knows sys later u
       others b u differ at_b =
           let knows = sound.knows b u at_b in
           record {
@@ -187,7 +174,7 @@ module _ (sys : TileSystem) where
             history = λ n owns. other_history n (λ e. sound.apart b a u v at_b here differ n owns (subst (Owns v.owned) (sym e) own.1)) ∙ knows.history n owns;
           }
 
-      pub won-sound : IsScoutOf v.owned (v.seen ++ p ∷ []) (v.mine ++ fresh ∷ []) w → IsSound sys (state later (set scouts a (Some w)))
+      pub won-sound : IsScoutOf v.owned (v.seen ++ p ∷ []) (v.mine ++ fresh ∷ []) w → IsConsistent sys later (set scouts a (Some w))
       won-sound is = placed log later scouts a w sound won-ground others
           (knows-by later v.owned (v.seen ++ p ∷ []) (v.mine ++ fresh ∷ []) w is (record {
             some_number = known.some_number;
@@ -209,4 +196,4 @@ module _ (sys : TileSystem) where
             history = λ n owns. filter-append (λ (t : Tile). t.placer == n) log (fresh ∷ [])
                 ∙ (ap (λ l. l ++ placed_by n (fresh ∷ [])) (known.history n owns) ∙ sym (filter-append (λ (t : Tile). t.placer == n) v.mine (fresh ∷ [])));
           }))
-          (same_name is.owned) (still_alone is.owned)
+          (still_alone is.owned)

@@ -6,20 +6,20 @@ use Rattle.std.proofs.lemmas.Nat.{or_lt}
 use Rattle.std.proofs.lemmas.List.Elements.{Contains-append_left, Contains-append_cases, filter-append}
 use Rattle.atam.specs.TileSystem.{TileSystem}
 use Rattle.grow_core.specs.declared.tile.Tile.{Tile}
-use Rattle.grow_core.specs.Core.{Scout, scout_named, Owns, least, greatest, OwnsTwoOrMore, placed_by, Knows, IsSound}
+use Rattle.grow_core.specs.Core.{Scout, scout_at, Owns, least, greatest, OwnsTwoOrMore, placed_by, Knows, IsConsistent}
 use Rattle.grow_core.specs.Steps.{IsScoutOf, kept_tiles}
 use Rattle.grow_core.proofs.Lists.{Contains-append_right, filter-from, filter-passed, all_pairs_append}
 use Rattle.std.proofs.lemmas.List.Kept.{AllPairs-filter}
 use Rattle.grow_core.proofs.Own.{same_tile, mine_tile}
 use Rattle.grow_core.proofs.Named.{named_after}
-use Rattle.grow_core.proofs.Numbers.{IsTop, top, greatest-owned, left-owned, left-other, left-owns, alone, owns_itself, both-owned, either-owns, by_itself, by_other, by_none, is_equal, least-of_greatest, least-of_rest, some_rest, some_owned, least-owned, least-of_both}
-use Rattle.grow_core.proofs.Kept.{state, knows-by, placed, left_out}
+use Rattle.grow_core.proofs.Numbers.{IsTop, top, greatest-owned, left-owned, left-other, left-owns, alone, owns_itself, both-owned, either-owns, by_itself, by_other, by_none, is_equal, some_rest, some_owned, least-owned}
+use Rattle.grow_core.proofs.Kept.{knows-by, placed, left_out}
 
 not_true : (b : Bool) → not b ≡ true → b ≡ false
 not_true true e = absurd (false≢true e)
 not_true false e = refl
 
-module _ (sys : TileSystem) (log : List Tile) (scouts : List (Option Scout)) (a : ℕ) (v w x : Scout) (sound : IsSound sys (state log scouts)) (here : scout_named scouts a ≡ Some v) (two : OwnsTwoOrMore v.owned) where
+module _ (sys : TileSystem) (log : List Tile) (scouts : List (Option Scout)) (a : ℕ) (v w x : Scout) (sound : IsConsistent sys log scouts) (here : scout_at scouts a ≡ Some v) (two : OwnsTwoOrMore v.owned) where
   abbrev g : ℕ
   g = greatest v.owned
 
@@ -30,7 +30,7 @@ module _ (sys : TileSystem) (log : List Tile) (scouts : List (Option Scout)) (a 
   is_top = top v.owned known.some_number known.numbers
 
   -- the old scout keeps the other numbers and the rest of its tiles
-  rest-sound : IsScoutOf (v.owned - 2 ^ g) v.seen (kept_tiles g v.mine) w → IsSound sys (state log (set scouts a (Some w)))
+  rest-sound : IsScoutOf (v.owned - 2 ^ g) v.seen (kept_tiles g v.mine) w → IsConsistent sys log (set scouts a (Some w))
   rest-sound is = placed sys log log scouts a w sound sound.ground (λ b u _ at_b. sound.knows b u at_b)
       (knows-by sys log (v.owned - 2 ^ g) v.seen (kept_tiles g v.mine) w is (record {
         some_number = some_rest v.owned known.some_number known.numbers two;
@@ -44,14 +44,13 @@ module _ (sys : TileSystem) (log : List Tile) (scouts : List (Option Scout)) (a 
         mine_distinct = AllPairs-filter (λ (t u : Tile). t.place.site ≢ u.place.site) (λ (y : Tile). not (y.placer == g)) v.mine known.mine_distinct;
         history = λ n own. known.history n (left-owned v.owned is_top n own) ∙ sym (by_other n g v.mine (left-other v.owned is_top n own));
       }))
-      (ap least is.owned ∙ (least-of_rest v.owned known.some_number known.numbers two ∙ sound.named a v here))
       (λ b u differ at_b n own_u own_w. sound.apart b a u v at_b here differ n own_u (left-owned v.owned is_top n (subst (λ y. Owns y n) is.owned own_w)))
 
   new-owned : IsScoutOf (2 ^ g) v.seen (placed_by g v.mine) x → (n : ℕ) → Owns x.owned n → n ≡ g
   new-owned is n own = alone v.owned is_top n (subst (λ y. Owns y n) is.owned own)
 
   pub divided-sound : IsScoutOf (v.owned - 2 ^ g) v.seen (kept_tiles g v.mine) w → IsScoutOf (2 ^ g) v.seen (placed_by g v.mine) x
-      → IsSound sys (state log (set (set scouts a (Some w)) g (Some x)))
+      → IsConsistent sys log (set (set scouts a (Some w)) g (Some x))
   divided-sound rest new =
       let before = rest-sound rest in
       placed sys log log (set scouts a (Some w)) g x before sound.ground (λ b u _ at_b. before.knows b u at_b)
@@ -68,7 +67,6 @@ module _ (sys : TileSystem) (log : List Tile) (scouts : List (Option Scout)) (a 
             subst (λ k. placed_by k log ≡ placed_by k (placed_by g v.mine)) (sym e)
             (known.history g (greatest-owned v.owned is_top) ∙ sym (by_itself g v.mine));
       }))
-      (ap least new.owned ∙ least-of_greatest v.owned known.some_number known.numbers)
       (λ b u differ at_b n own_u own_x.
       let e = new-owned new n own_x in
       elim (named_after scouts a b (Some w) u at_b) [
@@ -77,7 +75,7 @@ module _ (sys : TileSystem) (log : List Tile) (scouts : List (Option Scout)) (a 
         | inr t ↦ sound.apart b a u v t.1 here t.0 n own_u (subst (Owns v.owned) (sym e) (greatest-owned v.owned is_top))
       ])
 
-module _ (sys : TileSystem) (log : List Tile) (scouts : List (Option Scout)) (a b : ℕ) (v w x : Scout) (sound : IsSound sys (state log scouts)) (at_a : scout_named scouts a ≡ Some v) (at_b : scout_named scouts b ≡ Some w) (differ : a ≢ b) where
+module _ (sys : TileSystem) (log : List Tile) (scouts : List (Option Scout)) (a b : ℕ) (v w x : Scout) (sound : IsConsistent sys log scouts) (at_a : scout_at scouts a ≡ Some v) (at_b : scout_at scouts b ≡ Some w) (differ : a ≢ b) where
   knows_v : Knows sys log v
   knows_v = sound.knows a v at_a
 
@@ -95,16 +93,16 @@ module _ (sys : TileSystem) (log : List Tile) (scouts : List (Option Scout)) (a 
   abbrev others : List (Option Scout)
   others = set (set scouts a None) b None
 
-  third : (c : ℕ) (u : Scout) → scout_named others c ≡ Some u → ((c ≢ a) × (c ≢ b)) × (scout_named scouts c ≡ Some u)
+  third : (c : ℕ) (u : Scout) → scout_at others c ≡ Some u → ((c ≢ a) × (c ≢ b)) × (scout_at scouts c ≡ Some u)
   third c u at_c = elim (named_after (set scouts a None) b c None u at_c) [
     | inl t ↦ absurd (none-some u t.1)
     | inr t ↦ elim (named_after scouts a c None u t.1) [ inl s ↦ absurd (none-some u s.1) | inr s ↦ ((s.0, t.0), s.1) ]
   ]
 
-  others-sound : IsSound sys (state log others)
+  others-sound : IsConsistent sys log others
   others-sound = left_out sys log (set scouts a None) b (left_out sys log scouts a sound)
 
-  pub joined-sound : IsScoutOf (bit_or v.owned w.owned) (v.seen ++ w.seen) (v.mine ++ w.mine) x → IsSound sys (state log (set others (min a b) (Some x)))
+  pub joined-sound : IsScoutOf (bit_or v.owned w.owned) (v.seen ++ w.seen) (v.mine ++ w.mine) x → IsConsistent sys log (set others (min a b) (Some x))
   joined-sound is = placed sys log log others (min a b) x others-sound sound.ground (λ c u _ at_c. others-sound.knows c u at_c)
       (knows-by sys log (bit_or v.owned w.owned) (v.seen ++ w.seen) (v.mine ++ w.mine) x is (record {
         some_number = some_owned (bit_or v.owned w.owned) (least v.owned)
@@ -133,8 +131,6 @@ module _ (sys : TileSystem) (log : List Tile) (scouts : List (Option Scout)) (a 
               ∙ sym (filter-append (λ (t : Tile). t.placer == n) v.mine w.mine))
         ];
       }))
-      (ap least is.owned ∙ (least-of_both v.owned w.owned knows_v.some_number knows_v.numbers knows_w.some_number knows_w.numbers small
-      ∙ (ap (λ k. min k (least w.owned)) (sound.named a v at_a) ∙ ap (λ k. min a k) (sound.named b w at_b))))
       (λ c u _ at_c n own_u own_x.
       let t = third c u at_c in
       elim (both-owned v.owned w.owned n (subst (λ y. Owns y n) is.owned own_x)) [

@@ -12,13 +12,13 @@ use Rattle.atam.specs.declared.place.Place.{Place}
 use Rattle.atam.specs.Placements.{HasDistinctSites}
 use Rattle.atam.proofs.Sequences.{IsLegal-seeds}
 use Rattle.grow_core.specs.declared.tile.Tile.{Tile}
-use Rattle.grow_core.specs.Core.{Scout, CoreState, scout_named, Owns, least, places, IsNumbered, IsGrounded, Knows, IsSound}
+use Rattle.grow_core.specs.Core.{Scout, CoreState, scout_at, Owns, least, places, IsNumbered, IsGrounded, Knows, IsSound}
 use Rattle.grow_core.specs.Steps.{tile_of, IsScoutOf, IsStart}
 use Rattle.grow_core.proofs.Lists.{Contains-nil}
 use Rattle.grow_core.proofs.Numbers.{by_none}
-use Rattle.grow_core.proofs.Kept.{state, knows-by}
+use Rattle.grow_core.proofs.Kept.{knows-by}
 
-nobody : (k a : ℕ) (v : Scout) → scout_named (replicate k None) a ≡ Some v → ⊥
+nobody : (k a : ℕ) (v : Scout) → scout_at (replicate k None) a ≡ Some v → ⊥
 nobody zero a v e = none-some v e
 nobody (suc k) zero v e = none-some v e
 nobody (suc k) (suc a) v e = nobody k a v e
@@ -64,21 +64,25 @@ module _ (sys : TileSystem) (valid : IsValid sys) where
     history = λ n own. let l = below n own in by_none n first_tiles (λ t c e. let s = seed_placer t c in omega (arith, l, e, s));
   })
 
-  only : (first : Scout) (a : ℕ) (v : Scout) → scout_named (Some first ∷ replicate 63 None) a ≡ Some v → (a ≡ 0) × (first ≡ v)
+  only : (first : Scout) (a : ℕ) (v : Scout) → scout_at (Some first ∷ replicate 63 None) a ≡ Some v → (a ≡ 0) × (first ≡ v)
   only first zero v e = (refl, same_Some first v e)
   only first (suc a) v e = absurd (nobody 63 a v e)
 
-  start : (first : Scout) → IsScoutOf (2 ^ 64 - 1) sys.seeds [] first → IsSound sys (state first_tiles (Some first ∷ replicate 63 None))
+  start : (first : Scout) → IsScoutOf (2 ^ 64 - 1) sys.seeds [] first → IsSound sys (record { tiles = first_tiles; scouts = Some first ∷ replicate 63 None })
   unfolding lib.Count.count_trailing_zeros
   start first is = record {
-    ground = grounded;
-    names = refl;
-    named = λ a v e. let t = only first a v e in ap (λ (x : Scout). least x.owned) (sym t.1) ∙ (ap least is.owned ∙ sym t.0);
-    knows = λ a v e. subst (Knows sys first_tiles) (only first a v e).1 (first-knows first is);
-    apart = λ a b v w at_a at_b differ n _ _. differ ((only first a v at_a).0 ∙ sym (only first b w at_b).0);
+    consistent = record {
+      ground = grounded;
+      knows = λ a v e. subst (Knows sys first_tiles) (only first a v e).1 (first-knows first is);
+      apart = λ a b v w at_a at_b differ n _ _. differ ((only first a v at_a).0 ∙ sym (only first b w at_b).0);
+    };
+    named = record {
+      names = refl;
+      own_name = λ a v e. let t = only first a v e in ap (λ (x : Scout). least x.owned) (sym t.1) ∙ (ap least is.owned ∙ sym t.0);
+    };
   }
 
   pub start-sound : (s : CoreState) → IsStart sys s → IsSound sys s
   start-sound s is =
-      let same : s ≡ state first_tiles (Some is.first ∷ replicate 63 None) = λ i. record { tiles = is.tiles i; scouts = is.scouts i } in
+      let same : s ≡ record { tiles = first_tiles; scouts = Some is.first ∷ replicate 63 None } = λ i. record { tiles = is.tiles i; scouts = is.scouts i } in
       subst (IsSound sys) (sym same) (start is.first is.seeds)

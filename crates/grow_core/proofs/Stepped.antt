@@ -1,5 +1,5 @@
 -- Each event keeps the invariant; and where a scout has seen a closed assembly, that is all, and no event adds to it.
-use Rattle.std.proofs.Common.{◌≡◌, ◌≢◌, ◌≤◌, ℕ, List, Option, Some, None, Contains, length, option_and_then, Result, Err, refl, ap, arith}
+use Rattle.std.proofs.Common.{set, min, ◌≡◌, ◌≢◌, ◌≤◌, ℕ, List, Option, Some, None, Contains, length, option_and_then, Result, Err, refl, ap, arith, ◌∙◌}
 use Rattle.std.proofs.Math.Nat.{le_trans}
 use Rattle.std.proofs.lemmas.Option.{slice_get_past}
 use mathlib.Core.Logic.{dite}
@@ -25,9 +25,12 @@ use Rattle.grow_core.specs.declared.tile.Tile.{Tile}
 use Rattle.grow_core.specs.declared.event.Event.{Event}
 use Rattle.grow_core.specs.declared.event.Seen.{Seen}
 use Rattle.grow_core.specs.declared.event.CoreStop.{CoreStop}
-use Rattle.grow_core.specs.Core.{Scout, CoreState, scout_named, places, IsGrounded, Knows, IsSound}
-use Rattle.grow_core.specs.Steps.{CoreStep, CoreRun, place, no_such_scout, no_other_scout, same_scout, looks_outside, claims_outside, unsupported, one_number, no_memory, saw_none, saw_tile, won, held, divided, joined, stopped, stepped}
-use Rattle.grow_core.proofs.Kept.{extends, seen-sound, won-sound}
+use Rattle.grow_core.specs.Core.{Scout, CoreState, scout_at, least, greatest, places, IsGrounded, Knows, IsSound}
+use Rattle.grow_core.specs.Steps.{without_scout, CoreStep, CoreRun, place, no_such_scout, no_other_scout, same_scout, looks_outside, claims_outside, unsupported, one_number, no_memory, saw_none, saw_tile, won, held, divided, joined, stopped, stepped}
+use Rattle.std.proofs.lemmas.Nat.{or_lt}
+use Rattle.grow_core.proofs.Named.{named_set, named_unset}
+use Rattle.grow_core.proofs.Numbers.{least-of_rest, least-of_greatest, least-of_both}
+use Rattle.grow_core.proofs.Kept.{extends, left_out, seen-sound, won-sound}
 use Rattle.grow_core.proofs.Parted.{divided-sound, joined-sound}
 
 -- no type past the last one is pulled
@@ -62,16 +65,45 @@ step-sound sys s t event reply valid (unsupported who site tile v here inside we
 step-sound sys s t event reply valid (one_number who v here one) sound = sound
 step-sound sys s t event reply valid (no_memory who v here two) sound = sound
 step-sound sys s t event reply valid (saw_none who site v here inside empty) sound = sound
-step-sound sys s t event reply valid (saw_tile who site there v w here inside found is) sound =
-    seen-sound sys s.tiles s.scouts who v w (place site there) sound here (tile_at-Contains (places s.tiles) site there found) is
-step-sound sys s t event reply valid (won who site tile v w here inside supported empty is) sound =
-    won-sound sys s.tiles s.scouts who v w (place site tile) sound here (supported_type sys v.seen site tile valid.some_tau supported) inside supported empty is
-step-sound sys s t event reply valid (held who site tile there v w here inside supported found is) sound =
-    seen-sound sys s.tiles s.scouts who v w (place site there) sound here (tile_at-Contains (places s.tiles) site there found) is
+step-sound sys s t event reply valid (saw_tile who site there v w here inside found is) sound = record {
+  consistent = seen-sound sys s.tiles s.scouts who v w (place site there) sound.consistent here (tile_at-Contains (places s.tiles) site there found) is;
+  named = named_set s.scouts who w sound.named (ap least is.owned ∙ sound.named.own_name who v here);
+}
+step-sound sys s t event reply valid (won who site tile v w here inside supported empty is) sound = record {
+  consistent = won-sound sys s.tiles s.scouts who v w (place site tile) sound.consistent here
+      (supported_type sys v.seen site tile valid.some_tau supported) inside supported empty is;
+  named = named_set s.scouts who w sound.named (ap least is.owned ∙ sound.named.own_name who v here);
+}
+step-sound sys s t event reply valid (held who site tile there v w here inside supported found is) sound = record {
+  consistent = seen-sound sys s.tiles s.scouts who v w (place site there) sound.consistent here (tile_at-Contains (places s.tiles) site there found) is;
+  named = named_set s.scouts who w sound.named (ap least is.owned ∙ sound.named.own_name who v here);
+}
 step-sound sys s t event reply valid (divided who v w x here two rest new) sound =
-    divided-sound sys s.tiles s.scouts who v w x sound here two rest new
+    let knows = sound.consistent.knows who v here in
+    record {
+      consistent = divided-sound sys s.tiles s.scouts who v w x sound.consistent here two rest new;
+      named = named_set (set s.scouts who (Some w)) (greatest v.owned) x
+          (named_set s.scouts who w sound.named
+          (ap least rest.owned ∙ (least-of_rest v.owned knows.some_number knows.numbers two ∙ sound.named.own_name who v here)))
+          (ap least new.owned ∙ least-of_greatest v.owned knows.some_number knows.numbers);
+    }
 step-sound sys s t event reply valid (joined into from v w x at_into at_from differ is) sound =
-    joined-sound sys s.tiles s.scouts into from v w x sound at_into at_from differ is
+    let knows_v = sound.consistent.knows into v at_into in
+    let knows_w = sound.consistent.knows from w at_from in
+    record {
+      consistent = joined-sound sys s.tiles s.scouts into from v w x sound.consistent at_into at_from differ is;
+      named = named_set (set (set s.scouts into None) from None) (min into from) x
+          (named_unset (set s.scouts into None) from (named_unset s.scouts into sound.named))
+          (ap least is.owned
+          ∙ (least-of_both v.owned w.owned knows_v.some_number knows_v.numbers knows_w.some_number knows_w.numbers (or_lt 64 v.owned w.owned knows_v.numbers knows_w.numbers)
+          ∙ (ap (λ k. min k (least w.owned)) (sound.named.own_name into v at_into) ∙ ap (λ k. min into k) (sound.named.own_name from w at_from))));
+    }
+
+pub left-sound : (sys : TileSystem) (s : CoreState) (name : ℕ) → IsSound sys s → IsSound sys (without_scout s name)
+left-sound sys s name sound = record {
+  consistent = left_out sys s.tiles s.scouts name sound.consistent;
+  named = named_unset s.scouts name sound.named;
+}
 
 pub refused-same : (sys : TileSystem) (s t : CoreState) (event : Event) (stop : CoreStop) → CoreStep sys s event (Err stop) t → t ≡ s
 refused-same sys s t event stop (no_such_scout e nobody) = refl
@@ -88,7 +120,7 @@ run-sound sys s t replies valid (stopped u) sound = sound
 run-sound sys s t replies valid (stepped a b c event reply rest step run) sound = run-sound sys b c rest valid run (step-sound sys a b event reply valid step sound)
 
 pub producible : (sys : TileSystem) (s : CoreState) → IsSound sys s → IsProducible sys (places s.tiles)
-producible sys s sound = record { sequence = places s.tiles; legal = sound.ground.legal; same = record { part = λ p c. c; whole = λ p c. c } }
+producible sys s sound = record { sequence = places s.tiles; legal = sound.consistent.ground.legal; same = record { part = λ p c. c; whole = λ p c. c } }
 
 module _ (sys : TileSystem) (log : List Tile) (v : Scout) (ground : IsGrounded sys log) (knows : Knows sys log v) (closed : IsClosedInBox sys v.seen) where
   in_box : (p : Place) → Contains (places log) p → InBox sys.area p.site
@@ -117,7 +149,7 @@ module _ (sys : TileSystem) (log : List Tile) (v : Scout) (ground : IsGrounded s
     };
   })
 
-pub tiles-stay : (sys : TileSystem) (s t : CoreState) (event : Event) (reply : Result Seen CoreStop) (a : ℕ) (v : Scout) → IsValid sys → IsSound sys s → scout_named s.scouts a ≡ Some v
+pub tiles-stay : (sys : TileSystem) (s t : CoreState) (event : Event) (reply : Result Seen CoreStop) (a : ℕ) (v : Scout) → IsValid sys → IsSound sys s → scout_at s.scouts a ≡ Some v
     → IsClosedInBox sys v.seen → CoreStep sys s event reply t → t.tiles ≡ s.tiles
 tiles-stay sys s t event reply a v valid sound here closed (no_such_scout e nobody) = refl
 tiles-stay sys s t event reply a v valid sound here closed (no_other_scout into from nobody) = refl
@@ -130,7 +162,7 @@ tiles-stay sys s t event reply a v valid sound here closed (no_memory who u at_u
 tiles-stay sys s t event reply a v valid sound here closed (saw_none who site u at_u inside empty) = refl
 tiles-stay sys s t event reply a v valid sound here closed (saw_tile who site there u w at_u inside found is) = refl
 tiles-stay sys s t event reply a v valid sound here closed (won who site tile u w at_u inside supported empty is) =
-    absurd (no_win sys s.tiles v sound.ground (sound.knows a v here) closed u site tile (sound.knows who u at_u) inside
+    absurd (no_win sys s.tiles v sound.consistent.ground (sound.consistent.knows a v here) closed u site tile (sound.consistent.knows who u at_u) inside
     (supported_type sys u.seen site tile valid.some_tau supported) supported empty)
 tiles-stay sys s t event reply a v valid sound here closed (held who site tile there u w at_u inside supported found is) = refl
 tiles-stay sys s t event reply a v valid sound here closed (divided who u w x at_u two rest new) = refl

@@ -21,9 +21,9 @@ pub record CoreState : Type 0 where
   pub tiles : List Tile
   pub scouts : List (Option Scout)
 
--- the scout with a name
-abbrev pub scout_named : List (Option Scout) → ℕ → Option Scout
-scout_named scouts name = unwrap_or (slice_get scouts name) None
+-- the scout at an index of the list; in a state of the core that is the scout with this name
+abbrev pub scout_at : List (Option Scout) → ℕ → Option Scout
+scout_at scouts a = unwrap_or (slice_get scouts a) None
 
 -- the number n is one of a scout's numbers
 abbrev pub Owns : ℕ → ℕ → Type 0
@@ -75,12 +75,20 @@ pub record Knows (sys : TileSystem) (tiles : List Tile) (v : Scout) : Type 0 whe
   -- the wins of each number are listed in the order in which they were won
   pub history : (n : ℕ) → Owns v.owned n → placed_by n tiles ≡ placed_by n v.mine
 
+-- what holds of the tiles and of scouts that are listed in whatever order
+pub record IsConsistent (sys : TileSystem) (tiles : List Tile) (scouts : List (Option Scout)) : Type 0 where
+  pub ground : IsGrounded sys tiles
+  pub knows : (a : ℕ) (v : Scout) → scout_at scouts a ≡ Some v → Knows sys tiles v
+  -- no two scouts share a number
+  pub apart : (a b : ℕ) (v w : Scout) → scout_at scouts a ≡ Some v → scout_at scouts b ≡ Some w →
+      a ≢ b → (n : ℕ) → Owns v.owned n → ¬ Owns w.owned n
+
+-- there is an entry for each name, and each scout stands at its own
+pub record AreNamed (scouts : List (Option Scout)) : Type 0 where
+  pub names : length scouts ≡ 64
+  pub own_name : (a : ℕ) (v : Scout) → scout_at scouts a ≡ Some v → least v.owned ≡ a
+
 -- the core's invariant
 pub record IsSound (sys : TileSystem) (s : CoreState) : Type 0 where
-  pub ground : IsGrounded sys s.tiles
-  pub names : length s.scouts ≡ 64
-  pub named : (a : ℕ) (v : Scout) → scout_named s.scouts a ≡ Some v → least v.owned ≡ a
-  pub knows : (a : ℕ) (v : Scout) → scout_named s.scouts a ≡ Some v → Knows sys s.tiles v
-  -- no two scouts share a number
-  pub apart : (a b : ℕ) (v w : Scout) → scout_named s.scouts a ≡ Some v → scout_named s.scouts b ≡ Some w →
-      a ≢ b → (n : ℕ) → Owns v.owned n → ¬ Owns w.owned n
+  pub consistent : IsConsistent sys s.tiles s.scouts
+  pub named : AreNamed s.scouts

@@ -14,7 +14,7 @@ use Rattle.grow_core.specs.declared.event.Seen.{Seen}
 use Rattle.grow_core.specs.declared.event.Seen.TheVariants.{Saw, Won, Held, Divided, Joined}
 use Rattle.grow_core.specs.declared.event.CoreStop.{CoreStop}
 use Rattle.grow_core.specs.declared.event.CoreStop.TheVariants.{NoSuchScout, NotSupported, OutsideBox, NoNumberLeft, NoMemory}
-use Rattle.grow_core.specs.Core.{Scout, CoreState, scout_named, least, greatest, OwnsTwoOrMore, places, placed_by}
+use Rattle.grow_core.specs.Core.{Scout, CoreState, scout_at, least, greatest, OwnsTwoOrMore, places, placed_by}
 
 abbrev pub place : Site → TypeId → Place
 place site tile = record { site = site; tile = tile }
@@ -61,40 +61,40 @@ actor (Join into from) = into
 
 pub data CoreStep (sys : TileSystem) (s : CoreState) : Event → Result Seen CoreStop → CoreState → Type 0 where
   -- refusals; they leave the state as it was
-  no_such_scout : (event : Event) → scout_named s.scouts (actor event) ≡ None → CoreStep sys s event (Err NoSuchScout) s
-  no_other_scout : (into from : ℕ) → scout_named s.scouts from ≡ None → CoreStep sys s (Join into from) (Err NoSuchScout) s
+  no_such_scout : (event : Event) → scout_at s.scouts (actor event) ≡ None → CoreStep sys s event (Err NoSuchScout) s
+  no_other_scout : (into from : ℕ) → scout_at s.scouts from ≡ None → CoreStep sys s (Join into from) (Err NoSuchScout) s
   same_scout : (who : ℕ) → CoreStep sys s (Join who who) (Err NoSuchScout) s
-  looks_outside : (who : ℕ) (site : Site) (v : Scout) → scout_named s.scouts who ≡ Some v → ¬ InBox sys.area site →
+  looks_outside : (who : ℕ) (site : Site) (v : Scout) → scout_at s.scouts who ≡ Some v → ¬ InBox sys.area site →
       CoreStep sys s (Look who site) (Err OutsideBox) s
-  claims_outside : (who : ℕ) (site : Site) (tile : TypeId) (v : Scout) → scout_named s.scouts who ≡ Some v → ¬ InBox sys.area site →
+  claims_outside : (who : ℕ) (site : Site) (tile : TypeId) (v : Scout) → scout_at s.scouts who ≡ Some v → ¬ InBox sys.area site →
       CoreStep sys s (Claim who site tile) (Err OutsideBox) s
-  unsupported : (who : ℕ) (site : Site) (tile : TypeId) (v : Scout) → scout_named s.scouts who ≡ Some v → InBox sys.area site →
+  unsupported : (who : ℕ) (site : Site) (tile : TypeId) (v : Scout) → scout_at s.scouts who ≡ Some v → InBox sys.area site →
       model.pull sys v.seen site tile < sys.tau →
       CoreStep sys s (Claim who site tile) (Err (NotSupported (model.pull sys v.seen site tile))) s
-  one_number : (who : ℕ) (v : Scout) → scout_named s.scouts who ≡ Some v → ¬ OwnsTwoOrMore v.owned →
+  one_number : (who : ℕ) (v : Scout) → scout_at s.scouts who ≡ Some v → ¬ OwnsTwoOrMore v.owned →
       CoreStep sys s (Split who) (Err NoNumberLeft) s
-  no_memory : (who : ℕ) (v : Scout) → scout_named s.scouts who ≡ Some v → OwnsTwoOrMore v.owned →
+  no_memory : (who : ℕ) (v : Scout) → scout_at s.scouts who ≡ Some v → OwnsTwoOrMore v.owned →
       CoreStep sys s (Split who) (Err NoMemory) s
   -- answers
-  saw_none : (who : ℕ) (site : Site) (v : Scout) → scout_named s.scouts who ≡ Some v → InBox sys.area site →
+  saw_none : (who : ℕ) (site : Site) (v : Scout) → scout_at s.scouts who ≡ Some v → InBox sys.area site →
       tile_at (places s.tiles) site ≡ None → CoreStep sys s (Look who site) (Ok (Saw None)) s
-  saw_tile : (who : ℕ) (site : Site) (there : TypeId) (v w : Scout) → scout_named s.scouts who ≡ Some v → InBox sys.area site →
+  saw_tile : (who : ℕ) (site : Site) (there : TypeId) (v w : Scout) → scout_at s.scouts who ≡ Some v → InBox sys.area site →
       tile_at (places s.tiles) site ≡ Some there →
       IsScoutOf v.owned (v.seen ++ place site there ∷ []) v.mine w →
       CoreStep sys s (Look who site) (Ok (Saw (Some there))) (with_scout s who w)
-  won : (who : ℕ) (site : Site) (tile : TypeId) (v w : Scout) → scout_named s.scouts who ≡ Some v → InBox sys.area site →
+  won : (who : ℕ) (site : Site) (tile : TypeId) (v w : Scout) → scout_at s.scouts who ≡ Some v → InBox sys.area site →
       sys.tau ≤ model.pull sys v.seen site tile → tile_at (places s.tiles) site ≡ None →
       IsScoutOf v.owned (v.seen ++ place site tile ∷ []) (v.mine ++ tile_of (place site tile) (least v.owned) ∷ []) w →
       CoreStep sys s (Claim who site tile) (Ok Won) (with_scout (with_tile s (tile_of (place site tile) (least v.owned))) who w)
-  held : (who : ℕ) (site : Site) (tile there : TypeId) (v w : Scout) → scout_named s.scouts who ≡ Some v → InBox sys.area site →
+  held : (who : ℕ) (site : Site) (tile there : TypeId) (v w : Scout) → scout_at s.scouts who ≡ Some v → InBox sys.area site →
       sys.tau ≤ model.pull sys v.seen site tile → tile_at (places s.tiles) site ≡ Some there →
       IsScoutOf v.owned (v.seen ++ place site there ∷ []) v.mine w →
       CoreStep sys s (Claim who site tile) (Ok (Held there)) (with_scout s who w)
-  divided : (who : ℕ) (v w x : Scout) → scout_named s.scouts who ≡ Some v → OwnsTwoOrMore v.owned →
+  divided : (who : ℕ) (v w x : Scout) → scout_at s.scouts who ≡ Some v → OwnsTwoOrMore v.owned →
       IsScoutOf (v.owned - 2 ^ greatest v.owned) v.seen (kept_tiles (greatest v.owned) v.mine) w →
       IsScoutOf (2 ^ greatest v.owned) v.seen (placed_by (greatest v.owned) v.mine) x →
       CoreStep sys s (Split who) (Ok (Divided (greatest v.owned))) (with_scout (with_scout s who w) (greatest v.owned) x)
-  joined : (into from : ℕ) (v w x : Scout) → scout_named s.scouts into ≡ Some v → scout_named s.scouts from ≡ Some w → into ≢ from →
+  joined : (into from : ℕ) (v w x : Scout) → scout_at s.scouts into ≡ Some v → scout_at s.scouts from ≡ Some w → into ≢ from →
       IsScoutOf (bit_or v.owned w.owned) (v.seen ++ w.seen) (v.mine ++ w.mine) x →
       CoreStep sys s (Join into from) (Ok (Joined (min into from)))
       (with_scout (without_scout (without_scout s into) from) (min into from) x)
