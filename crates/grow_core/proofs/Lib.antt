@@ -6,3 +6,4 @@ pub mod Kept
 pub mod Parted
 pub mod Start
 pub mod Stepped
+pub mod Answered

@@ -26,7 +26,12 @@ abbrev pub RunsStaySound : Type 0
 RunsStaySound = (sys : TileSystem) (s t : CoreState) (replies : List (Event × Result Seen CoreStop)) →
     IsValid sys → IsStart sys s → CoreRun sys s replies t → IsSound sys t × IsProducible sys (places t.tiles)
 
--- it stays where a scout is left out
+-- each event has a reply
+abbrev pub EventsAreAnswered : Type 0
+EventsAreAnswered = (sys : TileSystem) (s : CoreState) (event : Event) → IsSound sys s →
+    (reply : Result Seen CoreStop) × (t : CoreState) × CoreStep sys s event reply t
+
+-- the invariant stays where a scout is left out
 abbrev pub LeavingKeepsSoundness : Type 0
 LeavingKeepsSoundness = (sys : TileSystem) (s : CoreState) (name : ℕ) → IsSound sys s → IsSound sys (without_scout s name)
 

@@ -6,5 +6,5 @@ mod laws;
 mod tile;
 
 pub use event::{CoreStop, Event, Seen};
-pub use laws::{law_kept, law_left_out, law_quiet, law_refused, law_scouts};
+pub use laws::{law_answered, law_kept, law_left_out, law_quiet, law_refused, law_scouts};
 pub use tile::Tile;
