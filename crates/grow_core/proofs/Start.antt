@@ -86,3 +86,15 @@ module _ (sys : TileSystem) (valid : IsValid sys) where
   start-sound s is =
       let same : s ≡ record { tiles = first_tiles; scouts = Some is.first ∷ replicate 63 None } = λ i. record { tiles = is.tiles i; scouts = is.scouts i } in
       subst (IsSound sys) (sym same) (start is.first is.seeds)
+
+  pub start-there : (s : CoreState) × IsStart sys s
+  start-there =
+      let first : Scout = record { owned = 2 ^ 64 - 1; seen = sys.seeds; mine = [] } in (
+        record { tiles = first_tiles; scouts = Some first ∷ replicate 63 None },
+        record {
+          tiles = refl;
+          first = first;
+          seeds = record { owned = refl; seen = record { part = λ p c. c; whole = λ p c. c }; distinct = valid.distinct_seeds; mine = refl };
+          scouts = refl;
+        },
+      )

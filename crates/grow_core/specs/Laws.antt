@@ -9,8 +9,8 @@ use Rattle.grow_core.specs.declared.tile.Tile.{Tile}
 use Rattle.grow_core.specs.declared.event.Event.{Event}
 use Rattle.grow_core.specs.declared.event.Seen.{Seen}
 use Rattle.grow_core.specs.declared.event.CoreStop.{CoreStop}
-use Rattle.grow_core.specs.Core.{Scout, CoreState, scout_at, Owns, places, IsSound}
-use Rattle.grow_core.specs.Steps.{CoreStep, CoreRun, IsStart, without_scout}
+use Rattle.grow_core.specs.Core.{Scout, CoreState, Owns, places, IsSound}
+use Rattle.grow_core.specs.Steps.{CoreStep, CoreRun, HasScout, IsStart, without_scout}
 
 -- the start has the core's invariant
 abbrev pub StartIsSound : Type 0
@@ -26,7 +26,11 @@ abbrev pub RunsStaySound : Type 0
 RunsStaySound = (sys : TileSystem) (s t : CoreState) (replies : List (Event × Result Seen CoreStop)) →
     IsValid sys → IsStart sys s → CoreRun sys s replies t → IsSound sys t × IsProducible sys (places t.tiles)
 
--- each event has a reply
+-- each valid system has a start
+abbrev pub StartIsThere : Type 0
+StartIsThere = (sys : TileSystem) → IsValid sys → (s : CoreState) × IsStart sys s
+
+-- and where the invariant holds, each event has a reply
 abbrev pub EventsAreAnswered : Type 0
 EventsAreAnswered = (sys : TileSystem) (s : CoreState) (event : Event) → IsSound sys s →
     (reply : Result Seen CoreStop) × (t : CoreState) × CoreStep sys s event reply t
@@ -43,20 +47,20 @@ RefusalsChangeNothing = (sys : TileSystem) (s t : CoreState) (event : Event) (st
 -- where a scout has seen a closed assembly, that is all of the tiles, and no event adds one
 abbrev pub SeenAndClosedIsAll : Type 0
 SeenAndClosedIsAll = (sys : TileSystem) (s : CoreState) (name : ℕ) (v : Scout) →
-    IsSound sys s → scout_at s.scouts name ≡ Some v → IsClosedInBox sys v.seen → SamePlacements v.seen (places s.tiles)
+    IsSound sys s → HasScout s name v → IsClosedInBox sys v.seen → SamePlacements v.seen (places s.tiles)
 
 abbrev pub ClosedIsFinal : Type 0
 ClosedIsFinal = (sys : TileSystem) (s t : CoreState) (event : Event) (reply : Result Seen CoreStop) (name : ℕ) (v : Scout) →
-    IsValid sys → IsSound sys s → scout_at s.scouts name ≡ Some v → IsClosedInBox sys v.seen →
+    IsValid sys → IsSound sys s → HasScout s name v → IsClosedInBox sys v.seen →
     CoreStep sys s event reply t → t.tiles ≡ s.tiles
 
 -- a scout's own tiles are those that its numbers have placed
 abbrev pub OwnTilesAreOfItsNumbers : Type 0
 OwnTilesAreOfItsNumbers = (sys : TileSystem) (s : CoreState) (name : ℕ) (v : Scout) (t : Tile) →
-    IsSound sys s → scout_at s.scouts name ≡ Some v → Contains v.mine t ↔ (Contains s.tiles t × Owns v.owned t.placer)
+    IsSound sys s → HasScout s name v → Contains v.mine t ↔ (Contains s.tiles t × Owns v.owned t.placer)
 
 -- what two scouts have seen at a site is the same
 abbrev pub ScoutsAgree : Type 0
 ScoutsAgree = (sys : TileSystem) (s : CoreState) (a b : ℕ) (v w : Scout) (m : Site) (t u : TypeId) →
-    IsSound sys s → scout_at s.scouts a ≡ Some v → scout_at s.scouts b ≡ Some w →
+    IsSound sys s → HasScout s a v → HasScout s b w →
     tile_at v.seen m ≡ Some t → tile_at w.seen m ≡ Some u → t ≡ u

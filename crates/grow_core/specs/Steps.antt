@@ -59,42 +59,68 @@ actor (Claim who site tile) = who
 actor (Split who) = who
 actor (Join into from) = into
 
+abbrev pub HasScout : CoreState → ℕ → Scout → Type 0
+HasScout s name v = scout_at s.scouts name ≡ Some v
+
+abbrev pub LacksScout : CoreState → ℕ → Type 0
+LacksScout s name = scout_at s.scouts name ≡ None
+
+-- the tile that a scout wins at a site
+abbrev pub won_tile : Scout → Site → TypeId → Tile
+won_tile v site tile = tile_of (place site tile) (least v.owned)
+
+-- the pull on a type over what the scout has seen is enough
+abbrev pub Supports : TileSystem → Scout → Site → TypeId → Type 0
+Supports sys v site tile = sys.tau ≤ model.pull sys v.seen site tile
+
+-- What an event does to a state, by its reply. Want of memory at a split is the one reply that the state does not tell.
 pub data CoreStep (sys : TileSystem) (s : CoreState) : Event → Result Seen CoreStop → CoreState → Type 0 where
-  -- refusals; they leave the state as it was
-  no_such_scout : (event : Event) → scout_at s.scouts (actor event) ≡ None → CoreStep sys s event (Err NoSuchScout) s
-  no_other_scout : (into from : ℕ) → scout_at s.scouts from ≡ None → CoreStep sys s (Join into from) (Err NoSuchScout) s
+  -- refusals, which leave the state as it was
+  no_such_scout : (event : Event) → LacksScout s (actor event) → CoreStep sys s event (Err NoSuchScout) s
+  no_other_scout : (into from : ℕ) → LacksScout s from → CoreStep sys s (Join into from) (Err NoSuchScout) s
   same_scout : (who : ℕ) → CoreStep sys s (Join who who) (Err NoSuchScout) s
-  looks_outside : (who : ℕ) (site : Site) (v : Scout) → scout_at s.scouts who ≡ Some v → ¬ InBox sys.area site →
+  looks_outside : (who : ℕ) (site : Site) (v : Scout) →
+      HasScout s who v → ¬ InBox sys.area site →
       CoreStep sys s (Look who site) (Err OutsideBox) s
-  claims_outside : (who : ℕ) (site : Site) (tile : TypeId) (v : Scout) → scout_at s.scouts who ≡ Some v → ¬ InBox sys.area site →
+  claims_outside : (who : ℕ) (site : Site) (tile : TypeId) (v : Scout) →
+      HasScout s who v → ¬ InBox sys.area site →
       CoreStep sys s (Claim who site tile) (Err OutsideBox) s
-  unsupported : (who : ℕ) (site : Site) (tile : TypeId) (v : Scout) → scout_at s.scouts who ≡ Some v → InBox sys.area site →
-      model.pull sys v.seen site tile < sys.tau →
+  unsupported : (who : ℕ) (site : Site) (tile : TypeId) (v : Scout) →
+      HasScout s who v → InBox sys.area site → model.pull sys v.seen site tile < sys.tau →
       CoreStep sys s (Claim who site tile) (Err (NotSupported (model.pull sys v.seen site tile))) s
-  one_number : (who : ℕ) (v : Scout) → scout_at s.scouts who ≡ Some v → ¬ OwnsTwoOrMore v.owned →
+  one_number : (who : ℕ) (v : Scout) →
+      HasScout s who v → ¬ OwnsTwoOrMore v.owned →
       CoreStep sys s (Split who) (Err NoNumberLeft) s
-  no_memory : (who : ℕ) (v : Scout) → scout_at s.scouts who ≡ Some v → OwnsTwoOrMore v.owned →
+  no_memory : (who : ℕ) (v : Scout) →
+      HasScout s who v → OwnsTwoOrMore v.owned →
       CoreStep sys s (Split who) (Err NoMemory) s
   -- answers
-  saw_none : (who : ℕ) (site : Site) (v : Scout) → scout_at s.scouts who ≡ Some v → InBox sys.area site →
-      tile_at (places s.tiles) site ≡ None → CoreStep sys s (Look who site) (Ok (Saw None)) s
-  saw_tile : (who : ℕ) (site : Site) (there : TypeId) (v w : Scout) → scout_at s.scouts who ≡ Some v → InBox sys.area site →
-      tile_at (places s.tiles) site ≡ Some there →
+  saw_none : (who : ℕ) (site : Site) (v : Scout) →
+      HasScout s who v → InBox sys.area site → tile_at (places s.tiles) site ≡ None →
+      CoreStep sys s (Look who site) (Ok (Saw None)) s
+  saw_tile : (who : ℕ) (site : Site) (there : TypeId) (v w : Scout) →
+      HasScout s who v → InBox sys.area site → tile_at (places s.tiles) site ≡ Some there →
       IsScoutOf v.owned (v.seen ++ place site there ∷ []) v.mine w →
       CoreStep sys s (Look who site) (Ok (Saw (Some there))) (with_scout s who w)
-  won : (who : ℕ) (site : Site) (tile : TypeId) (v w : Scout) → scout_at s.scouts who ≡ Some v → InBox sys.area site →
-      sys.tau ≤ model.pull sys v.seen site tile → tile_at (places s.tiles) site ≡ None →
-      IsScoutOf v.owned (v.seen ++ place site tile ∷ []) (v.mine ++ tile_of (place site tile) (least v.owned) ∷ []) w →
-      CoreStep sys s (Claim who site tile) (Ok Won) (with_scout (with_tile s (tile_of (place site tile) (least v.owned))) who w)
-  held : (who : ℕ) (site : Site) (tile there : TypeId) (v w : Scout) → scout_at s.scouts who ≡ Some v → InBox sys.area site →
-      sys.tau ≤ model.pull sys v.seen site tile → tile_at (places s.tiles) site ≡ Some there →
+  won : (who : ℕ) (site : Site) (tile : TypeId) (v w : Scout) →
+      HasScout s who v → InBox sys.area site → Supports sys v site tile →
+      tile_at (places s.tiles) site ≡ None →
+      IsScoutOf v.owned (v.seen ++ place site tile ∷ []) (v.mine ++ won_tile v site tile ∷ []) w →
+      CoreStep sys s (Claim who site tile) (Ok Won)
+      (with_scout (with_tile s (won_tile v site tile)) who w)
+  held : (who : ℕ) (site : Site) (tile there : TypeId) (v w : Scout) →
+      HasScout s who v → InBox sys.area site → Supports sys v site tile →
+      tile_at (places s.tiles) site ≡ Some there →
       IsScoutOf v.owned (v.seen ++ place site there ∷ []) v.mine w →
       CoreStep sys s (Claim who site tile) (Ok (Held there)) (with_scout s who w)
-  divided : (who : ℕ) (v w x : Scout) → scout_at s.scouts who ≡ Some v → OwnsTwoOrMore v.owned →
+  divided : (who : ℕ) (v w x : Scout) →
+      HasScout s who v → OwnsTwoOrMore v.owned →
       IsScoutOf (v.owned - 2 ^ greatest v.owned) v.seen (kept_tiles (greatest v.owned) v.mine) w →
       IsScoutOf (2 ^ greatest v.owned) v.seen (placed_by (greatest v.owned) v.mine) x →
-      CoreStep sys s (Split who) (Ok (Divided (greatest v.owned))) (with_scout (with_scout s who w) (greatest v.owned) x)
-  joined : (into from : ℕ) (v w x : Scout) → scout_at s.scouts into ≡ Some v → scout_at s.scouts from ≡ Some w → into ≢ from →
+      CoreStep sys s (Split who) (Ok (Divided (greatest v.owned)))
+      (with_scout (with_scout s who w) (greatest v.owned) x)
+  joined : (into from : ℕ) (v w x : Scout) →
+      HasScout s into v → HasScout s from w → into ≢ from →
       IsScoutOf (bit_or v.owned w.owned) (v.seen ++ w.seen) (v.mine ++ w.mine) x →
       CoreStep sys s (Join into from) (Ok (Joined (min into from)))
       (with_scout (without_scout (without_scout s into) from) (min into from) x)
@@ -102,5 +128,7 @@ pub data CoreStep (sys : TileSystem) (s : CoreState) : Event → Result Seen Cor
 -- events one after another, each with its reply
 pub data CoreRun (sys : TileSystem) : CoreState → List (Event × Result Seen CoreStop) → CoreState → Type 0 where
   stopped : (s : CoreState) → CoreRun sys s [] s
-  stepped : (s t u : CoreState) (event : Event) (reply : Result Seen CoreStop) (rest : List (Event × Result Seen CoreStop)) →
-      CoreStep sys s event reply t → CoreRun sys t rest u → CoreRun sys s ((event, reply) ∷ rest) u
+  stepped : (s t u : CoreState) (event : Event) (reply : Result Seen CoreStop)
+      (rest : List (Event × Result Seen CoreStop)) →
+      CoreStep sys s event reply t → CoreRun sys t rest u →
+      CoreRun sys s ((event, reply) ∷ rest) u

@@ -1,5 +1,5 @@
 // Laws of the core, each as the contract of a function that does nothing.
-ghost use Rattle.grow_core.specs.Laws.{StartIsSound, EventsKeepSoundness, EventsAreAnswered, RunsStaySound, LeavingKeepsSoundness, RefusalsChangeNothing, SeenAndClosedIsAll, ClosedIsFinal, OwnTilesAreOfItsNumbers, ScoutsAgree};
+ghost use Rattle.grow_core.specs.Laws.{StartIsSound, EventsKeepSoundness, StartIsThere, EventsAreAnswered, RunsStaySound, LeavingKeepsSoundness, RefusalsChangeNothing, SeenAndClosedIsAll, ClosedIsFinal, OwnTilesAreOfItsNumbers, ScoutsAgree};
 
 /// The invariant, which names one legal history, holds at the start, and each event keeps it.
 pub fn law_kept()
@@ -8,9 +8,10 @@ pub fn law_kept()
     ensures runs { RunsStaySound }
 {}
 
-/// In a state with the invariant each event has a reply.
+/// There is a start, and in a state with the invariant each event has a reply.
 pub fn law_answered()
-    ensures { EventsAreAnswered }
+    ensures start { StartIsThere }
+    ensures events { EventsAreAnswered }
 {}
 
 /// The invariant stays where a scout is left out.

@@ -1,5 +1,9 @@
+use Rattle.grow_core.proofs.Start.{start-there}
 use Rattle.grow_core.proofs.Answered.{answered}
 use Rattle.grow_core.proofs.laws.law_answered.Goals as goal
 
-pub returns : goal.returns
-returns c sys s event sound = answered sys s sound event
+pub returns-clause-start : goal.returns-clause-start
+returns-clause-start c = start-there
+
+pub returns-clause-events : goal.returns-clause-events
+returns-clause-events c sys s event sound = answered sys s sound event
