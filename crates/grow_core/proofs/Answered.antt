@@ -188,7 +188,7 @@ module _ (sys : TileSystem) (s : CoreState) (sound : IsSound sys s) where
 
   join : (into from : ℕ) (v : Scout) → scout_at s.scouts into ≡ Some v → Replied sys s (Join into from)
   join into from v here = dite (ℕ_discrete into from)
-      (λ same. (Err NoSuchScout, s, subst (λ b. CoreStep sys s (Join into b) (Err NoSuchScout) s) same (same_scout into)))
+      (λ same. (Err NoSuchScout, s, same_scout into from same))
       (λ differ. elim (some_or_none (scout_at s.scouts from)) [
         | inl none ↦ (Err NoSuchScout, s, no_other_scout into from none)
         | inr other ↦

@@ -7,3 +7,4 @@ pub mod Parted
 pub mod Start
 pub mod Stepped
 pub mod Answered
+pub mod Unique

@@ -58,7 +58,7 @@ supported_type sys tiles m t some_tau supported = dite (dec_lt t.0 (length sys.t
 pub step-sound : (sys : TileSystem) (s t : CoreState) (event : Event) (reply : Result Seen CoreStop) → IsValid sys → CoreStep sys s event reply t → IsSound sys s → IsSound sys t
 step-sound sys s t event reply valid (no_such_scout e nobody) sound = sound
 step-sound sys s t event reply valid (no_other_scout into from nobody) sound = sound
-step-sound sys s t event reply valid (same_scout who) sound = sound
+step-sound sys s t event reply valid (same_scout into from same) sound = sound
 step-sound sys s t event reply valid (looks_outside who site v here outside) sound = sound
 step-sound sys s t event reply valid (claims_outside who site tile v here outside) sound = sound
 step-sound sys s t event reply valid (unsupported who site tile v here inside weak) sound = sound
@@ -108,7 +108,7 @@ left-sound sys s name sound = record {
 pub refused-same : (sys : TileSystem) (s t : CoreState) (event : Event) (stop : CoreStop) → CoreStep sys s event (Err stop) t → t ≡ s
 refused-same sys s t event stop (no_such_scout e nobody) = refl
 refused-same sys s t event stop (no_other_scout into from nobody) = refl
-refused-same sys s t event stop (same_scout who) = refl
+refused-same sys s t event stop (same_scout into from same) = refl
 refused-same sys s t event stop (looks_outside who site v here outside) = refl
 refused-same sys s t event stop (claims_outside who site tile v here outside) = refl
 refused-same sys s t event stop (unsupported who site tile v here inside weak) = refl
@@ -153,7 +153,7 @@ pub tiles-stay : (sys : TileSystem) (s t : CoreState) (event : Event) (reply : R
     → IsClosedInBox sys v.seen → CoreStep sys s event reply t → t.tiles ≡ s.tiles
 tiles-stay sys s t event reply a v valid sound here closed (no_such_scout e nobody) = refl
 tiles-stay sys s t event reply a v valid sound here closed (no_other_scout into from nobody) = refl
-tiles-stay sys s t event reply a v valid sound here closed (same_scout who) = refl
+tiles-stay sys s t event reply a v valid sound here closed (same_scout into from same) = refl
 tiles-stay sys s t event reply a v valid sound here closed (looks_outside who site u at_u outside) = refl
 tiles-stay sys s t event reply a v valid sound here closed (claims_outside who site tile u at_u outside) = refl
 tiles-stay sys s t event reply a v valid sound here closed (unsupported who site tile u at_u inside weak) = refl

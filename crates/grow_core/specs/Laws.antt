@@ -1,5 +1,5 @@
 -- Laws of the core, over every state.
-use Rattle.std.specs.Prelude.{◌≡◌, ◌↔◌, ℕ, List, Some, Result, Err, Contains}
+use Rattle.std.specs.Prelude.{◌≡◌, ◌≢◌, ◌↔◌, ℕ, List, Some, Result, Err, Contains}
 use Rattle.atam.specs.TileSystem.{TileSystem, IsValid}
 use Rattle.atam.specs.Growth.{IsProducible, IsClosedInBox}
 use Rattle.atam.specs.Placements.{SamePlacements, tile_at}
@@ -9,6 +9,7 @@ use Rattle.grow_core.specs.declared.tile.Tile.{Tile}
 use Rattle.grow_core.specs.declared.event.Event.{Event}
 use Rattle.grow_core.specs.declared.event.Seen.{Seen}
 use Rattle.grow_core.specs.declared.event.CoreStop.{CoreStop}
+use Rattle.grow_core.specs.declared.event.CoreStop.TheVariants.{NoMemory}
 use Rattle.grow_core.specs.Core.{Scout, CoreState, Owns, places, IsSound}
 use Rattle.grow_core.specs.Steps.{CoreStep, CoreRun, HasScout, IsStart, without_scout}
 
@@ -34,6 +35,12 @@ StartIsThere = (sys : TileSystem) → IsValid sys → (s : CoreState) × IsStart
 abbrev pub EventsAreAnswered : Type 0
 EventsAreAnswered = (sys : TileSystem) (s : CoreState) (event : Event) → IsSound sys s →
     (reply : Result Seen CoreStop) × (t : CoreState) × CoreStep sys s event reply t
+
+-- and no two, but that memory may be wanting
+abbrev pub RepliesAreUnique : Type 0
+RepliesAreUnique = (sys : TileSystem) (s t u : CoreState) (event : Event) (one two : Result Seen CoreStop) →
+    CoreStep sys s event one t → CoreStep sys s event two u →
+    one ≢ Err NoMemory → two ≢ Err NoMemory → one ≡ two
 
 -- the invariant stays where a scout is left out
 abbrev pub LeavingKeepsSoundness : Type 0

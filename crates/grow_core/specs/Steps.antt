@@ -78,7 +78,7 @@ pub data CoreStep (sys : TileSystem) (s : CoreState) : Event → Result Seen Cor
   -- refusals, which leave the state as it was
   no_such_scout : (event : Event) → LacksScout s (actor event) → CoreStep sys s event (Err NoSuchScout) s
   no_other_scout : (into from : ℕ) → LacksScout s from → CoreStep sys s (Join into from) (Err NoSuchScout) s
-  same_scout : (who : ℕ) → CoreStep sys s (Join who who) (Err NoSuchScout) s
+  same_scout : (into from : ℕ) → into ≡ from → CoreStep sys s (Join into from) (Err NoSuchScout) s
   looks_outside : (who : ℕ) (site : Site) (v : Scout) →
       HasScout s who v → ¬ InBox sys.area site →
       CoreStep sys s (Look who site) (Err OutsideBox) s

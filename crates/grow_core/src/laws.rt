@@ -1,5 +1,5 @@
 // Laws of the core, each as the contract of a function that does nothing.
-ghost use Rattle.grow_core.specs.Laws.{StartIsSound, EventsKeepSoundness, StartIsThere, EventsAreAnswered, RunsStaySound, LeavingKeepsSoundness, RefusalsChangeNothing, SeenAndClosedIsAll, ClosedIsFinal, OwnTilesAreOfItsNumbers, ScoutsAgree};
+ghost use Rattle.grow_core.specs.Laws.{StartIsSound, EventsKeepSoundness, StartIsThere, EventsAreAnswered, RepliesAreUnique, RunsStaySound, LeavingKeepsSoundness, RefusalsChangeNothing, SeenAndClosedIsAll, ClosedIsFinal, OwnTilesAreOfItsNumbers, ScoutsAgree};
 
 /// The invariant, which names one legal history, holds at the start, and each event keeps it.
 pub fn law_kept()
@@ -8,10 +8,11 @@ pub fn law_kept()
     ensures runs { RunsStaySound }
 {}
 
-/// There is a start, and in a state with the invariant each event has a reply.
+/// There is a start, and in a state with the invariant each event has one reply.
 pub fn law_answered()
     ensures start { StartIsThere }
     ensures events { EventsAreAnswered }
+    ensures unique { RepliesAreUnique }
 {}
 
 /// The invariant stays where a scout is left out.
