@@ -10,12 +10,8 @@ use Rattle.grow_core.specs.declared.event.CoreStop.TheVariants.{NotSupported, No
 use Rattle.atam.specs.declared.site.Site.{Site}
 use Rattle.atam.specs.declared.place.TypeId.{TypeId}
 use Rattle.atam.specs.Assembly.{pull}
-use Rattle.grow_core.specs.declared.event.CoreStop.TheVariants.{NotSupported, NoMemory}
-use Rattle.atam.specs.declared.site.Site.{Site}
-use Rattle.atam.specs.declared.place.TypeId.{TypeId}
-use Rattle.atam.specs.Assembly.{pull}
 use Rattle.grow_core.specs.Core.{Scout, CoreState, greatest, OwnsTwoOrMore}
-use Rattle.grow_core.specs.Steps.{CoreStep, Supports, Supports, no_such_scout, no_other_scout, same_scout, looks_outside, claims_outside, unsupported, one_number, no_memory, saw_none, saw_tile, won, held, divided, joined}
+use Rattle.grow_core.specs.Steps.{CoreStep, Supports, no_such_scout, no_other_scout, same_scout, looks_outside, claims_outside, unsupported, one_number, no_memory, saw_none, saw_tile, won, held, divided, joined}
 
 too_weak : (sys : TileSystem) (v w : Scout) (site : Site) (tile : TypeId) → v ≡ w → pull sys v.seen site tile < sys.tau → Supports sys w site tile → ⊥
 too_weak sys v w site tile same weak enough =
