@@ -1,0 +1,48 @@
+-- What lists of any kind contain.
+use Rattle.std.proofs.Common.{◌≡◌, suc, Bool, true, false, cond, List, [], ◌∷◌, ◌++◌, filter, get_or, Contains, AllPairs, refl, ◌∙◌, ap, subst, inl, inr, arith}
+use Rattle.std.proofs.lemmas.List.Elements.{All-filter, All-contains, All-contains_itself, All-append, Contains-get_or, filter_passes, Contains-append_cases, Contains-push_cases}
+use Rattle.std.proofs.lemmas.List.Kept.{AllPairs-cons}
+
+pub Contains-here : {X : Type 0} (x : X) (xs : List X) → Contains (x ∷ xs) x
+Contains-here x xs = (0, omega arith, refl)
+
+pub Contains-there : {X : Type 0} (x y : X) (xs : List X) → Contains xs y → Contains (x ∷ xs) y
+Contains-there x y xs h = let l = h.1 in (suc h.0, omega arith, h.2)
+
+pub Contains-append_right : {X : Type 0} (xs ys : List X) (y : X) → Contains ys y → Contains (xs ++ ys) y
+Contains-append_right [] ys y c = c
+Contains-append_right (x ∷ xs) ys y c = Contains-there x y (xs ++ ys) (Contains-append_right xs ys y c)
+
+pub Contains-nil : {X : Type 0} (y : X) → Contains [] y → ⊥
+Contains-nil y c = let l = c.1 in omega arith
+
+kept-cons : {X : Type 0} (b : Bool) (y x : X) (xs : List X) → Contains xs x → Contains (cond b (y ∷ xs) xs) x
+kept-cons true y x xs c = Contains-there y x xs c
+kept-cons false y x xs c = c
+
+-- what a filter keeps
+pub filter-from : {X : Type 0} (p : X → Bool) (xs : List X) (x : X) → Contains (filter p xs) x → Contains xs x
+filter-from p xs x c = All-contains (Contains xs) (filter p xs) x (All-filter p (Contains xs) xs (All-contains_itself xs)) c
+
+pub filter-passed : {X : Type 0} (p : X → Bool) (xs : List X) (x : X) → Contains (filter p xs) x → p x ≡ true
+filter-passed p xs x c = All-contains (λ y. p y ≡ true) (filter p xs) x (filter_passes p xs) c
+
+pub filter-has : {X : Type 0} (p : X → Bool) (xs : List X) (x : X) → Contains xs x → p x ≡ true → Contains (filter p xs) x
+filter-has p [] x c e = absurd (Contains-nil x c)
+filter-has p (y ∷ xs) x c e = elim (Contains-append_cases (y ∷ []) xs x c) [
+  | inl head ↦ elim (Contains-push_cases [] y x head) [
+    | inl never ↦ absurd (Contains-nil x never)
+    | inr same ↦ let passes : p y ≡ true = ap p same ∙ e in rw passes (subst (λ z. Contains (y ∷ filter p xs) z) same (Contains-here y (filter p xs)))
+  ]
+  | inr later ↦ kept-cons (p y) y x (filter p xs) (filter-has p xs x later e)
+]
+
+-- two lists, each of whose pairs are related, and each element of the one to each of the other
+pub all_pairs_append : {X : Type 0} (R : X → X → Type 0) (xs ys : List X) → AllPairs R xs → AllPairs R ys → ((x y : X) → Contains xs x → Contains ys y → R x y) → AllPairs R (xs ++ ys)
+all_pairs_append R [] ys one other cross = other
+all_pairs_append R (x ∷ xs) ys one other cross =
+    AllPairs-cons R x (xs ++ ys)
+    (All-append (R x) xs ys (λ k d within. one 0 (suc k) d (omega arith) (omega (arith, within)))
+    (λ k d within. cross x (get_or ys k d) (Contains-here x xs) (Contains-get_or ys k d within)))
+    (all_pairs_append R xs ys (λ i j d before within. one (suc i) (suc j) d (omega (arith, before)) (omega (arith, within))) other
+    (λ y z c e. cross y z (Contains-there x y xs c) e))

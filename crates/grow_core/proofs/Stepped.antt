@@ -1,0 +1,169 @@
+-- Each event keeps the invariant; and where a scout has seen a closed assembly, that is all, and no event adds to it.
+use Rattle.std.proofs.Common.{set, min, ◌≡◌, ◌≢◌, ◌≤◌, ℕ, List, Option, Some, None, Contains, length, option_and_then, Result, Err, refl, ap, arith, ◌∙◌}
+use Rattle.std.proofs.Math.Nat.{le_trans}
+use Rattle.std.proofs.lemmas.Option.{slice_get_past}
+use mathlib.Core.Logic.{dite}
+use native.Mathlib.Decide.{dec_lt}
+use Rattle.atam.specs.declared.place.GlueId.{GlueId}
+use Rattle.std.proofs.lemmas.List.Elements.{All-contains, All-map}
+use Rattle.atam.specs.declared.site.Site.{Site}
+use Rattle.atam.specs.declared.site.Side.{Side}
+use Rattle.atam.specs.declared.site.Side.TheVariants.{North, East, South, West}
+use Rattle.atam.specs.declared.place.TypeId.{TypeId}
+use Rattle.atam.specs.declared.place.Place.{Place}
+use Rattle.atam.specs.Sites.{InBox, neighbor, opposite}
+use Rattle.atam.specs.TileSystem.{TileSystem, IsType, IsValid, side_glue, side_of}
+use Rattle.atam.specs.Placements.{tile_at, SamePlacements}
+use Rattle.atam.specs.Assembly.{pull, bond, interaction, glue_at}
+use Rattle.atam.specs.Growth.{IsClosedInBox, IsProducible}
+use Rattle.atam.proofs.Lists.{slice_get-Contains}
+use Rattle.atam.proofs.Bonds.{pull-mono}
+use Rattle.atam.proofs.Placements.{Extends, Contains-tile_at, tile_at-Contains, empty_in_part}
+use Rattle.atam.proofs.Sequences.{IsLegal-seeds_distinct}
+use Rattle.atam.proofs.Closure.{closure}
+use Rattle.grow_core.specs.declared.tile.Tile.{Tile}
+use Rattle.grow_core.specs.declared.event.Event.{Event}
+use Rattle.grow_core.specs.declared.event.Seen.{Seen}
+use Rattle.grow_core.specs.declared.event.CoreStop.{CoreStop}
+use Rattle.grow_core.specs.Core.{Scout, CoreState, scout_at, least, greatest, places, IsGrounded, Knows, IsSound}
+use Rattle.grow_core.specs.Steps.{without_scout, CoreStep, CoreRun, place, no_such_scout, no_other_scout, same_scout, looks_outside, claims_outside, unsupported, one_number, no_memory, saw_none, saw_tile, won, held, divided, joined, stopped, stepped}
+use Rattle.std.proofs.lemmas.Nat.{or_lt}
+use Rattle.grow_core.proofs.Named.{named_set, named_unset}
+use Rattle.grow_core.proofs.Numbers.{least-of_rest, least-of_greatest, least-of_both}
+use Rattle.grow_core.proofs.Kept.{extends, left_out, seen-sound, won-sound}
+use Rattle.grow_core.proofs.Parted.{divided-sound, joined-sound}
+
+-- no type past the last one is pulled
+past_types : (sys : TileSystem) (t : TypeId) → length sys.types ≤ t.0 → (d : Side) → side_glue sys t d ≡ None
+past_types sys t past d = ap (option_and_then (λ u. side_of u d)) (slice_get_past sys.types t.0 past)
+
+no_bond : (sys : TileSystem) (tiles : List Place) (m : Site) (t : TypeId) (d : Side) → length sys.types ≤ t.0 → bond sys tiles m t d ≡ 0
+unfolding bond
+no_bond sys tiles m t d past = ap (λ (o : Option GlueId). interaction sys o (glue_at sys tiles (neighbor m d) (opposite d))) (past_types sys t past d)
+
+no_pull : (sys : TileSystem) (tiles : List Place) (m : Site) (t : TypeId) → length sys.types ≤ t.0 → pull sys tiles m t ≡ 0
+unfolding pull
+no_pull sys tiles m t past =
+    let n = no_bond sys tiles m t North past in
+    let e = no_bond sys tiles m t East past in
+    let s = no_bond sys tiles m t South past in
+    let w = no_bond sys tiles m t West past in
+    omega (arith, n, e, s, w)
+
+-- so what is supported is a type of the system
+pub supported_type : (sys : TileSystem) (tiles : List Place) (m : Site) (t : TypeId) → 1 ≤ sys.tau → sys.tau ≤ pull sys tiles m t → IsType sys t
+supported_type sys tiles m t some_tau supported = dite (dec_lt t.0 (length sys.types)) (λ l. l)
+    (λ f. let none = no_pull sys tiles m t (omega (arith, f)) in absurd (omega (arith, none, some_tau, supported)))
+
+pub step-sound : (sys : TileSystem) (s t : CoreState) (event : Event) (reply : Result Seen CoreStop) → IsValid sys → CoreStep sys s event reply t → IsSound sys s → IsSound sys t
+step-sound sys s t event reply valid (no_such_scout e nobody) sound = sound
+step-sound sys s t event reply valid (no_other_scout into from nobody) sound = sound
+step-sound sys s t event reply valid (same_scout into from same) sound = sound
+step-sound sys s t event reply valid (looks_outside who site v here outside) sound = sound
+step-sound sys s t event reply valid (claims_outside who site tile v here outside) sound = sound
+step-sound sys s t event reply valid (unsupported who site tile v here inside weak) sound = sound
+step-sound sys s t event reply valid (one_number who v here one) sound = sound
+step-sound sys s t event reply valid (no_memory who v here two) sound = sound
+step-sound sys s t event reply valid (saw_none who site v here inside empty) sound = sound
+step-sound sys s t event reply valid (saw_tile who site there v w here inside found is) sound = record {
+  consistent = seen-sound sys s.tiles s.scouts who v w (place site there) sound.consistent here (tile_at-Contains (places s.tiles) site there found) is;
+  named = named_set s.scouts who w sound.named (ap least is.owned ∙ sound.named.own_name who v here);
+}
+step-sound sys s t event reply valid (won who site tile v w here inside supported empty is) sound = record {
+  consistent = won-sound sys s.tiles s.scouts who v w (place site tile) sound.consistent here
+      (supported_type sys v.seen site tile valid.some_tau supported) inside supported empty is;
+  named = named_set s.scouts who w sound.named (ap least is.owned ∙ sound.named.own_name who v here);
+}
+step-sound sys s t event reply valid (held who site tile there v w here inside supported found is) sound = record {
+  consistent = seen-sound sys s.tiles s.scouts who v w (place site there) sound.consistent here (tile_at-Contains (places s.tiles) site there found) is;
+  named = named_set s.scouts who w sound.named (ap least is.owned ∙ sound.named.own_name who v here);
+}
+step-sound sys s t event reply valid (divided who v w x here two rest new) sound =
+    let knows = sound.consistent.knows who v here in
+    record {
+      consistent = divided-sound sys s.tiles s.scouts who v w x sound.consistent here two rest new;
+      named = named_set (set s.scouts who (Some w)) (greatest v.owned) x
+          (named_set s.scouts who w sound.named
+          (ap least rest.owned ∙ (least-of_rest v.owned knows.some_number knows.numbers two ∙ sound.named.own_name who v here)))
+          (ap least new.owned ∙ least-of_greatest v.owned knows.some_number knows.numbers);
+    }
+step-sound sys s t event reply valid (joined into from v w x at_into at_from differ is) sound =
+    let knows_v = sound.consistent.knows into v at_into in
+    let knows_w = sound.consistent.knows from w at_from in
+    record {
+      consistent = joined-sound sys s.tiles s.scouts into from v w x sound.consistent at_into at_from differ is;
+      named = named_set (set (set s.scouts into None) from None) (min into from) x
+          (named_unset (set s.scouts into None) from (named_unset s.scouts into sound.named))
+          (ap least is.owned
+          ∙ (least-of_both v.owned w.owned knows_v.some_number knows_v.numbers knows_w.some_number knows_w.numbers (or_lt 64 v.owned w.owned knows_v.numbers knows_w.numbers)
+          ∙ (ap (λ k. min k (least w.owned)) (sound.named.own_name into v at_into) ∙ ap (λ k. min into k) (sound.named.own_name from w at_from))));
+    }
+
+pub left-sound : (sys : TileSystem) (s : CoreState) (name : ℕ) → IsSound sys s → IsSound sys (without_scout s name)
+left-sound sys s name sound = record {
+  consistent = left_out sys s.tiles s.scouts name sound.consistent;
+  named = named_unset s.scouts name sound.named;
+}
+
+pub refused-same : (sys : TileSystem) (s t : CoreState) (event : Event) (stop : CoreStop) → CoreStep sys s event (Err stop) t → t ≡ s
+refused-same sys s t event stop (no_such_scout e nobody) = refl
+refused-same sys s t event stop (no_other_scout into from nobody) = refl
+refused-same sys s t event stop (same_scout into from same) = refl
+refused-same sys s t event stop (looks_outside who site v here outside) = refl
+refused-same sys s t event stop (claims_outside who site tile v here outside) = refl
+refused-same sys s t event stop (unsupported who site tile v here inside weak) = refl
+refused-same sys s t event stop (one_number who v here one) = refl
+refused-same sys s t event stop (no_memory who v here two) = refl
+
+pub run-sound : (sys : TileSystem) (s t : CoreState) (replies : List (Event × Result Seen CoreStop)) → IsValid sys → CoreRun sys s replies t → IsSound sys s → IsSound sys t
+run-sound sys s t replies valid (stopped u) sound = sound
+run-sound sys s t replies valid (stepped a b c event reply rest step run) sound = run-sound sys b c rest valid run (step-sound sys a b event reply valid step sound)
+
+pub producible : (sys : TileSystem) (s : CoreState) → IsSound sys s → IsProducible sys (places s.tiles)
+producible sys s sound = record { sequence = places s.tiles; legal = sound.consistent.ground.legal; same = record { part = λ p c. c; whole = λ p c. c } }
+
+module _ (sys : TileSystem) (log : List Tile) (v : Scout) (ground : IsGrounded sys log) (knows : Knows sys log v) (closed : IsClosedInBox sys v.seen) where
+  in_box : (p : Place) → Contains (places log) p → InBox sys.area p.site
+  in_box p c = All-contains (λ (q : Place). InBox sys.area q.site) (places log) p (All-map (λ (q : Place). InBox sys.area q.site) (λ (t : Tile). t.place) log ground.inside) c
+
+  all_seen : Extends (places log) v.seen
+  all_seen = closure sys (places log) (IsLegal-seeds_distinct sys (places log) ground.legal ground.distinct) ground.legal v.seen (extends sys log v ground knows)
+      (λ p seed. Contains-tile_at v.seen p knows.distinct (knows.seeds p seed))
+      (λ i p found attaches. let c = slice_get-Contains (places log) i p found in
+      closed p.site p.tile (in_box p c) (record { kind = All-contains (λ (q : Place). IsType sys q.tile) (places log) p ground.legal.types c; attaches = attaches }))
+
+  -- what was seen is all that stands
+  pub quiet : SamePlacements v.seen (places log)
+  quiet = record {
+    part = knows.part;
+    whole = λ p c. tile_at-Contains v.seen p.site p.tile (all_seen p.site p.tile (Contains-tile_at (places log) p ground.distinct c));
+  }
+
+  -- and whatever another scout claims stands already
+  pub no_win : (u : Scout) (m : Site) (t : TypeId) → Knows sys log u → InBox sys.area m → IsType sys t → sys.tau ≤ pull sys u.seen m t → tile_at (places log) m ≢ None
+  no_win u m t knows_u inside kind supported empty = closed m t inside (record {
+    kind = kind;
+    attaches = record {
+      empty = empty_in_part v.seen (places log) m (extends sys log v ground knows) empty;
+      held = le_trans supported (le_trans (pull-mono sys u.seen (places log) m t (extends sys log u ground knows_u)) (pull-mono sys (places log) v.seen m t all_seen));
+    };
+  })
+
+pub tiles-stay : (sys : TileSystem) (s t : CoreState) (event : Event) (reply : Result Seen CoreStop) (a : ℕ) (v : Scout) → IsValid sys → IsSound sys s → scout_at s.scouts a ≡ Some v
+    → IsClosedInBox sys v.seen → CoreStep sys s event reply t → t.tiles ≡ s.tiles
+tiles-stay sys s t event reply a v valid sound here closed (no_such_scout e nobody) = refl
+tiles-stay sys s t event reply a v valid sound here closed (no_other_scout into from nobody) = refl
+tiles-stay sys s t event reply a v valid sound here closed (same_scout into from same) = refl
+tiles-stay sys s t event reply a v valid sound here closed (looks_outside who site u at_u outside) = refl
+tiles-stay sys s t event reply a v valid sound here closed (claims_outside who site tile u at_u outside) = refl
+tiles-stay sys s t event reply a v valid sound here closed (unsupported who site tile u at_u inside weak) = refl
+tiles-stay sys s t event reply a v valid sound here closed (one_number who u at_u one) = refl
+tiles-stay sys s t event reply a v valid sound here closed (no_memory who u at_u two) = refl
+tiles-stay sys s t event reply a v valid sound here closed (saw_none who site u at_u inside empty) = refl
+tiles-stay sys s t event reply a v valid sound here closed (saw_tile who site there u w at_u inside found is) = refl
+tiles-stay sys s t event reply a v valid sound here closed (won who site tile u w at_u inside supported empty is) =
+    absurd (no_win sys s.tiles v sound.consistent.ground (sound.consistent.knows a v here) closed u site tile (sound.consistent.knows who u at_u) inside
+    (supported_type sys u.seen site tile valid.some_tau supported) supported empty)
+tiles-stay sys s t event reply a v valid sound here closed (held who site tile there u w at_u inside supported found is) = refl
+tiles-stay sys s t event reply a v valid sound here closed (divided who u w x at_u two rest new) = refl
+tiles-stay sys s t event reply a v valid sound here closed (joined into from u w x at_into at_from differ is) = refl
