@@ -1,0 +1,5 @@
+pub mod Deciding
+pub mod Verdicts
+pub mod Existence
+pub mod Sites
+pub mod Sides

@@ -1,0 +1,3 @@
+pub mod SideSets
+pub mod Judgement
+pub mod Laws

@@ -1,0 +1,59 @@
+// A set of sides.
+ghost use Rattle.std.specs.Prelude.{◌≡◌, ◌≤◌, false};
+ghost use Rattle.atam.specs.Sites.{IsNearSite};
+ghost use Rattle.atam.specs.TileSystem.{IsType};
+ghost use Rattle.atam.specs.Assembly.{Fits};
+ghost use Rattle.local_check.specs.SideSets.{has, bound_sides, difference, complement, pull_on, bond_if};
+
+use attach_rule::bond;
+use tile_system::{Place, Placed, Side, System};
+
+// The sides of a tile that something holds of.
+#[derive(Clone, Copy)]
+pub(crate) struct SideSet {
+    pub(crate) north: bool,
+    pub(crate) east: bool,
+    pub(crate) south: bool,
+    pub(crate) west: bool,
+}
+
+impl SideSet {
+    pub(crate) fn has(self, side: Side) -> bool
+        ensures { result ≡ has self side }
+    {
+        match side {
+            Side::North => self.north,
+            Side::East => self.east,
+            Side::South => self.south,
+            Side::West => self.west,
+        }
+    }
+
+    // The sides that the other set doesn't have.
+    pub(crate) fn without(self, other: SideSet) -> SideSet
+        ensures { result ≡ difference self other }
+    {
+        SideSet {
+            north: self.north && !other.north,
+            east: self.east && !other.east,
+            south: self.south && !other.south,
+            west: self.west && !other.west,
+        }
+    }
+}
+
+// The sides of a place that interact with a tile beside them.
+pub(crate) fn bound_sides<P: Placed>(sys: &System, placed: &P, place: Place) -> SideSet
+    requires kind { IsType sys.now place.tile }
+    requires near { IsNearSite place.site }
+    requires fits { Fits sys.now (P.placements placed.now) }
+    ensures { result ≡ bound_sides sys.now (P.placements placed.now) place.site place.tile }
+{
+    let Place { site, tile } = place;
+    SideSet {
+        north: bond(sys, placed, site, tile, Side::North) > 0,
+        east: bond(sys, placed, site, tile, Side::East) > 0,
+        south: bond(sys, placed, site, tile, Side::South) > 0,
+        west: bond(sys, placed, site, tile, Side::West) > 0,
+    }
+}
