@@ -3,3 +3,4 @@ pub mod Verdicts
 pub mod Existence
 pub mod Sites
 pub mod Sides
+pub mod Judging

@@ -1,12 +1,12 @@
 // A set of sides.
-ghost use Rattle.std.specs.Prelude.{◌≡◌, ◌≤◌, false};
+ghost use Rattle.std.specs.Prelude.{◌≡◌, ◌≤◌};
 ghost use Rattle.atam.specs.Sites.{IsNearSite};
 ghost use Rattle.atam.specs.TileSystem.{IsType};
 ghost use Rattle.atam.specs.Assembly.{Fits};
 ghost use Rattle.local_check.specs.SideSets.{has, bound_sides, difference, complement, pull_on, bond_if};
 
 use attach_rule::bond;
-use tile_system::{Place, Placed, Side, System};
+use tile_system::{Place, Placed, Side, Site, System, TypeId};
 
 // The sides of a tile that something holds of.
 #[derive(Clone, Copy)]
@@ -18,6 +18,14 @@ pub(crate) struct SideSet {
 }
 
 impl SideSet {
+    // The set of no sides.
+    pub(crate) const NONE: SideSet = SideSet {
+        north: false,
+        east: false,
+        south: false,
+        west: false,
+    };
+
     pub(crate) fn has(self, side: Side) -> bool
         ensures { result ≡ has self side }
     {
@@ -26,6 +34,18 @@ impl SideSet {
             Side::East => self.east,
             Side::South => self.south,
             Side::West => self.west,
+        }
+    }
+
+    // The sides that aren't in the set.
+    pub(crate) fn complement(self) -> SideSet
+        ensures { result ≡ complement self }
+    {
+        SideSet {
+            north: !self.north,
+            east: !self.east,
+            south: !self.south,
+            west: !self.west,
         }
     }
 
@@ -56,4 +76,33 @@ pub(crate) fn bound_sides<P: Placed>(sys: &System, placed: &P, place: Place) -> 
         south: bond(sys, placed, site, tile, Side::South) > 0,
         west: bond(sys, placed, site, tile, Side::West) > 0,
     }
+}
+
+// The pull on a type by these sides alone.
+pub(crate) fn pull_on<P: Placed>(
+    sys: &System,
+    placed: &P,
+    site: Site,
+    tile: TypeId,
+    sides: SideSet,
+) -> u32
+    requires kind { IsType sys.now tile }
+    requires near { IsNearSite site }
+    requires fits { Fits sys.now (P.placements placed.now) }
+    ensures value { result ≡ pull_on sys.now (P.placements placed.now) site tile sides }
+    ensures bound { result ≤ 1000 }
+{
+    bond_if(sides.north, bond(sys, placed, site, tile, Side::North))
+        + bond_if(sides.east, bond(sys, placed, site, tile, Side::East))
+        + bond_if(sides.south, bond(sys, placed, site, tile, Side::South))
+        + bond_if(sides.west, bond(sys, placed, site, tile, Side::West))
+}
+
+// The strength, if the side counts.
+fn bond_if(counts: bool, strength: u32) -> u32
+    requires { strength ≤ 250 }
+    ensures value { result ≡ bond_if counts strength }
+    ensures bound { result ≤ 250 }
+{
+    if counts { strength } else { 0 }
 }

@@ -1,10 +1,11 @@
 // The input and output sides of the places of a sequence.
-ghost use Rattle.std.specs.Prelude.{◌≡◌, ◌<◌, [], length, IfOk};
+ghost use Rattle.std.specs.Prelude.{◌≡◌, ◌<◌, not, [], length, IfOk};
+ghost use Rattle.atam.specs.declared.site.Side.{Side};
 ghost use Rattle.atam.specs.Placements.{SamePlacements};
 ghost use Rattle.atam.specs.TileSystem.{IsValid};
 ghost use Rattle.atam.specs.Assembly.{Fits};
 ghost use Rattle.atam.specs.Growth.{IsLegal};
-ghost use Rattle.local_check.specs.SideSets.{input_at, output_at, AreSidesOf, AreEarlierSides, AreOutputSides};
+ghost use Rattle.local_check.specs.SideSets.{has, input_at, output_at, AreSidesOf, AreEarlierSides, AreOutputSides};
 
 use crate::side_set::{SideSet, bound_sides};
 use assembly::{Grid, Sequence};
@@ -43,7 +44,7 @@ impl SideSets {
         requires { i < length self.now.outputs }
         ensures { result ≡ input_at self.now i side }
     {
-        i >= self.seed_count && self.earlier[i].has(side)
+        self.inputs_of(i).has(side)
     }
 
     /// Whether the side is one at which the tile beside it has an input side.
@@ -52,6 +53,26 @@ impl SideSets {
         ensures { result ≡ output_at self.now i side }
     {
         self.outputs[i].has(side)
+    }
+
+    // The input sides of a place.
+    pub(crate) fn inputs_of(&self, i: usize) -> SideSet
+        requires { i < length self.now.outputs }
+        ensures { (d : Side) → has result d ≡ input_at self.now i d }
+    {
+        if i < self.seed_count {
+            SideSet::NONE
+        } else {
+            self.earlier[i]
+        }
+    }
+
+    // The sides of a place that are no output sides.
+    pub(crate) fn kept_at(&self, i: usize) -> SideSet
+        requires { i < length self.now.outputs }
+        ensures { (d : Side) → has result d ≡ not (output_at self.now i d) }
+    {
+        self.outputs[i].complement()
     }
 }
 
