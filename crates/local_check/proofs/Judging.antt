@@ -128,21 +128,53 @@ module _ (sys : TileSystem) (s tiles : List Place) (distinct : HasDistinctSites 
     keeps_beside : (d : Side) → keeps (neighbor p.site d) ≡ not (is_output sys s i d)
     unfolding keeps
     keeps_beside North =
-        rw (other_site (neighbor p.site North) p.site (λ same. apart p.site North (sym same)), same_site-refl (neighbor p.site North),
-        no_other p.site North East (λ e. cc e), no_other p.site North South (λ e. cc e), no_other p.site North West (λ e. cc e),
-        and_true (is_output sys s i North), and_false (is_output sys s i East), and_false (is_output sys s i South), and_false (is_output sys s i West)) (ap not (or_false (is_output sys s i North)))
+        rw (
+          other_site (neighbor p.site North) p.site (λ same. apart p.site North (sym same)),
+          same_site-refl (neighbor p.site North),
+          no_other p.site North East (λ e. cc e),
+          no_other p.site North South (λ e. cc e),
+          no_other p.site North West (λ e. cc e),
+          and_true (is_output sys s i North),
+          and_false (is_output sys s i East),
+          and_false (is_output sys s i South),
+          and_false (is_output sys s i West),
+        ) (ap not (or_false (is_output sys s i North)))
     keeps_beside East =
-        rw (other_site (neighbor p.site East) p.site (λ same. apart p.site East (sym same)), same_site-refl (neighbor p.site East),
-        no_other p.site East North (λ e. cc e), no_other p.site East South (λ e. cc e), no_other p.site East West (λ e. cc e),
-        and_true (is_output sys s i East), and_false (is_output sys s i North), and_false (is_output sys s i South), and_false (is_output sys s i West)) (ap not (or_false (is_output sys s i East)))
+        rw (
+          other_site (neighbor p.site East) p.site (λ same. apart p.site East (sym same)),
+          same_site-refl (neighbor p.site East),
+          no_other p.site East North (λ e. cc e),
+          no_other p.site East South (λ e. cc e),
+          no_other p.site East West (λ e. cc e),
+          and_true (is_output sys s i East),
+          and_false (is_output sys s i North),
+          and_false (is_output sys s i South),
+          and_false (is_output sys s i West),
+        ) (ap not (or_false (is_output sys s i East)))
     keeps_beside South =
-        rw (other_site (neighbor p.site South) p.site (λ same. apart p.site South (sym same)), same_site-refl (neighbor p.site South),
-        no_other p.site South North (λ e. cc e), no_other p.site South East (λ e. cc e), no_other p.site South West (λ e. cc e),
-        and_true (is_output sys s i South), and_false (is_output sys s i North), and_false (is_output sys s i East), and_false (is_output sys s i West)) (ap not (or_false (is_output sys s i South)))
+        rw (
+          other_site (neighbor p.site South) p.site (λ same. apart p.site South (sym same)),
+          same_site-refl (neighbor p.site South),
+          no_other p.site South North (λ e. cc e),
+          no_other p.site South East (λ e. cc e),
+          no_other p.site South West (λ e. cc e),
+          and_true (is_output sys s i South),
+          and_false (is_output sys s i North),
+          and_false (is_output sys s i East),
+          and_false (is_output sys s i West),
+        ) (ap not (or_false (is_output sys s i South)))
     keeps_beside West =
-        rw (other_site (neighbor p.site West) p.site (λ same. apart p.site West (sym same)), same_site-refl (neighbor p.site West),
-        no_other p.site West North (λ e. cc e), no_other p.site West East (λ e. cc e), no_other p.site West South (λ e. cc e),
-        and_true (is_output sys s i West), and_false (is_output sys s i North), and_false (is_output sys s i East), and_false (is_output sys s i South)) (ap not (or_false (is_output sys s i West)))
+        rw (
+          other_site (neighbor p.site West) p.site (λ same. apart p.site West (sym same)),
+          same_site-refl (neighbor p.site West),
+          no_other p.site West North (λ e. cc e),
+          no_other p.site West East (λ e. cc e),
+          no_other p.site West South (λ e. cc e),
+          and_true (is_output sys s i West),
+          and_false (is_output sys s i North),
+          and_false (is_output sys s i East),
+          and_false (is_output sys s i South),
+        ) (ap not (or_false (is_output sys s i West)))
 
     pub bond_kept : (t : TypeId) (d : Side) → bond sys rest p.site t d ≡ bond_if (not (is_output sys s i d)) (bond sys tiles p.site t d)
     unfolding keeps

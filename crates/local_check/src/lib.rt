@@ -10,5 +10,8 @@ mod verdict;
 
 pub use judgement::judge;
 pub use laws::{law_one_verdict, law_yes};
-pub use side_table::{inputs, SideSets};
+pub use side_table::{SideSets, inputs};
 pub use verdict::Verdict;
+
+#[cfg(test)]
+mod tests;

@@ -104,7 +104,7 @@ pub fn inputs(alloc: Global, sys: &System, seq: &Sequence) -> Result<SideSets, N
 }
 
 // Puts the seeds into an empty grid.
-fn put_seeds(sys: &System, grid: &mut Grid)
+pub(crate) fn put_seeds(sys: &System, grid: &mut Grid)
     requires valid { IsValid sys.now }
     requires area { grid.old.area ≡ sys.now.area }
     requires empty { grid.old.tiles ≡ [] }

@@ -10,8 +10,7 @@ pub returns-in-Some-least_open : goal.returns-in-Some-least_open
 returns-in-Some-least_open c =
     let sys = c.args.sys.now in
     let s = c.args.seq.now in
-    let same = one_map sys s c.args.sides.now.tiles c.first_inexact.ensures.distinct c.requires.legal c.requires.sides.same in
-    (
+    let same = one_map sys s c.args.sides.now.tiles c.first_inexact.ensures.distinct c.requires.legal c.requires.sides.same in (
       exact_all sys s c.in_default.ensures.first,
       no_rival_all sys s c.in_default-first_rival.ensures,
       least_open_same sys c.args.sides.now.tiles s (λ m. sym (same m)) (Some (c.in-Some-least_open.site, c.in-Some-least_open.tile)) c.in-Some-least_open.ensures,
