@@ -1,5 +1,5 @@
 -- What holds a place, by its input sides, and what holds a rival, by the sides that aren't output sides.
-use Rattle.std.proofs.Common.{◌≡◌, ◌≢◌, ◌⊎◌, ◌<◌, ◌≤◌, ◌+◌, ℕ, zero, suc, Bool, true, false, not, ◌&&◌, ◌||◌, nat_lt, List, [], ◌∷◌, length, take, Option, Some, None, slice_get, refl, sym, ◌∙◌, ap, subst, inl, inr, arith}
+use Rattle.std.proofs.Common.{◌≡◌, ◌≢◌, ◌<◌, ◌≤◌, ◌+◌, ℕ, Bool, true, false, not, ◌&&◌, ◌||◌, nat_lt, List, length, take, Option, Some, None, slice_get, refl, sym, ◌∙◌, ap, subst, inl, inr, arith}
 use Rattle.std.specs.List.{list_any}
 use Rattle.std.proofs.Math.Seq.{take-length}
 use Rattle.std.proofs.lemmas.Int.{ints}
@@ -11,7 +11,7 @@ use Rattle.atam.specs.declared.site.Side.TheVariants.{North, East, South, West}
 use Rattle.atam.specs.declared.site.Site.{Site}
 use Rattle.atam.specs.declared.place.TypeId.{TypeId}
 use Rattle.atam.specs.declared.place.Place.{Place}
-use Rattle.atam.specs.Sites.{neighbor, opposite, directions, same_site, IsBefore, InBox}
+use Rattle.atam.specs.Sites.{neighbor, directions, same_site, IsBefore, InBox}
 use Rattle.atam.specs.Placements.{HasDistinctSites, SamePlacements, tile_at}
 use Rattle.atam.specs.TileSystem.{TileSystem, IsType}
 use Rattle.atam.specs.Assembly.{bond, pull}
@@ -28,7 +28,7 @@ use Rattle.assembly.proofs.Tiles.{SameTiles}
 use Rattle.local_check.specs.declared.side_set.SideSet.{SideSet}
 use Rattle.local_check.specs.SideSets.{has, bond_if, pull_on}
 use Rattle.local_check.specs.OpenSites.{Precedes}
-use Rattle.local_check.specs.Judgement.{AllExactBelow, NoRivalBelow, IsLeastRival}
+use Rattle.local_check.specs.Judgement.{AllExactBelow, NoRivalBelow}
 use Rattle.local_check.proofs.Sites.{bond-same, pull-same, SameTiles-from}
 use Rattle.local_check.proofs.Sides.{apart, is_input-later}
 

@@ -1,9 +1,9 @@
 -- Input and output sides, by bonds.
-use Rattle.std.proofs.Common.{◌≡◌, ◌≢◌, ◌⊎◌, ◌<◌, ◌≤◌, ◌+◌, ◌++◌, ℕ, zero, suc, Bool, true, false, not, ◌&&◌, nat_lt, nat_le, max, List, [], ◌∷◌, length, length-append, take, Option, Some, None, slice_get, refl, sym, ◌∙◌, ap, subst, inl, inr, arith}
+use Rattle.std.proofs.Common.{◌≡◌, ◌≢◌, ◌⊎◌, ◌<◌, ◌≤◌, ◌+◌, ◌++◌, ℕ, zero, suc, Bool, true, false, not, ◌&&◌, nat_lt, nat_le, max, List, [], ◌∷◌, length, length-append, take, Some, None, slice_get, refl, sym, ◌∙◌, ap, subst, inl, inr, arith}
 use Rattle.std.proofs.lemmas.Int.{ints}
 use Rattle.std.proofs.lemmas.Bool.{cases_lt}
 use Rattle.std.proofs.lemmas.Bool.Decides.{nat_tests}
-use Rattle.std.proofs.lemmas.Option.{same_Some, none-some, slice_get_within}
+use Rattle.std.proofs.lemmas.Option.{same_Some, none-some}
 use Rattle.atam.specs.declared.site.Side.{Side}
 use Rattle.atam.specs.declared.site.Side.TheVariants.{North, East, South, West}
 use Rattle.atam.specs.declared.site.Site.{Site}
@@ -12,10 +12,10 @@ use Rattle.atam.specs.declared.place.Place.{Place}
 use Rattle.atam.specs.Sites.{neighbor, opposite}
 use Rattle.atam.specs.Placements.{HasDistinctSites, SamePlacements, tile_at}
 use Rattle.atam.specs.TileSystem.{TileSystem, side_glue}
-use Rattle.atam.specs.Assembly.{interaction, bond, pull}
+use Rattle.atam.specs.Assembly.{interaction, bond}
 use Rattle.atam.specs.Growth.{IsLegal}
 use Rattle.atam.specs.Determinism.{is_input, is_output, index_at}
-use Rattle.atam.proofs.Lists.{some_or_none, push_cases}
+use Rattle.atam.proofs.Lists.{some_or_none}
 use Rattle.atam.proofs.Bonds.{neighbor-opposite, opposite-opposite, interaction-comm, bond_is, bond-none}
 use Rattle.atam.proofs.Placements.{Extends-take, empty_in_part, index_at-none, index_at-some}
 use Rattle.atam.proofs.Sequences.{IsLegal-empty, IsLegal-tile_at, IsLegal-listed, IsLegal-distinct}

@@ -1,7 +1,7 @@
 -- Assemblies that fit, and what stands at each site of assemblies with the same places.
-use Rattle.std.proofs.Common.{◌≡◌, ◌≢◌, ◌<◌, ◌≤◌, ◌+◌, ℕ, zero, suc, length, List, [], ◌∷◌, ◌++◌, take, get_or, Option, Some, None, All, Contains, slice_get, refl, sym, ◌∙◌, ap, subst, inl, inr, arith, add-one}
+use Rattle.std.proofs.Common.{◌≡◌, ◌≢◌, ◌<◌, ◌+◌, ℕ, zero, suc, length, List, [], ◌∷◌, ◌++◌, take, get_or, Some, None, Contains, slice_get, refl, sym, ◌∙◌, ap, subst, inl, inr, arith, add-one}
 use Rattle.std.proofs.lemmas.Int.{ints}
-use Rattle.std.proofs.lemmas.Option.{slice_get-get_or, none-some}
+use Rattle.std.proofs.lemmas.Option.{slice_get-get_or}
 use Rattle.std.proofs.lemmas.List.{length-take, get_or-take}
 use Rattle.std.proofs.lemmas.List.Elements.{All-contains}
 use Rattle.std.proofs.Math.Nat.{min-le_left, min-le_right}

@@ -1,5 +1,5 @@
 -- Sets of sides, and the input and output sides of the places of a sequence.
-use Rattle.std.specs.Prelude.{◌≡◌, ℕ, ◌+◌, ◌<◌, Bool, true, false, not, ◌&&◌, nat_lt, nat_le, if◌then◌else◌, List, length, slice_get, take, max, Some}
+use Rattle.std.specs.Prelude.{◌≡◌, ℕ, ◌+◌, ◌<◌, Bool, false, not, ◌&&◌, nat_lt, nat_le, if◌then◌else◌, List, length, slice_get, take, max, Some}
 use Rattle.std.specs.Option.{option_map_or}
 use Rattle.atam.specs.declared.site.Side.{Side}
 use Rattle.atam.specs.declared.site.Side.TheVariants.{North, East, South, West}

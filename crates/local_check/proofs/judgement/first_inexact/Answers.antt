@@ -1,5 +1,4 @@
-use Rattle.std.proofs.Common.{◌≡◌, ◌<◌, ◌≤◌, ◌∙◌, ℕ, length, arith, sym, ap, refl}
-use Rattle.atam.specs.declared.place.Place.{Place}
+use Rattle.std.proofs.Common.{◌<◌, ◌∙◌, length, arith, sym, refl}
 use Rattle.atam.specs.Sites.{InBox}
 use Rattle.atam.proofs.Lists.{All-slice_get}
 use Rattle.local_check.proofs.Sites.{near_inside, Fits-part}

@@ -1,4 +1,4 @@
-use Rattle.std.proofs.Common.{◌≡◌, ◌≤◌, length}
+use Rattle.std.proofs.Common.{◌≤◌, length}
 use Rattle.local_check.specs.Judgement.{AllExactBelow}
 use Rattle.local_check.proofs.judgement.first_inexact.Given as goal
 

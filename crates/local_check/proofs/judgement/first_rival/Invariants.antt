@@ -1,4 +1,4 @@
-use Rattle.std.proofs.Common.{◌≡◌, ◌≤◌, length}
+use Rattle.std.proofs.Common.{◌≤◌, length}
 use Rattle.local_check.specs.Judgement.{NoRivalBelow}
 use Rattle.local_check.proofs.judgement.first_rival.Given as goal
 

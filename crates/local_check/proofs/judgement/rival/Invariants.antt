@@ -1,6 +1,5 @@
-use Rattle.std.proofs.Common.{◌≡◌, ◌<◌}
+use Rattle.std.proofs.Common.{◌<◌}
 use Rattle.atam.specs.declared.place.TypeId.{TypeId}
-use Rattle.atam.specs.declared.place.Place.{Place}
 use Rattle.atam.specs.Determinism.{IsRival}
 use Rattle.local_check.proofs.judgement.rival.Given as goal
 

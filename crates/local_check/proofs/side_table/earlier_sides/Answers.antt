@@ -1,13 +1,13 @@
-use Rattle.std.proofs.Common.{◌≡◌, ◌<◌, ◌≤◌, ◌+◌, ◌++◌, ◌∷◌, [], ◌∙◌, ℕ, List, length, take, max, slice_get, Some, None, arith, sym, ap, subst}
+use Rattle.std.proofs.Common.{◌≡◌, ◌<◌, ◌≤◌, ◌+◌, ◌∙◌, ℕ, List, length, take, max, slice_get, Some, arith, sym, ap, subst}
 use Rattle.atam.specs.declared.place.Place.{Place}
 use Rattle.atam.specs.declared.area.BoxArea.{BoxArea}
 use Rattle.atam.specs.Sites.{InBox}
-use Rattle.atam.specs.Placements.{SamePlacements, tile_at}
+use Rattle.atam.specs.Placements.{SamePlacements}
 use Rattle.atam.specs.TileSystem.{IsType}
 use Rattle.atam.proofs.Lists.{All-slice_get}
 use Rattle.local_check.specs.declared.side_set.SideSet.{SideSet}
 use Rattle.local_check.specs.SideSets.{AreEarlierAt, bound_sides}
-use Rattle.local_check.proofs.Sites.{near_inside, Fits-part, part_take, distinct-take, SameTiles-from, SamePlacements-more}
+use Rattle.local_check.proofs.Sites.{near_inside, Fits-part, part_take, SameTiles-from, SamePlacements-more}
 use Rattle.local_check.proofs.Sides.{bound_sides-same, earlier_more, empty_before, taken_distinct, length-push}
 use Rattle.local_check.proofs.side_table.earlier_sides.Goals as goal
 use Rattle.local_check.proofs.side_table.earlier_sides.Goals.{then-index-seed_count, else-index-seed_count}

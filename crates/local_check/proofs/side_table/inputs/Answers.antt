@@ -1,4 +1,4 @@
-use Rattle.std.proofs.Common.{◌≡◌, length, ap}
+use Rattle.std.proofs.Common.{length, ap}
 use Rattle.local_check.proofs.Sides.{table}
 use Rattle.local_check.proofs.side_table.inputs.Goals as goal
 

@@ -1,4 +1,4 @@
-use Rattle.std.proofs.Common.{◌≡◌, ◌∙◌}
+use Rattle.std.proofs.Common.{◌∙◌}
 use Rattle.std.proofs.lemmas.Option.{slice_get-get_or}
 use Rattle.local_check.proofs.Sites.{seed_empty, SamePlacements-more}
 use Rattle.local_check.proofs.side_table.put_seeds.Goals as goal

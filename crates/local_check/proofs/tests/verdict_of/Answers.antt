@@ -1,4 +1,4 @@
-use Rattle.std.proofs.Common.{◌≡◌, sym, subst}
+use Rattle.std.proofs.Common.{sym, subst}
 use Rattle.atam.specs.Placements.{SamePlacements}
 use Rattle.atam.specs.Assembly.{Fits}
 use Rattle.atam.specs.Growth.{IsLegal}
