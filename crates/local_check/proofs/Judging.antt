@@ -1,0 +1,299 @@
+-- What holds a place, by its input sides, and what holds a rival, by the sides that aren't output sides.
+use Rattle.std.proofs.Common.{◌≡◌, ◌≢◌, ◌<◌, ◌≤◌, ◌+◌, ℕ, Bool, true, false, not, ◌&&◌, ◌||◌, nat_lt, List, length, take, Option, Some, None, slice_get, refl, sym, ◌∙◌, ap, subst, inl, inr, arith}
+use Rattle.std.specs.List.{list_any}
+use Rattle.std.proofs.Math.Seq.{take-length}
+use Rattle.std.proofs.lemmas.Int.{ints}
+use Rattle.std.proofs.lemmas.Bool.{cases_Bool, cases_lt}
+use Rattle.std.proofs.lemmas.Bool.Decides.{nat_tests}
+use Rattle.std.proofs.lemmas.Option.{same_Some, slice_get_within}
+use Rattle.atam.specs.declared.site.Side.{Side}
+use Rattle.atam.specs.declared.site.Side.TheVariants.{North, East, South, West}
+use Rattle.atam.specs.declared.site.Site.{Site}
+use Rattle.atam.specs.declared.place.TypeId.{TypeId}
+use Rattle.atam.specs.declared.place.Place.{Place}
+use Rattle.atam.specs.Sites.{neighbor, directions, same_site, IsBefore, InBox}
+use Rattle.atam.specs.Placements.{HasDistinctSites, SamePlacements, tile_at}
+use Rattle.atam.specs.TileSystem.{TileSystem, IsType}
+use Rattle.atam.specs.Assembly.{bond, pull}
+use Rattle.atam.specs.Growth.{IsLegal, CanGrow, IsLeastOpen, IsLeastOpenAmong, IsLeastOpenOutside}
+use Rattle.atam.specs.Determinism.{is_input, is_output, without_outputs, IsExact, IsRival}
+use Rattle.atam.proofs.Boxes.{same_site_tells, same_site-refl}
+use Rattle.atam.proofs.Lists.{some_or_none}
+use Rattle.atam.proofs.Bonds.{bond_is, bond-none}
+use Rattle.atam.proofs.Canon.{same_or_before}
+use Rattle.atam.proofs.Existence.{before_or_not, before_trans}
+use Rattle.atam.proofs.Placements.{Extends, Extends-take, tile_at-filter, tile_at-filtered}
+use Rattle.atam.proofs.Sequences.{IsLegal-distinct}
+use Rattle.assembly.proofs.Tiles.{SameTiles}
+use Rattle.local_check.specs.declared.side_set.SideSet.{SideSet}
+use Rattle.local_check.specs.SideSets.{has, bond_if, pull_on}
+use Rattle.local_check.specs.OpenSites.{Precedes}
+use Rattle.local_check.specs.Judgement.{AllExactBelow, NoRivalBelow}
+use Rattle.local_check.proofs.Sites.{bond-same, pull-same, SameTiles-from}
+use Rattle.local_check.proofs.Sides.{apart, is_input-later}
+
+-- the test of two neighbours of a site
+other_site : (a b : Site) → a ≢ b → same_site a b ≡ false
+other_site a b other = elim (same_site_tells a b) [ inl same ↦ absurd (other same.1) | inr differ ↦ differ.0 ]
+
+differ : (m : Site) → (a b : Side) → neighbor m a ≡ neighbor m b → a ≡ b
+differ m North North same = refl
+differ m North East same = let e = ap (λ n. n.y) same in let never : ⊥ = omega (arith, ints, e) in absurd never
+differ m North South same = let e = ap (λ n. n.y) same in let never : ⊥ = omega (arith, ints, e) in absurd never
+differ m North West same = let e = ap (λ n. n.y) same in let never : ⊥ = omega (arith, ints, e) in absurd never
+differ m East North same = let e = ap (λ n. n.x) same in let never : ⊥ = omega (arith, ints, e) in absurd never
+differ m East East same = refl
+differ m East South same = let e = ap (λ n. n.x) same in let never : ⊥ = omega (arith, ints, e) in absurd never
+differ m East West same = let e = ap (λ n. n.x) same in let never : ⊥ = omega (arith, ints, e) in absurd never
+differ m South North same = let e = ap (λ n. n.y) same in let never : ⊥ = omega (arith, ints, e) in absurd never
+differ m South East same = let e = ap (λ n. n.y) same in let never : ⊥ = omega (arith, ints, e) in absurd never
+differ m South South same = refl
+differ m South West same = let e = ap (λ n. n.y) same in let never : ⊥ = omega (arith, ints, e) in absurd never
+differ m West North same = let e = ap (λ n. n.x) same in let never : ⊥ = omega (arith, ints, e) in absurd never
+differ m West East same = let e = ap (λ n. n.x) same in let never : ⊥ = omega (arith, ints, e) in absurd never
+differ m West South same = let e = ap (λ n. n.x) same in let never : ⊥ = omega (arith, ints, e) in absurd never
+differ m West West same = refl
+
+no_other : (m : Site) (a b : Side) → a ≢ b → same_site (neighbor m a) (neighbor m b) ≡ false
+no_other m a b other = other_site (neighbor m a) (neighbor m b) (λ same. other (differ m a b same))
+
+and_false : (b : Bool) → (b && false) ≡ false
+and_false true = refl
+and_false false = refl
+
+and_true : (b : Bool) → (b && true) ≡ b
+and_true true = refl
+and_true false = refl
+
+or_false : (b : Bool) → (b || false) ≡ b
+or_false true = refl
+or_false false = refl
+
+-- a bond in a part is that in the whole, or none
+counted : (w : ℕ) → w ≡ bond_if (nat_lt 0 w) w
+counted w = elim (cases_Bool (nat_lt 0 w)) [
+  | inl some ↦ rw some refl
+  | inr none ↦ let zero_it_is : w ≡ 0 = grind (arith, nat_tests, none) in rw none zero_it_is
+]
+
+bond_part : (sys : TileSystem) (part whole : List Place) (m : Site) (t : TypeId) (d : Side) → Extends part whole →
+    bond sys part m t d ≡ bond_if (nat_lt 0 (bond sys part m t d)) (bond sys whole m t d)
+bond_part sys part whole m t d extends = elim (some_or_none (tile_at part (neighbor m d))) [
+  | inl none ↦ rw (bond-none sys part m t d none) refl
+  | inr some ↦
+      let both : bond sys part m t d ≡ bond sys whole m t d =
+      bond_is sys part m t d some.0 some.1 ∙ sym (bond_is sys whole m t d some.0 (extends (neighbor m d) some.0 some.1))
+      in
+      counted (bond sys part m t d) ∙ ap (bond_if (nat_lt 0 (bond sys part m t d))) both
+]
+
+-- a pull is that by some sides, if each bond is
+pull_by : (sys : TileSystem) (part whole : List Place) (m : Site) (t : TypeId) (sides : SideSet) →
+    ((d : Side) → bond sys part m t d ≡ bond_if (has sides d) (bond sys whole m t d)) → pull sys part m t ≡ pull_on sys whole m t sides
+unfolding pull
+pull_by sys part whole m t sides each = λ k. each North k + each East k + each South k + each West k
+
+module _ (sys : TileSystem) (s tiles : List Place) (distinct : HasDistinctSites sys.seeds) (legal : IsLegal sys s) (same : SamePlacements s tiles) where
+  pub one_map : SameTiles s tiles
+  one_map = SameTiles-from s tiles (IsLegal-distinct sys s distinct legal) same
+
+  part_of_tiles : (i : ℕ) → i ≤ length s → Extends (take i s) tiles
+  part_of_tiles i within m t found =
+      let In : List Place → Type 0 = λ l. tile_at l m ≡ Some t in
+      sym (one_map m) ∙ subst In (take-length s) (Extends-take s i (length s) within m t found)
+
+  module _ (i : ℕ) (p : Place) (there : slice_get s i ≡ Some p) where
+    -- what holds a place
+    pub pull_by_inputs : length sys.seeds ≤ i → (sides : SideSet) → ((d : Side) → has sides d ≡ is_input sys s i d) →
+        pull sys (take i s) p.site p.tile ≡ pull_on sys tiles p.site p.tile sides
+    pull_by_inputs later sides are =
+        let within = slice_get_within s i p there in
+        pull_by sys (take i s) tiles p.site p.tile sides (λ d.
+        bond_part sys (take i s) tiles p.site p.tile d (part_of_tiles i (omega (arith, within)))
+        ∙ ap (λ b. bond_if b (bond sys tiles p.site p.tile d)) (sym (is_input-later sys s i p d later there) ∙ sym (are d))
+        )
+
+    keeps : Site → Bool
+    keeps n = not (same_site n p.site) && not (list_any (λ e. is_output sys s i e && same_site n (neighbor p.site e)) directions)
+
+    abbrev rest : List Place
+    rest = without_outputs sys s i p.site
+
+    pub gone_here : tile_at rest p.site ≡ None
+    unfolding keeps
+    gone_here =
+        let gone : keeps p.site ≡ false = rw (same_site-refl p.site) refl in
+        tile_at-filtered keeps s p.site gone
+
+    keeps_beside : (d : Side) → keeps (neighbor p.site d) ≡ not (is_output sys s i d)
+    unfolding keeps
+    keeps_beside North =
+        rw (
+          other_site (neighbor p.site North) p.site (λ same. apart p.site North (sym same)),
+          same_site-refl (neighbor p.site North),
+          no_other p.site North East (λ e. cc e),
+          no_other p.site North South (λ e. cc e),
+          no_other p.site North West (λ e. cc e),
+          and_true (is_output sys s i North),
+          and_false (is_output sys s i East),
+          and_false (is_output sys s i South),
+          and_false (is_output sys s i West),
+        ) (ap not (or_false (is_output sys s i North)))
+    keeps_beside East =
+        rw (
+          other_site (neighbor p.site East) p.site (λ same. apart p.site East (sym same)),
+          same_site-refl (neighbor p.site East),
+          no_other p.site East North (λ e. cc e),
+          no_other p.site East South (λ e. cc e),
+          no_other p.site East West (λ e. cc e),
+          and_true (is_output sys s i East),
+          and_false (is_output sys s i North),
+          and_false (is_output sys s i South),
+          and_false (is_output sys s i West),
+        ) (ap not (or_false (is_output sys s i East)))
+    keeps_beside South =
+        rw (
+          other_site (neighbor p.site South) p.site (λ same. apart p.site South (sym same)),
+          same_site-refl (neighbor p.site South),
+          no_other p.site South North (λ e. cc e),
+          no_other p.site South East (λ e. cc e),
+          no_other p.site South West (λ e. cc e),
+          and_true (is_output sys s i South),
+          and_false (is_output sys s i North),
+          and_false (is_output sys s i East),
+          and_false (is_output sys s i West),
+        ) (ap not (or_false (is_output sys s i South)))
+    keeps_beside West =
+        rw (
+          other_site (neighbor p.site West) p.site (λ same. apart p.site West (sym same)),
+          same_site-refl (neighbor p.site West),
+          no_other p.site West North (λ e. cc e),
+          no_other p.site West East (λ e. cc e),
+          no_other p.site West South (λ e. cc e),
+          and_true (is_output sys s i West),
+          and_false (is_output sys s i North),
+          and_false (is_output sys s i East),
+          and_false (is_output sys s i South),
+        ) (ap not (or_false (is_output sys s i West)))
+
+    pub bond_kept : (t : TypeId) (d : Side) → bond sys rest p.site t d ≡ bond_if (not (is_output sys s i d)) (bond sys tiles p.site t d)
+    unfolding keeps
+    bond_kept t d = elim (cases_Bool (is_output sys s i d)) [
+      | inl out ↦
+          let gone : keeps (neighbor p.site d) ≡ false = keeps_beside d ∙ ap not out in
+          rw out (bond-none sys rest p.site t d (tile_at-filtered keeps s (neighbor p.site d) gone))
+      | inr no_output ↦
+          let kept : keeps (neighbor p.site d) ≡ true = keeps_beside d ∙ ap not no_output in
+          rw no_output (bond-same sys rest tiles p.site t d (tile_at-filter keeps s (neighbor p.site d) kept ∙ one_map (neighbor p.site d)))
+    ]
+
+    module _ (sides : SideSet) (are : (d : Side) → has sides d ≡ not (is_output sys s i d)) (t : TypeId) where
+      pub pull_kept : pull sys (without_outputs sys s i p.site) p.site t ≡ pull_on sys tiles p.site t sides
+      pull_kept = pull_by sys rest tiles p.site t sides (λ d. bond_kept t d ∙ ap (λ b. bond_if b (bond sys tiles p.site t d)) (sym (are d)))
+
+      pub rival_from : t.0 ≢ p.tile.0 → IsType sys t → sys.tau ≤ pull_on sys tiles p.site t sides → IsRival sys s i p t
+      rival_from other kind held =
+          let Held : ℕ → Type 0 = λ n. sys.tau ≤ n in
+          record {
+            other = λ same. other (ap (λ u. u.0) same);
+            grows = record { kind = kind; attaches = record { empty = gone_here; held = subst Held (sym pull_kept) held } };
+          }
+
+      pub no_rival_same : t.0 ≡ p.tile.0 → ¬ IsRival sys s i p t
+      no_rival_same one rival = rival.other (λ k. record { 0 = one k })
+
+      pub no_rival_weak : pull_on sys tiles p.site t sides < sys.tau → ¬ IsRival sys s i p t
+      no_rival_weak weak rival = let held = rival.grows.attaches.held in let never : ⊥ = omega (arith, held, weak, pull_kept) in never
+
+-- the least open site of the plane, by that of the box and that outside it
+module _ (sys : TileSystem) (tiles : List Place) where
+  pub least_outside : (f g : Option (Site × TypeId)) → IsLeastOpenAmong sys tiles (InBox sys.area) f → IsLeastOpenOutside sys tiles g → Precedes g f → IsLeastOpen sys tiles g
+  least_outside f None inside outside first = absurd first
+  least_outside None (Some g) none outside first = record {
+    among = tt;
+    grows = outside.grows;
+    least_type = outside.least_type;
+    least_site = λ n u _ grows before. outside.least_site n u (λ within. none n u within grows) grows before;
+  }
+  least_outside (Some f) (Some g) inside outside first = record {
+    among = tt;
+    grows = outside.grows;
+    least_type = outside.least_type;
+    least_site = λ n u _ grows before. outside.least_site n u (λ within. inside.least_site n u within grows (before_trans n g.0 f.0 before first)) grows before;
+  }
+
+  pub least_inside : (f g : Option (Site × TypeId)) → IsLeastOpenAmong sys tiles (InBox sys.area) f → IsLeastOpenOutside sys tiles g → ¬ Precedes g f → IsLeastOpen sys tiles f
+  least_inside None None inside outside not_first = λ m t _ grows. outside m t (λ within. inside m t within grows) grows
+  least_inside None (Some g) inside outside not_first = absurd (not_first tt)
+  least_inside (Some f) None inside none not_first = record {
+    among = tt;
+    grows = inside.grows;
+    least_type = inside.least_type;
+    least_site = λ n u _ grows before. none n u (λ within. inside.least_site n u within grows before) grows;
+  }
+  least_inside (Some f) (Some g) inside outside not_first = record {
+    among = tt;
+    grows = inside.grows;
+    least_type = inside.least_type;
+    least_site = λ n u _ grows before.
+        let not_before : ¬ IsBefore n g.0 = outside.least_site n u (λ within. inside.least_site n u within grows before) grows in
+        elim (before_or_not g.0 n) [
+          | inl less ↦ not_first (before_trans g.0 n f.0 less before)
+          | inr no_less ↦
+              let Before : Site → Type 0 = λ r. IsBefore r f.0 in
+              not_first (subst Before (same_or_before n g.0 not_before no_less) before)
+        ];
+  }
+
+-- one index more
+module _ (sys : TileSystem) (s : List Place) (n : ℕ) (p : Place) (there : slice_get s n ≡ Some p) where
+  pub exact_more : AllExactBelow sys s n → IsExact sys s n p → AllExactBelow sys s (n + 1)
+  exact_more all last i q later below at_i = elim (cases_lt i n) [
+    | inl less ↦ all i q later less at_i
+    | inr more ↦
+        let one : n ≡ i = omega (arith, below, more) in
+        let At : ℕ → Type 0 = λ j. slice_get s j ≡ Some p in
+        let same : p ≡ q = same_Some p q (sym (subst At one there) ∙ at_i) in
+        subst (λ r. IsExact sys s i r) same (subst (λ j. IsExact sys s j p) one last)
+  ]
+
+  pub no_rival_more : NoRivalBelow sys s n → ((t : TypeId) → ¬ IsRival sys s n p t) → NoRivalBelow sys s (n + 1)
+  no_rival_more none last i q t later below at_i rival = elim (cases_lt i n) [
+    | inl less ↦ none i q t later less at_i rival
+    | inr more ↦
+        let one : i ≡ n = omega (arith, below, more) in
+        let At : ℕ → Type 0 = λ j. slice_get s j ≡ Some q in
+        let same : q ≡ p = same_Some q p (sym (subst At one at_i) ∙ there) in
+        let at_n : IsRival sys s n q t = subst (λ j. IsRival sys s j q t) one rival in
+        last t (subst (λ r. IsRival sys s n r t) same at_n)
+  ]
+
+pub exact_all : (sys : TileSystem) (s : List Place) → AllExactBelow sys s (length s) → (n : ℕ) → AllExactBelow sys s n
+exact_all sys s all n i p later below there = all i p later (slice_get_within s i p there) there
+
+pub no_rival_all : (sys : TileSystem) (s : List Place) → NoRivalBelow sys s (length s) → (n : ℕ) → NoRivalBelow sys s n
+no_rival_all sys s none n i p t later below there = none i p t later (slice_get_within s i p there) there
+
+-- open sites are looked at by what stands at each site
+module _ (sys : TileSystem) (a b : List Place) (same : SameTiles a b) where
+  grows_same : (m : Site) (t : TypeId) → CanGrow sys a m t → CanGrow sys b m t
+  grows_same m t grows =
+      let Held : ℕ → Type 0 = λ n. sys.tau ≤ n in
+      record {
+        kind = grows.kind;
+        attaches = record {
+          empty = sym (same m) ∙ grows.attaches.empty;
+          held = subst Held (pull-same sys a b m t (λ d. same (neighbor m d))) grows.attaches.held;
+        };
+      }
+
+pub least_open_same : (sys : TileSystem) (a b : List Place) → SameTiles a b → (found : Option (Site × TypeId)) → IsLeastOpen sys a found → IsLeastOpen sys b found
+least_open_same sys a b same None none = λ m t _ grows. none m t tt (grows_same sys b a (λ n. sym (same n)) m t grows)
+least_open_same sys a b same (Some found) least =
+    let back : (m : Site) (t : TypeId) → CanGrow sys b m t → CanGrow sys a m t = grows_same sys b a (λ n. sym (same n)) in
+    record {
+      among = tt;
+      grows = grows_same sys a b same found.0 found.1 least.grows;
+      least_site = λ n u _ grows. least.least_site n u tt (back n u grows);
+      least_type = λ u grows. least.least_type u (back found.0 u grows);
+    }

@@ -1,0 +1,6 @@
+pub mod Deciding
+pub mod Verdicts
+pub mod Existence
+pub mod Sites
+pub mod Sides
+pub mod Judging

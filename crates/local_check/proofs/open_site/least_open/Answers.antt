@@ -1,0 +1,12 @@
+use Rattle.local_check.proofs.Judging.{least_inside, least_outside}
+use Rattle.local_check.proofs.open_site.least_open.Goals as goal
+
+pub returns-then-precedes : goal.returns-then-precedes
+returns-then-precedes g c =
+    least_outside c.args.sys.now _ c.least_open_inside-inside.result c.least_open_outside-outside.result c.least_open_inside-inside.ensures c.least_open_outside-outside.ensures
+    (c.precedes.ensures.0 c.if-precedes.true)
+
+pub returns-else-precedes : goal.returns-else-precedes
+returns-else-precedes g c =
+    least_inside c.args.sys.now _ c.least_open_inside-inside.result c.least_open_outside-outside.result c.least_open_inside-inside.ensures c.least_open_outside-outside.ensures
+    (λ first. let yes_it_is = c.precedes.ensures.1 first in cc (yes_it_is, c.if-precedes.false))

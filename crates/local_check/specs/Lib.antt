@@ -1,0 +1,4 @@
+pub mod SideSets
+pub mod Judgement
+pub mod Laws
+pub mod OpenSites

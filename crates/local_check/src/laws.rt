@@ -1,0 +1,13 @@
+// Laws of the verdict, each as the contract of a function that does nothing.
+ghost use Rattle.local_check.specs.Laws.{HasVerdict, HasOneVerdict, IsYesWhereDeterministic};
+
+/// A legal sequence has exactly one verdict.
+pub fn law_one_verdict()
+    ensures exists { HasVerdict }
+    ensures unique { HasOneVerdict }
+{}
+
+/// The verdict is `Yes` exactly where the sequence is locally deterministic.
+pub fn law_yes()
+    ensures { IsYesWhereDeterministic }
+{}

@@ -1,0 +1,17 @@
+//! Whether a legal sequence is locally deterministic.
+#![tactic(auto)]
+
+mod judgement;
+mod laws;
+mod open_site;
+mod side_set;
+mod side_table;
+mod verdict;
+
+pub use judgement::judge;
+pub use laws::{law_one_verdict, law_yes};
+pub use side_table::{SideSets, inputs};
+pub use verdict::Verdict;
+
+#[cfg(test)]
+mod tests;

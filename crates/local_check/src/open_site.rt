@@ -1,0 +1,43 @@
+// The least open site of the plane.
+ghost use Rattle.std.specs.Prelude.{◌↔◌, IsTrue};
+ghost use Rattle.atam.specs.Sites.{IsBefore};
+ghost use Rattle.atam.specs.Assembly.{Fits};
+ghost use Rattle.atam.specs.Growth.{IsLeastOpen};
+ghost use Rattle.local_check.specs.OpenSites.{Precedes};
+
+use attach_rule::{least_open_inside, least_open_outside};
+use tile_system::{Placed, Site, System, TypeId};
+
+// The least site of the plane where a type attaches, with the first such type.
+pub(crate) fn least_open<P: Placed>(sys: &System, placed: &P) -> Option<(Site, TypeId)>
+    requires { Fits sys.now (P.placements placed.now) }
+    ensures { IsLeastOpen sys.now (P.placements placed.now) result }
+{
+    let inside = least_open_inside(sys, placed);
+    let outside = least_open_outside(sys, placed);
+    if precedes(outside, inside) {
+        outside
+    } else {
+        inside
+    }
+}
+
+// Whether a site was found, and no other or a later one.
+fn precedes(found: Option<(Site, TypeId)>, other: Option<(Site, TypeId)>) -> bool
+    ensures { IsTrue result ↔ Precedes found other }
+{
+    match found {
+        None => false,
+        Some((site, _)) => match other {
+            None => true,
+            Some((later, _)) => is_before(site, later),
+        },
+    }
+}
+
+// The order of sites: by y, then by x.
+fn is_before(site: Site, other: Site) -> bool
+    ensures { IsTrue result ↔ IsBefore site other }
+{
+    site.y < other.y || (site.y == other.y && site.x < other.x)
+}
