@@ -130,8 +130,7 @@ module _ (sys : TileSystem) (s : List Place) where
                     later = h.later;
                     there = h.there;
                     site = λ x. h.place.site;
-                    rival = h.rival;
-                    least = h.least;
+                    rival = record { rival = h.rival; least = h.least };
                     first = λ i p t later below there. no_rival_from i p t (found.3 i below) later there;
                   },
                 ),

@@ -10,7 +10,6 @@ returns-in-Some c =
       later = c.loop-index.invariant.seeded;
       there = c.get-place.ensures;
       site = refl;
-      rival = first.rival;
-      least = first.least;
+      rival = first;
       first = c.loop-index.invariant.none;
     }
