@@ -1,6 +1,5 @@
 // The least open site of the plane.
 ghost use Rattle.std.specs.Prelude.{◌↔◌, IsTrue};
-ghost use Rattle.atam.specs.Sites.{IsBefore};
 ghost use Rattle.atam.specs.Assembly.{Fits};
 ghost use Rattle.atam.specs.Growth.{IsLeastOpen};
 ghost use Rattle.local_check.specs.OpenSites.{Precedes};
@@ -30,14 +29,7 @@ fn precedes(found: Option<(Site, TypeId)>, other: Option<(Site, TypeId)>) -> boo
         None => false,
         Some((site, _)) => match other {
             None => true,
-            Some((later, _)) => is_before(site, later),
+            Some((later, _)) => site < later,
         },
     }
-}
-
-// The order of sites: by y, then by x.
-fn is_before(site: Site, other: Site) -> bool
-    ensures { IsTrue result ↔ IsBefore site other }
-{
-    site.y < other.y || (site.y == other.y && site.x < other.x)
 }
