@@ -4,3 +4,4 @@ pub mod Words
 pub mod Opening
 pub mod Grids
 pub mod Filling
+pub mod Putting

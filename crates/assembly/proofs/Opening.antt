@@ -1,6 +1,5 @@
 -- Where a type attaches, by what stands at each site.
-use Rattle.std.proofs.Common.{◌≡◌, ◌≢◌, ◌⊎◌, ◌≤◌, ◌+◌, ◌++◌, ℕ, List, [], ◌∷◌, Some, None, get_or, Contains, sym, ◌∙◌, ap, subst, inl, inr}
-use Rattle.std.specs.Option.{option_and_then}
+use Rattle.std.proofs.Common.{◌≡◌, ◌≢◌, ◌⊎◌, ◌≤◌, ◌+◌, ◌++◌, ℕ, List, [], ◌∷◌, None, get_or, refl, sym, ◌∙◌, ap, subst, inl, inr}
 use Rattle.std.proofs.lemmas.Option.{none-some}
 use Rattle.std.proofs.lemmas.List.Elements.{Contains-get_or, All-contains}
 use Rattle.atam.specs.declared.site.Side.{Side}
@@ -10,22 +9,25 @@ use Rattle.atam.specs.declared.place.TypeId.{TypeId}
 use Rattle.atam.specs.declared.place.Place.{Place}
 use Rattle.atam.specs.Sites.{neighbor, opposite, InBox}
 use Rattle.atam.specs.Placements.{IsPartOf, tile_at}
-use Rattle.atam.specs.TileSystem.{TileSystem, IsType, side_glue}
-use Rattle.atam.specs.Assembly.{Fits, interaction, bond, pull, Attaches}
+use Rattle.atam.specs.TileSystem.{TileSystem, IsType}
+use Rattle.atam.specs.Assembly.{Fits, bond, pull, Attaches}
 use Rattle.atam.specs.Growth.{CanGrow}
 use Rattle.atam.proofs.Boxes.{same_site_tells}
 use Rattle.atam.proofs.Bonds.{neighbor-opposite}
 use Rattle.assembly.proofs.Tiles.{SameTiles, tile_at-push_here, tile_at-push_other}
 
--- the neighbours alone decide the pull
+-- the neighbours alone decide a bond and the pull
+pub bond-beside : (sys : TileSystem) (a b : List Place) (m : Site) (t : TypeId) (d : Side) → tile_at a (neighbor m d) ≡ tile_at b (neighbor m d) →
+    bond sys a m t d ≡ bond sys b m t d
+unfolding bond
+bond-beside sys a b m t d same = rw same refl
+
 pub pull-beside : (sys : TileSystem) (a b : List Place) (m : Site) (t : TypeId) → ((d : Side) → tile_at a (neighbor m d) ≡ tile_at b (neighbor m d)) →
     pull sys a m t ≡ pull sys b m t
-unfolding pull bond
+unfolding pull
 pull-beside sys a b m t same =
-    λ k. interaction sys (side_glue sys t North) (option_and_then (λ u. side_glue sys u (opposite North)) (same North k))
-    + interaction sys (side_glue sys t East) (option_and_then (λ u. side_glue sys u (opposite East)) (same East k))
-    + interaction sys (side_glue sys t South) (option_and_then (λ u. side_glue sys u (opposite South)) (same South k))
-    + interaction sys (side_glue sys t West) (option_and_then (λ u. side_glue sys u (opposite West)) (same West k))
+    let at : (d : Side) → bond sys a m t d ≡ bond sys b m t d = λ d. bond-beside sys a b m t d (same d) in
+    λ k. at North k + at East k + at South k + at West k
 
 -- so what attaches to one list attaches to one with the same tiles
 pub CanGrow-beside : (sys : TileSystem) (a b : List Place) (m : Site) (t : TypeId) → tile_at a m ≡ tile_at b m →

@@ -1,5 +1,5 @@
 // Places in an order.
-ghost use Rattle.std.specs.Prelude.{◌≡◌, ◌<◌, [], ◌∷◌, ◌++◌, length, slice_get, Some, IsTrue, ◌↔◌, OnOk, OnErr};
+ghost use Rattle.std.specs.Prelude.{◌≡◌, ◌<◌, [], ◌∷◌, ◌++◌, length, slice_get, Some, IsTrue, ◌↔◌, IfOk, OnOk, OnErr};
 
 use std::alloc::Global;
 use std::marker::Model;
@@ -36,6 +36,15 @@ impl Sequence {
     {
         self.places.push(place)?;
         Ok(())
+    }
+
+    /// The same sequence once more.
+    pub fn copy(&self) -> Result<Sequence, NoMemory>
+        ensures { IfOk result (λ seq. seq ≡ self.now) }
+    {
+        Ok(Sequence {
+            places: Vec::from_slice(*self.places.allocator(), self.places.as_slice())?,
+        })
     }
 
     pub fn len(&self) -> usize

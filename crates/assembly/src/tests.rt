@@ -56,7 +56,10 @@ fn grids_and_sequences_hold_places(rt: HostRuntime) -> Result<(), Fail> {
         assert_eq!(rt; grid.at(Site { x, y }), Some(TypeId(tile)));
         assert_eq!(rt; number(Site { x, y }), Some(index));
     }
-    assert_eq!(rt; sequence.as_slice().last().copied(), Some(place(0, 1, 7)));
+    assert_eq!(rt;
+        sequence.copy()?.as_slice().last().copied(),
+        Some(place(0, 1, 7))
+    );
     assert_eq!(rt;
         (grid.at(Site { x: 4, y: 1 }), grid.at(Site { x: 1, y: 0 })),
         (None, None)

@@ -9,7 +9,7 @@ use Rattle.atam.specs.declared.site.Site.{Site}
 use Rattle.atam.specs.declared.area.BoxArea.{BoxArea}
 use Rattle.atam.specs.declared.site.Side.{Side}
 use Rattle.atam.specs.declared.site.Side.TheVariants.{North, East, South, West}
-use Rattle.atam.specs.Sites.{neighbor, same_site, InBox, widened, site_in, width_of, height_of}
+use Rattle.atam.specs.Sites.{neighbor, same_site, InBox, IsBox, IsNearSite, widened, site_in, width_of, height_of}
 
 -- a site is its coordinates
 pub same_coordinates : (a b : Site) → a.y ≡ b.y → a.x ≡ b.x → a ≡ b
@@ -51,3 +51,12 @@ beside_box area m North inside = record { left = omega (arith, ints, inside.left
 beside_box area m East inside = record { left = omega (arith, ints, inside.left); right = omega (arith, ints, inside.right); bottom = omega (arith, ints, inside.bottom); top = omega (arith, ints, inside.top) }
 beside_box area m South inside = record { left = omega (arith, ints, inside.left); right = omega (arith, ints, inside.right); bottom = omega (arith, ints, inside.bottom); top = omega (arith, ints, inside.top) }
 beside_box area m West inside = record { left = omega (arith, ints, inside.left); right = omega (arith, ints, inside.right); bottom = omega (arith, ints, inside.bottom); top = omega (arith, ints, inside.top) }
+
+-- a site of a box can be stepped from
+pub near_inside : (area : BoxArea) (m : Site) → IsBox area → InBox area m → IsNearSite m
+near_inside area m limits inside = record {
+  left = omega (arith, ints, limits.corners.left, inside.left);
+  right = omega (arith, ints, limits.corners.right, inside.right);
+  bottom = omega (arith, ints, limits.corners.bottom, inside.bottom);
+  top = omega (arith, ints, limits.corners.top, inside.top);
+}

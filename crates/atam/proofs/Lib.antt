@@ -9,6 +9,10 @@ pub mod Canon
 pub mod Count
 pub mod Existence
 pub mod Open
+pub mod Deciding
+pub mod Confluence
+pub mod Extension
+pub mod SameVerdict
 pub mod Worked
 pub mod Examples
 pub mod ExamplesOfBonds

@@ -1,16 +1,19 @@
 -- The glues that face a site hold a type as strongly as the site pulls on it.
-use Rattle.std.proofs.Common.{◌≡◌, ◌≤◌, ◌<◌, ◌+◌, ◌∙◌, ℕ, Bool, false, true≢false, List, Option, Some, None, is_some, sym, subst, inl, inr, arith}
+use Rattle.std.proofs.Common.{◌≡◌, ◌≤◌, ◌<◌, ◌+◌, ◌∙◌, ℕ, Bool, false, true≢false, List, Option, Some, None, is_some, sym, ap, subst, inl, inr, arith}
 use Rattle.std.proofs.lemmas.Bool.{cases_lt}
 use Rattle.atam.specs.declared.site.Site.{Site}
+use Rattle.atam.specs.declared.site.Side.{Side}
 use Rattle.atam.specs.declared.site.Side.TheVariants.{North, East, South, West}
+use Rattle.atam.specs.declared.place.GlueId.{GlueId}
 use Rattle.atam.specs.declared.place.TypeId.{TypeId}
 use Rattle.atam.specs.declared.place.Place.{Place}
 use Rattle.atam.specs.Placements.{tile_at}
 use Rattle.atam.specs.TileSystem.{TileSystem, IsType, side_glue}
-use Rattle.atam.specs.Assembly.{interaction, bond, pull, Attaches}
+use Rattle.atam.specs.Assembly.{interaction, bond, pull}
 use Rattle.atam.specs.Growth.{CanGrow}
+use Rattle.atam.proofs.Bonds.{interaction-none}
 use Rattle.attach_rule.specs.declared.facing.FacingGlues.{FacingGlues}
-use Rattle.attach_rule.specs.Facing.{FacesSite, strength_of_hold}
+use Rattle.attach_rule.specs.Facing.{AreNone, FacesSite, strength_of_hold}
 
 pub strength_of_hold-pull : (sys : TileSystem) (tiles : List Place) (m : Site) (glues : FacingGlues) (t : TypeId) → FacesSite sys tiles m glues →
     strength_of_hold sys glues t ≡ pull sys tiles m t
@@ -35,6 +38,26 @@ module _ (sys : TileSystem) (tiles : List Place) (m : Site) (glues : FacingGlues
       let same = strength_of_hold-pull sys tiles m glues t faces in
       let never : ⊥ = omega (arith, weak, grows.attaches.held, same, is) in
       never
+
+-- where no glue faces the site, no type attaches
+pub none_unfaced : (sys : TileSystem) (tiles : List Place) (m : Site) (glues : FacingGlues) → FacesSite sys tiles m glues → AreNone glues →
+    1 ≤ sys.tau → (t : TypeId) → ¬ CanGrow sys tiles m t
+none_unfaced sys tiles m glues faces none some_tau t grows =
+    let at : (d : Side) (g : Option GlueId) → g ≡ None → interaction sys (side_glue sys t d) g ≡ 0 = λ d g is_none.
+    ap (interaction sys (side_glue sys t d)) is_none ∙ interaction-none sys (side_glue sys t d)
+    in
+    let never : ⊥ = omega (
+      arith,
+      some_tau,
+      grows.attaches.held,
+      strength_of_hold-pull sys tiles m glues t faces,
+      at North glues.north none.north,
+      at East glues.east none.east,
+      at South glues.south none.south,
+      at West glues.west none.west,
+    )
+    in
+    never
 
 -- one type more that doesn't attach
 pub none_more : (sys : TileSystem) (tiles : List Place) (m : Site) (n : ℕ) → ((t : TypeId) → t.0 < n → ¬ CanGrow sys tiles m t) →

@@ -31,6 +31,16 @@ module _ (sys : TileSystem) (tiles : List Place) (m : Site) where
         few = omega arith;
       })
 
+  -- the empty list has all types that attach where none does
+  pub no_candidates : (types : List TypeId) → types ≡ [] → ((t : TypeId) → ¬ CanGrow sys tiles m t) → AreCandidates sys tiles m types
+  no_candidates types empty none =
+      let Candidates : List TypeId → Type 0 = AreCandidates sys tiles m in
+      subst Candidates (sym empty) (record {
+        sorted = λ i j d less within. let never : ⊥ = omega (arith, within) in absurd never;
+        each = All-nil (CanGrow sys tiles m);
+        complete = λ t grows. absurd (none t grows);
+      })
+
   -- the next type is no candidate, or it is listed
   pub candidates_kept : (n : ℕ) (types : List TypeId) → AreCandidatesBelow sys tiles m n types → ¬ CanGrow sys tiles m (record { 0 = n }) → AreCandidatesBelow sys tiles m (n + 1) types
   candidates_kept n types lists none = record {

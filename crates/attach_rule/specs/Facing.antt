@@ -1,5 +1,5 @@
 -- The glues that face a site.
-use Rattle.std.specs.Prelude.{◌≡◌, ℕ, ◌+◌, List}
+use Rattle.std.specs.Prelude.{◌≡◌, ℕ, ◌+◌, List, None}
 use Rattle.atam.specs.declared.site.Side.TheVariants.{North, East, South, West}
 use Rattle.atam.specs.declared.site.Site.{Site}
 use Rattle.atam.specs.declared.place.TypeId.{TypeId}
@@ -15,6 +15,13 @@ pub record FacesSite (sys : TileSystem) (tiles : List Place) (m : Site) (glues :
   pub east : glues.east ≡ glue_at sys tiles (neighbor m East) West
   pub south : glues.south ≡ glue_at sys tiles (neighbor m South) North
   pub west : glues.west ≡ glue_at sys tiles (neighbor m West) East
+
+-- no glue faces the site
+pub record AreNone (glues : FacingGlues) : Type 0 where
+  pub north : glues.north ≡ None
+  pub east : glues.east ≡ None
+  pub south : glues.south ≡ None
+  pub west : glues.west ≡ None
 
 -- the strength with which a tile of the type is held by these glues
 abbrev pub strength_of_hold : TileSystem → FacingGlues → TypeId → ℕ

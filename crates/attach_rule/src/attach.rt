@@ -69,7 +69,7 @@ pub fn can_attach<P: Placed>(sys: &System, placed: &P, site: Site, tile: TypeId)
     placed.at(site).is_none() && pull(sys, placed, site, tile) >= sys.tau()
 }
 
-/// The first type, by index, that attaches at the site.
+/// The first type, by index, that attaches at the site. It tries no type where no glue faces the site.
 pub fn first_type<P: Placed>(sys: &System, placed: &P, site: Site) -> Option<TypeId>
     requires near { IsNearSite site }
     requires fits { Fits sys.now (P.placements placed.now) }
@@ -78,9 +78,13 @@ pub fn first_type<P: Placed>(sys: &System, placed: &P, site: Site) -> Option<Typ
     if placed.at(site).is_some() {
         return None;
     }
+    let tau = sys.tau();
     let glues = glues_facing(sys, placed, site);
+    if glues.are_none() {
+        return None;
+    }
     for index in 0..sys.type_count() {
-        if hold(sys, &glues, TypeId(index)) >= sys.tau() {
+        if hold(sys, &glues, TypeId(index)) >= tau {
             return Some(TypeId(index));
         }
     }

@@ -8,7 +8,8 @@ use crate::TypeList;
 use crate::facing::{glues_facing, hold};
 use tile_system::{Placed, Site, System, TypeId};
 
-/// Lists all types that attach at the site. It takes no memory.
+/// Lists all types that attach at the site. It takes no memory, and tries no type where no glue
+/// faces the site.
 pub fn candidates<P: Placed>(sys: &System, placed: &P, site: Site, into: &mut TypeList)
     requires near { IsNearSite site }
     requires fits { Fits sys.now (P.placements placed.now) }
@@ -20,9 +21,13 @@ pub fn candidates<P: Placed>(sys: &System, placed: &P, site: Site, into: &mut Ty
     if placed.at(site).is_some() {
         return;
     }
+    let tau = sys.tau();
     let glues = glues_facing(sys, placed, site);
+    if glues.are_none() {
+        return;
+    }
     for index in 0..sys.type_count() {
-        if hold(sys, &glues, TypeId(index)) >= sys.tau() {
+        if hold(sys, &glues, TypeId(index)) >= tau {
             into.push(TypeId(index));
         }
     }

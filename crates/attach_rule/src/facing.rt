@@ -1,9 +1,9 @@
 // The glues that face a site, looked up once for all types.
-ghost use Rattle.std.specs.Prelude.{◌≡◌, ◌≤◌};
+ghost use Rattle.std.specs.Prelude.{◌≡◌, ◌≤◌, ◌↔◌, IsTrue};
 ghost use Rattle.atam.specs.Sites.{IsNearSite};
 ghost use Rattle.atam.specs.TileSystem.{IsType};
 ghost use Rattle.atam.specs.Assembly.{Fits};
-ghost use Rattle.attach_rule.specs.Facing.{FacesSite, strength_of_hold};
+ghost use Rattle.attach_rule.specs.Facing.{AreNone, FacesSite, strength_of_hold};
 
 use crate::attach::{glue_at, interaction};
 use tile_system::{GlueId, Placed, Side, Site, System, TypeId};
@@ -15,6 +15,15 @@ pub(crate) struct FacingGlues {
     pub(crate) east: Option<GlueId>,
     pub(crate) south: Option<GlueId>,
     pub(crate) west: Option<GlueId>,
+}
+
+impl FacingGlues {
+    // Whether no glue faces the site.
+    pub(crate) fn are_none(&self) -> bool
+        ensures { IsTrue result ↔ AreNone self.now }
+    {
+        self.north.is_none() && self.east.is_none() && self.south.is_none() && self.west.is_none()
+    }
 }
 
 // The glues that face the site.

@@ -6,12 +6,14 @@ mod candidate;
 mod facing;
 mod inside;
 mod outside;
+mod plane;
 mod type_list;
 
 pub use attach::{bond, can_attach, first_type, pull};
 pub use candidate::candidates;
 pub use inside::{closed_in_box, least_open_inside};
 pub use outside::least_open_outside;
+pub use plane::least_open;
 pub use type_list::TypeList;
 
 #[cfg(test)]

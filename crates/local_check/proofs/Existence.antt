@@ -10,7 +10,7 @@ use Rattle.atam.specs.Assembly.{pull}
 use Rattle.atam.specs.Growth.{IsLegal, IsLeastOpenAmong}
 use Rattle.atam.specs.Determinism.{without_outputs, IsExact, IsRival}
 use Rattle.atam.proofs.Lists.{some_or_none}
-use Rattle.local_check.proofs.Deciding.{least_number, grows_or_not, least_open_exists}
+use Rattle.atam.proofs.Deciding.{least_number, grows_or_not, least_open_exists}
 use Rattle.local_check.specs.declared.verdict.Verdict.{Verdict}
 use Rattle.local_check.specs.declared.verdict.Verdict.TheVariants.{Yes, NotExact, Rival, NotTerminal}
 use Rattle.local_check.specs.Judgement.{AllExactBelow, NoRivalBelow, IsVerdict}

@@ -11,26 +11,25 @@ use Rattle.atam.specs.declared.site.Side.TheVariants.{North, East, South, West}
 use Rattle.atam.specs.declared.site.Site.{Site}
 use Rattle.atam.specs.declared.place.TypeId.{TypeId}
 use Rattle.atam.specs.declared.place.Place.{Place}
-use Rattle.atam.specs.Sites.{neighbor, directions, same_site, IsBefore, InBox}
+use Rattle.atam.specs.Sites.{neighbor, directions, same_site}
 use Rattle.atam.specs.Placements.{HasDistinctSites, SamePlacements, tile_at}
 use Rattle.atam.specs.TileSystem.{TileSystem, IsType}
 use Rattle.atam.specs.Assembly.{bond, pull}
-use Rattle.atam.specs.Growth.{IsLegal, CanGrow, IsLeastOpen, IsLeastOpenAmong, IsLeastOpenOutside}
+use Rattle.atam.specs.Growth.{IsLegal, CanGrow, IsLeastOpen}
 use Rattle.atam.specs.Determinism.{is_input, is_output, without_outputs, IsExact, IsRival}
 use Rattle.atam.proofs.Boxes.{same_site_tells, same_site-refl}
 use Rattle.atam.proofs.Lists.{some_or_none}
 use Rattle.atam.proofs.Bonds.{bond_is, bond-none}
-use Rattle.atam.proofs.Canon.{same_or_before}
-use Rattle.atam.proofs.Existence.{before_or_not, before_trans}
 use Rattle.atam.proofs.Placements.{Extends, Extends-take, tile_at-filter, tile_at-filtered}
 use Rattle.atam.proofs.Sequences.{IsLegal-distinct}
+use Rattle.atam.proofs.Confluence.{is_input-later}
+use Rattle.assembly.proofs.Opening.{bond-beside, CanGrow-same}
 use Rattle.assembly.proofs.Tiles.{SameTiles}
 use Rattle.local_check.specs.declared.side_set.SideSet.{SideSet}
 use Rattle.local_check.specs.SideSets.{has, bond_if, pull_on}
-use Rattle.local_check.specs.OpenSites.{Precedes}
 use Rattle.local_check.specs.Judgement.{AllExactBelow, NoRivalBelow}
-use Rattle.local_check.proofs.Sites.{bond-same, pull-same, SameTiles-from}
-use Rattle.local_check.proofs.Sides.{apart, is_input-later}
+use Rattle.local_check.proofs.Sites.{SameTiles-from}
+use Rattle.local_check.proofs.Sides.{apart}
 
 -- the test of two neighbours of a site
 other_site : (a b : Site) → a ≢ b → same_site a b ≡ false
@@ -184,7 +183,7 @@ module _ (sys : TileSystem) (s tiles : List Place) (distinct : HasDistinctSites 
           rw out (bond-none sys rest p.site t d (tile_at-filtered keeps s (neighbor p.site d) gone))
       | inr no_output ↦
           let kept : keeps (neighbor p.site d) ≡ true = keeps_beside d ∙ ap not no_output in
-          rw no_output (bond-same sys rest tiles p.site t d (tile_at-filter keeps s (neighbor p.site d) kept ∙ one_map (neighbor p.site d)))
+          rw no_output (bond-beside sys rest tiles p.site t d (tile_at-filter keeps s (neighbor p.site d) kept ∙ one_map (neighbor p.site d)))
     ]
 
     module _ (sides : SideSet) (are : (d : Side) → has sides d ≡ not (is_output sys s i d)) (t : TypeId) where
@@ -204,46 +203,6 @@ module _ (sys : TileSystem) (s tiles : List Place) (distinct : HasDistinctSites 
 
       pub no_rival_weak : pull_on sys tiles p.site t sides < sys.tau → ¬ IsRival sys s i p t
       no_rival_weak weak rival = let held = rival.grows.attaches.held in let never : ⊥ = omega (arith, held, weak, pull_kept) in never
-
--- the least open site of the plane, by that of the box and that outside it
-module _ (sys : TileSystem) (tiles : List Place) where
-  pub least_outside : (f g : Option (Site × TypeId)) → IsLeastOpenAmong sys tiles (InBox sys.area) f → IsLeastOpenOutside sys tiles g → Precedes g f → IsLeastOpen sys tiles g
-  least_outside f None inside outside first = absurd first
-  least_outside None (Some g) none outside first = record {
-    among = tt;
-    grows = outside.grows;
-    least_type = outside.least_type;
-    least_site = λ n u _ grows before. outside.least_site n u (λ within. none n u within grows) grows before;
-  }
-  least_outside (Some f) (Some g) inside outside first = record {
-    among = tt;
-    grows = outside.grows;
-    least_type = outside.least_type;
-    least_site = λ n u _ grows before. outside.least_site n u (λ within. inside.least_site n u within grows (before_trans n g.0 f.0 before first)) grows before;
-  }
-
-  pub least_inside : (f g : Option (Site × TypeId)) → IsLeastOpenAmong sys tiles (InBox sys.area) f → IsLeastOpenOutside sys tiles g → ¬ Precedes g f → IsLeastOpen sys tiles f
-  least_inside None None inside outside not_first = λ m t _ grows. outside m t (λ within. inside m t within grows) grows
-  least_inside None (Some g) inside outside not_first = absurd (not_first tt)
-  least_inside (Some f) None inside none not_first = record {
-    among = tt;
-    grows = inside.grows;
-    least_type = inside.least_type;
-    least_site = λ n u _ grows before. none n u (λ within. inside.least_site n u within grows before) grows;
-  }
-  least_inside (Some f) (Some g) inside outside not_first = record {
-    among = tt;
-    grows = inside.grows;
-    least_type = inside.least_type;
-    least_site = λ n u _ grows before.
-        let not_before : ¬ IsBefore n g.0 = outside.least_site n u (λ within. inside.least_site n u within grows before) grows in
-        elim (before_or_not g.0 n) [
-          | inl less ↦ not_first (before_trans g.0 n f.0 less before)
-          | inr no_less ↦
-              let Before : Site → Type 0 = λ r. IsBefore r f.0 in
-              not_first (subst Before (same_or_before n g.0 not_before no_less) before)
-        ];
-  }
 
 -- one index more
 module _ (sys : TileSystem) (s : List Place) (n : ℕ) (p : Place) (there : slice_get s n ≡ Some p) where
@@ -275,25 +234,13 @@ pub no_rival_all : (sys : TileSystem) (s : List Place) → NoRivalBelow sys s (l
 no_rival_all sys s none n i p t later below there = none i p t later (slice_get_within s i p there) there
 
 -- open sites are looked at by what stands at each site
-module _ (sys : TileSystem) (a b : List Place) (same : SameTiles a b) where
-  grows_same : (m : Site) (t : TypeId) → CanGrow sys a m t → CanGrow sys b m t
-  grows_same m t grows =
-      let Held : ℕ → Type 0 = λ n. sys.tau ≤ n in
-      record {
-        kind = grows.kind;
-        attaches = record {
-          empty = sym (same m) ∙ grows.attaches.empty;
-          held = subst Held (pull-same sys a b m t (λ d. same (neighbor m d))) grows.attaches.held;
-        };
-      }
-
 pub least_open_same : (sys : TileSystem) (a b : List Place) → SameTiles a b → (found : Option (Site × TypeId)) → IsLeastOpen sys a found → IsLeastOpen sys b found
-least_open_same sys a b same None none = λ m t _ grows. none m t tt (grows_same sys b a (λ n. sym (same n)) m t grows)
+least_open_same sys a b same None none = λ m t _ grows. none m t tt (CanGrow-same sys b a m t (λ n. sym (same n)) grows)
 least_open_same sys a b same (Some found) least =
-    let back : (m : Site) (t : TypeId) → CanGrow sys b m t → CanGrow sys a m t = grows_same sys b a (λ n. sym (same n)) in
+    let back : (m : Site) (t : TypeId) → CanGrow sys b m t → CanGrow sys a m t = λ m t grows. CanGrow-same sys b a m t (λ n. sym (same n)) grows in
     record {
       among = tt;
-      grows = grows_same sys a b same found.0 found.1 least.grows;
+      grows = CanGrow-same sys a b found.0 found.1 same least.grows;
       least_site = λ n u _ grows. least.least_site n u tt (back n u grows);
       least_type = λ u grows. least.least_type u (back found.0 u grows);
     }

@@ -19,10 +19,13 @@ use Rattle.atam.proofs.Lists.{some_or_none}
 use Rattle.atam.proofs.Bonds.{neighbor-opposite, opposite-opposite, interaction-comm, bond_is, bond-none}
 use Rattle.atam.proofs.Placements.{Extends-take, empty_in_part, index_at-none, index_at-some}
 use Rattle.atam.proofs.Sequences.{IsLegal-empty, IsLegal-tile_at, IsLegal-listed, IsLegal-distinct}
+use Rattle.atam.proofs.Confluence.{is_input-seed, is_input-later}
+use Rattle.atam.proofs.SameVerdict.{is_output-some, is_output-none}
 use Rattle.local_check.specs.declared.side_set.SideSet.{SideSet}
 use Rattle.local_check.specs.SideSets.{has, has_at, bound_sides, difference, AreSidesOf, AreEarlierAt, AreOutputsAt, AreEarlierSides, AreOutputSides}
+use Rattle.assembly.proofs.Opening.{bond-beside}
 use Rattle.assembly.proofs.Tiles.{SameTiles}
-use Rattle.local_check.proofs.Sites.{bond-same, slice_get-some, distinct-take}
+use Rattle.local_check.proofs.Sites.{slice_get-some, distinct-take}
 
 pub has-bound : (sys : TileSystem) (tiles : List Place) (m : Site) (t : TypeId) (d : Side) → has (bound_sides sys tiles m t) d ≡ nat_lt 0 (bond sys tiles m t d)
 has-bound sys tiles m t North = refl
@@ -50,25 +53,6 @@ and_not false = refl
 and_true : (b : Bool) → (b && true) ≡ b
 and_true true = refl
 and_true false = refl
-
--- the input sides of a seed, and of a later place
-pub is_input-seed : (sys : TileSystem) (s : List Place) (i : ℕ) (d : Side) → i < length sys.seeds → is_input sys s i d ≡ false
-is_input-seed sys s i d below =
-    let not_later : nat_le (length sys.seeds) i ≡ false = grind (arith, nat_tests, below) in
-    rw not_later refl
-
-pub is_input-later : (sys : TileSystem) (s : List Place) (i : ℕ) (p : Place) (d : Side) → length sys.seeds ≤ i → slice_get s i ≡ Some p →
-    is_input sys s i d ≡ nat_lt 0 (bond sys (take i s) p.site p.tile d)
-is_input-later sys s i p d later there =
-    let is_later : nat_le (length sys.seeds) i ≡ true = grind (arith, nat_tests, later) in
-    rw (is_later, there) refl
-
-is_output-some : (sys : TileSystem) (s : List Place) (i : ℕ) (p : Place) (d : Side) (k : ℕ) → slice_get s i ≡ Some p → index_at s (neighbor p.site d) ≡ Some k →
-    is_output sys s i d ≡ is_input sys s k (opposite d)
-is_output-some sys s i p d k there beside = rw (there, beside) refl
-
-is_output-none : (sys : TileSystem) (s : List Place) (i : ℕ) (p : Place) (d : Side) → slice_get s i ≡ Some p → index_at s (neighbor p.site d) ≡ None → is_output sys s i d ≡ false
-is_output-none sys s i p d there beside = rw (there, beside) refl
 
 -- whether a bond is there with the seeds or with earlier places
 abbrev pub earlier_bond : TileSystem → List Place → ℕ → Place → Side → ℕ
@@ -174,7 +158,7 @@ module _ (sys : TileSystem) (s : List Place) (distinct : HasDistinctSites sys.se
 -- sides by the tiles of one assembly are those by the tiles of another with the same places
 pub bound_sides-same : (sys : TileSystem) (a b : List Place) (m : Site) (t : TypeId) → SameTiles a b → bound_sides sys a m t ≡ bound_sides sys b m t
 bound_sides-same sys a b m t same =
-    let at : (d : Side) → bond sys a m t d ≡ bond sys b m t d = λ d. bond-same sys a b m t d (same (neighbor m d)) in
+    let at : (d : Side) → bond sys a m t d ≡ bond sys b m t d = λ d. bond-beside sys a b m t d (same (neighbor m d)) in
     λ k. record { north = nat_lt 0 (at North k); east = nat_lt 0 (at East k); south = nat_lt 0 (at South k); west = nat_lt 0 (at West k) }
 
 -- an element of a list with one more element, by its index

@@ -1,4 +1,3 @@
 pub mod SideSets
 pub mod Judgement
 pub mod Laws
-pub mod OpenSites

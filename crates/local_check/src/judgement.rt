@@ -7,10 +7,10 @@ ghost use Rattle.atam.specs.Growth.{IsLegal};
 ghost use Rattle.local_check.specs.SideSets.{AreSidesOf};
 ghost use Rattle.local_check.specs.Judgement.{IsVerdict, IsFirstInexact, IsFirstRival, AllExactBelow, NoRivalBelow, IsFirstRivalHere};
 
-use crate::open_site::least_open;
 use crate::side_set::pull_on;
 use crate::{SideSets, Verdict};
 use assembly::Sequence;
+use attach_rule::least_open;
 use tile_system::{Site, System, TypeId};
 
 /// The verdict on a legal sequence with its sides: the first condition that fails, at the first

@@ -3,7 +3,6 @@
 
 mod judgement;
 mod laws;
-mod open_site;
 mod side_set;
 mod side_table;
 mod verdict;

@@ -1,5 +1,5 @@
 // The input and output sides of the places of a sequence.
-ghost use Rattle.std.specs.Prelude.{◌≡◌, ◌<◌, not, [], length, IfOk};
+ghost use Rattle.std.specs.Prelude.{◌≡◌, ◌<◌, not, length, IfOk};
 ghost use Rattle.atam.specs.declared.site.Side.{Side};
 ghost use Rattle.atam.specs.Placements.{SamePlacements};
 ghost use Rattle.atam.specs.TileSystem.{IsValid};
@@ -8,7 +8,7 @@ ghost use Rattle.atam.specs.Growth.{IsLegal};
 ghost use Rattle.local_check.specs.SideSets.{has, input_at, output_at, AreSidesOf, AreEarlierSides, AreOutputSides};
 
 use crate::side_set::{SideSet, bound_sides};
-use assembly::{Grid, Sequence};
+use assembly::{Grid, Sequence, put_seeds};
 use std::alloc::Global;
 use std::marker::Model;
 use tile_system::{NoMemory, Place, Placed, Side, Site, System, TypeId};
@@ -101,19 +101,6 @@ pub fn inputs(alloc: Global, sys: &System, seq: &Sequence) -> Result<SideSets, N
         earlier,
         outputs,
     })
-}
-
-// Puts the seeds into an empty grid.
-pub(crate) fn put_seeds(sys: &System, grid: &mut Grid)
-    requires valid { IsValid sys.now }
-    requires area { grid.old.area ≡ sys.now.area }
-    requires empty { grid.old.tiles ≡ [] }
-    ensures area { grid.new.area ≡ sys.now.area }
-    ensures placements { SamePlacements sys.now.seeds grid.new.tiles }
-{
-    for seed in sys.seeds() {
-        grid.put(*seed);
-    }
 }
 
 // The sides of each place that interact with the seeds, or with an earlier place. Puts the places

@@ -5,8 +5,7 @@ ghost use Rattle.atam.specs.Assembly.{Fits};
 ghost use Rattle.atam.specs.Growth.{IsLegal};
 
 use super::*;
-use crate::side_table::put_seeds;
-use assembly::{Grid, Sequence};
+use assembly::{Grid, Sequence, put_seeds};
 use attach_rule::can_attach;
 use std::alloc::Global;
 use std::test::Fail;

@@ -8,8 +8,7 @@ use Rattle.atam.specs.Sites.{InBox}
 use Rattle.atam.specs.Placements.{HasDistinctSites, IsPartOf, tile_at}
 use Rattle.atam.specs.TileSystem.{TileSystem}
 use Rattle.atam.specs.Assembly.{Fits}
-use Rattle.atam.specs.Canonical.{IsCanonical}
-use Rattle.replay_order.specs.Leavings.{IsLeft}
+use Rattle.atam.specs.Canonical.{IsCanonical, IsLeft}
 use Rattle.atam.proofs.Lists.{some_or_none}
 use Rattle.atam.proofs.Placements.{Contains-tile_at, tile_at-Contains, same_place}
 use Rattle.atam.proofs.Count.{count_in_part}

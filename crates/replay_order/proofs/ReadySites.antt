@@ -1,9 +1,8 @@
 -- The sites that are ready, as places are listed.
-use Rattle.std.proofs.Common.{◌≡◌, ◌≢◌, ◌⊎◌, ◌↔◌, ◌≤◌, ◌<◌, ◌+◌, ℕ, length, List, [], ◌∷◌, ◌++◌, get_or, Some, None, Contains, refl, sym, ◌∙◌, ap, subst, inl, inr, arith}
+use Rattle.std.proofs.Common.{◌≡◌, ◌≢◌, ◌⊎◌, ◌↔◌, ◌≤◌, ℕ, List, [], ◌∷◌, ◌++◌, Some, None, Contains, refl, sym, ◌∙◌, ap, subst, inl, inr, arith}
 use Rattle.std.proofs.Math.Nat.{le_trans}
 use Rattle.std.proofs.lemmas.Int.{ints}
-use Rattle.std.proofs.lemmas.Option.{none-some, slice_get-get_or}
-use Rattle.std.proofs.lemmas.List.Elements.{All-contains}
+use Rattle.std.proofs.lemmas.Option.{none-some}
 use Rattle.atam.specs.declared.site.Side.{Side}
 use Rattle.atam.specs.declared.site.Side.TheVariants.{North, East, South, West}
 use Rattle.atam.specs.declared.site.Site.{Site}
@@ -13,23 +12,16 @@ use Rattle.atam.specs.declared.area.BoxArea.{BoxArea}
 use Rattle.atam.specs.Sites.{InBox, IsBox, IsNearSite, neighbor, opposite}
 use Rattle.atam.specs.Placements.{IsPartOf, tile_at}
 use Rattle.atam.specs.TileSystem.{TileSystem, IsType}
-use Rattle.atam.specs.Assembly.{Fits, bond, pull}
+use Rattle.atam.specs.Assembly.{Fits}
 use Rattle.atam.proofs.Boxes.{same_site_tells}
-use Rattle.atam.proofs.Lists.{All-slice_get, Contains-push, Contains-slice_get, slice_get-Contains}
+use Rattle.atam.proofs.Lists.{All-slice_get, Contains-push, Contains-slice_get}
 use Rattle.atam.proofs.Bonds.{pull-mono, beside_a_tile, neighbor-opposite}
 use Rattle.atam.proofs.Placements.{tile_at-append, tile_at-Contains, tile_at-place}
+use Rattle.assembly.proofs.Opening.{pull-beside}
 use Rattle.assembly.proofs.Tiles.{tile_at-push_other, tile_at-push_here}
 use Rattle.replay_order.specs.Replays.{IsReadySite, AreReadySites, AreReadySitesBut, AddsIfReady, AddsReadyBeside}
 
--- a site of a box, and each site beside it, can be stepped from
-pub near_inside : (area : BoxArea) (m : Site) → IsBox area → InBox area m → IsNearSite m
-near_inside area m limits inside = record {
-  left = omega (arith, ints, limits.corners.left, inside.left);
-  right = omega (arith, ints, limits.corners.right, inside.right);
-  bottom = omega (arith, ints, limits.corners.bottom, inside.bottom);
-  top = omega (arith, ints, limits.corners.top, inside.top);
-}
-
+-- a site beside one of a box can be stepped from
 pub near_beside : (area : BoxArea) (m : Site) (d : Side) → IsBox area → InBox area m → IsNearSite (neighbor m d)
 near_beside area m North limits inside = record {
   left = omega (arith, ints, limits.corners.left, inside.left);
@@ -64,33 +56,11 @@ Fits-tile sys tiles m t fits found =
       subst (λ n. InBox sys.area n) q.3 (All-slice_get (λ p. InBox sys.area p.site) tiles q.0 q.1 fits.sites q.2),
     )
 
--- a part of an assembly that fits does too
-pub Fits-part : (sys : TileSystem) (s tiles : List Place) → IsPartOf s tiles → Fits sys tiles → Fits sys s
-Fits-part sys s tiles part fits =
-    let in_tiles : (k : ℕ) (d : Place) → k < length s → Contains tiles (get_or s k d) = λ k d within.
-    part (get_or s k d) (slice_get-Contains s k (get_or s k d) (slice_get-get_or s k d within))
-    in
-    record {
-      types = λ k d within. All-contains (λ p. IsType sys p.tile) tiles (get_or s k d) fits.types (in_tiles k d within);
-      sites = λ k d within. All-contains (λ p. InBox sys.area p.site) tiles (get_or s k d) fits.sites (in_tiles k d within);
-    }
-
 pub part_push : (s tiles : List Place) (p : Place) → IsPartOf s tiles → tile_at tiles p.site ≡ Some p.tile → IsPartOf (s ++ p ∷ []) tiles
 part_push s tiles p part placed q contains = elim (Contains-push s p q contains) [
   | inl old ↦ part q old
   | inr new ↦ subst (Contains tiles) new (tile_at-Contains tiles p.site p.tile placed)
 ]
-
--- a pull looks at the sites beside
-bond-same : (sys : TileSystem) (a b : List Place) (m : Site) (t : TypeId) (d : Side) → tile_at a (neighbor m d) ≡ tile_at b (neighbor m d) → bond sys a m t d ≡ bond sys b m t d
-unfolding bond
-bond-same sys a b m t d same = rw same refl
-
-pub pull-same : (sys : TileSystem) (a b : List Place) (m : Site) (t : TypeId) → ((d : Side) → tile_at a (neighbor m d) ≡ tile_at b (neighbor m d)) → pull sys a m t ≡ pull sys b m t
-unfolding pull
-pull-same sys a b m t same =
-    let at : (d : Side) → bond sys a m t d ≡ bond sys b m t d = λ d. bond-same sys a b m t d (same d) in
-    λ k. at North k + at East k + at South k + at West k
 
 -- a site is beside another, or it isn't
 beside_or_not : (here m : Site) → ((d : Side) × (m ≡ neighbor here d)) ⊎ ((d : Side) → here ≢ neighbor m d)
@@ -126,7 +96,7 @@ module _ (sys : TileSystem) (tiles s : List Place) (p : Place) (empty : tile_at 
 
   was_ready : (m : Site) → ((d : Side) → p.site ≢ neighbor m d) → IsReadySite sys tiles (s ++ p ∷ []) m → IsReadySite sys tiles s m
   was_ready m apart ready =
-      let same = pull-same sys (s ++ p ∷ []) s m ready.tile (λ d. tile_at-push_other s p (neighbor m d) (apart d)) in
+      let same = pull-beside sys (s ++ p ∷ []) s m ready.tile (λ d. tile_at-push_other s p (neighbor m d) (apart d)) in
       let Held : ℕ → Type 0 = λ n. sys.tau ≤ n in
       record {
         tile = ready.tile;

@@ -1,15 +1,12 @@
 -- A sequence whose places are put into a grid one by one.
-use Rattle.std.proofs.Common.{◌≡◌, ◌&&◌, ◌==◌, ◌<◌, ◌≤◌, ◌+◌, ℕ, true, List, [], ◌∷◌, ◌++◌, length, take, get_or, Option, Some, None, is_some, Contains, slice_get, refl, sym, ◌∙◌, ap, subst, inl, inr, arith, add-one, true≢false, false, Decides}
-use Rattle.std.proofs.lemmas.Option.{none-some, slice_get-get_or}
-use Rattle.std.proofs.lemmas.List.{length-take}
-use Rattle.std.proofs.Math.Nat.{min-le_left}
-use Rattle.std.proofs.lemmas.List.Elements.{Contains-append_left, Contains-append_right}
+use Rattle.std.proofs.Common.{◌≡◌, ◌&&◌, ◌==◌, ◌<◌, ◌≤◌, ◌+◌, ℕ, true, List, length, take, Option, Some, None, is_some, slice_get, refl, sym, ◌∙◌, ap, subst, inl, inr, arith, true≢false, false, Decides}
+use Rattle.std.proofs.lemmas.Option.{none-some}
 use Rattle.atam.specs.declared.site.Site.{Site}
 use Rattle.atam.specs.declared.site.Side.{Side}
 use Rattle.atam.specs.Sites.{neighbor, same_site}
 use Rattle.atam.specs.declared.place.TypeId.{TypeId}
 use Rattle.atam.specs.declared.place.Place.{Place}
-use Rattle.atam.specs.Placements.{HasDistinctSites, IsPartOf, SamePlacements, tile_at}
+use Rattle.atam.specs.Placements.{HasDistinctSites, SamePlacements, tile_at}
 use Rattle.atam.specs.TileSystem.{TileSystem, IsType}
 use Rattle.atam.specs.Assembly.{Attaches}
 use Rattle.atam.specs.Assembly as model
@@ -17,68 +14,23 @@ use Rattle.atam.specs.Growth.{IsLegal}
 use Rattle.std.specs.Ordering.{int_eq}
 use Rattle.std.proofs.lemmas.Bool.Decides.{Decides-like, Decides-and, Decides-eqb}
 use Rattle.atam.proofs.Boxes.{Decides-same_site}
-use Rattle.atam.proofs.Lists.{some_or_none, take_step, slice_get-take, slice_get-Contains, Contains-slice_get, Contains-push}
-use Rattle.atam.proofs.Placements.{tile_at-Contains, same_tiles, distinct-empty}
+use Rattle.atam.proofs.Lists.{some_or_none}
+use Rattle.atam.proofs.Placements.{same_tiles}
 use Rattle.atam.proofs.Sequences.{IsLegal-push, IsLegal-distinct}
 use Rattle.replay_order.specs.Legalities.{IsFirstTaken, IsFirstWeak}
-use Rattle.replay_order.proofs.Begun.{listed_site}
-use Rattle.replay_order.proofs.ReadySites.{pull-same}
-
--- one place more
-pub take_more : (s : List Place) (n : ℕ) (p : Place) → slice_get s n ≡ Some p → take (n + 1) s ≡ take n s ++ p ∷ []
-take_more s n p there = ap (λ k. take k s) (add-one n) ∙ take_step s n p there
-
-pub part_take : (s : List Place) (n : ℕ) → IsPartOf (take n s) s
-part_take s n q contains =
-    let at = Contains-slice_get (take n s) q contains in
-    let below : at.0 < n = omega (arith, at.1, length-take n s, min-le_left n (length s)) in
-    slice_get-Contains s at.0 q (sym (slice_get-take s at.0 n below) ∙ at.2)
-
-SamePlacements-trans : (a b c : List Place) → SamePlacements a b → SamePlacements b c → SamePlacements a c
-SamePlacements-trans a b c first second = record {
-  part = λ q contains. second.part q (first.part q contains);
-  whole = λ q contains. first.whole q (second.whole q contains);
-}
-
-part_more : (a b : List Place) (p : Place) → IsPartOf a b → IsPartOf (a ++ p ∷ []) (b ++ p ∷ [])
-part_more a b p part q contains = elim (Contains-push a p q contains) [
-  | inl old ↦ Contains-append_left b (p ∷ []) q (part q old)
-  | inr new ↦ subst (Contains (b ++ p ∷ [])) new (Contains-append_right b (p ∷ []) p (slice_get-Contains (p ∷ []) 0 p refl))
-]
-
--- a place more stands in both
-pub SamePlacements-more : (s : List Place) (n : ℕ) (p : Place) (old new : List Place) → slice_get s n ≡ Some p → SamePlacements (take n s) old →
-    SamePlacements (old ++ p ∷ []) new → SamePlacements (take (n + 1) s) new
-SamePlacements-more s n p old new there same put =
-    subst (λ l. SamePlacements l new) (sym (take_more s n p there)) (
-    SamePlacements-trans (take n s ++ p ∷ []) (old ++ p ∷ []) new
-    (record { part = part_more (take n s) old p same.part; whole = part_more old (take n s) p same.whole }) put
-    )
+use Rattle.assembly.proofs.Opening.{pull-beside}
+use Rattle.assembly.proofs.Putting.{take_more, same_empty}
 
 module _ (a b : List Place) (same : SamePlacements a b) (m : Site) where
-  -- an empty site is empty in both
-  pub same_empty : tile_at a m ≡ None → tile_at b m ≡ None
-  same_empty empty = elim (some_or_none (tile_at b m)) [
-    | inl none ↦ none
-    | inr some ↦
-        let q : Place = record { site = m; tile = some.0 } in
-        absurd (listed_site a q (same.whole q (tile_at-Contains b m some.0 some.1)) empty)
-  ]
-
+  -- one type or none stands at a site of both
   same_at : HasDistinctSites a → HasDistinctSites b → tile_at a m ≡ tile_at b m
   same_at distinct_a distinct_b = elim (some_or_none (tile_at a m)) [
-    | inl empty ↦ empty ∙ sym (same_empty empty)
+    | inl empty ↦ empty ∙ sym (same_empty a b same m empty)
     | inr some ↦ some.1 ∙ sym ((same_tiles a b distinct_a distinct_b same).0 m some.0 some.1)
   ]
 
 same_back : (a b : List Place) → SamePlacements a b → SamePlacements b a
 same_back a b same = record { part = same.whole; whole = same.part }
-
--- the seed that follows others has an empty site
-pub seed_empty : (seeds tiles : List Place) (k : ℕ) (e : Place) → HasDistinctSites seeds → k < length seeds → SamePlacements (take k seeds) tiles → tile_at tiles (get_or seeds k e).site ≡ None
-seed_empty seeds tiles k e distinct within same =
-    let p = get_or seeds k e in
-    same_empty (take k seeds) tiles same p.site (distinct-empty seeds k p distinct (slice_get-get_or seeds k e within))
 
 -- a place of the sequence, after legal ones that stand in the grid
 module _ (sys : TileSystem) (s tiles : List Place) (n : ℕ) (p : Place) (there : slice_get s n ≡ Some p) (legal : IsLegal sys (take n s)) (same : SamePlacements (take n s) tiles) where
@@ -93,7 +45,7 @@ module _ (sys : TileSystem) (s tiles : List Place) (n : ℕ) (p : Place) (there 
   module _ (seeds_distinct : HasDistinctSites sys.seeds) (distinct : HasDistinctSites tiles) where
     pull_there : model.pull sys tiles p.site p.tile ≡ model.pull sys (take n s) p.site p.tile
     pull_there =
-        pull-same sys tiles (take n s) p.site p.tile
+        pull-beside sys tiles (take n s) p.site p.tile
         (λ (d : Side). sym (same_at (take n s) tiles same (neighbor p.site d) (IsLegal-distinct sys (take n s) seeds_distinct legal) distinct))
 
     module _ (found : Option TypeId) (at : found ≡ tile_at tiles p.site) (none : is_some found ≡ false) (pull : ℕ) (is : pull ≡ model.pull sys tiles p.site p.tile) where

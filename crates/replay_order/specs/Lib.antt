@@ -1,4 +1,3 @@
-pub mod Leavings
 pub mod Replays
 pub mod ReplayAnswers
 pub mod Legalities

@@ -5,8 +5,7 @@ use Rattle.atam.specs.declared.place.Place.{Place}
 use Rattle.atam.specs.Placements.{SamePlacements, tile_at}
 use Rattle.atam.specs.TileSystem.{TileSystem}
 use Rattle.atam.specs.Growth.{IsProducible}
-use Rattle.atam.specs.Canonical.{IsCanonical}
-use Rattle.replay_order.specs.Leavings.{LeavesOver}
+use Rattle.atam.specs.Canonical.{IsCanonical, LeavesOver}
 use Rattle.replay_order.specs.declared.stop.ReplayStop.{ReplayStop}
 use Rattle.replay_order.specs.declared.stop.ReplayStop.TheVariants.{NoSeedThere, Stuck, NoMemory}
 

@@ -1,12 +1,11 @@
 // Whether a sequence is legal.
 ghost use Rattle.std.specs.Prelude.{◌≡◌, ◌<◌, ◌^◌, ◌↔◌, [], length, take, IsTrue};
 ghost use Rattle.atam.specs.Placements.{SamePlacements};
-ghost use Rattle.atam.specs.TileSystem.{IsValid};
 ghost use Rattle.atam.specs.Assembly.{Fits};
 ghost use Rattle.atam.specs.Growth.{IsLegal};
 ghost use Rattle.replay_order.specs.Legalities.{IsLegalityAnswer, legal_part};
 
-use assembly::{Grid, Sequence};
+use assembly::{Grid, Sequence, put_seeds};
 use attach_rule::pull;
 use tile_system::{Placed, System};
 
@@ -57,17 +56,4 @@ fn begins_with_seeds(sys: &System, seq: &Sequence) -> bool
     ensures { IsTrue result ↔ (take (length sys.now.seeds) seq.now ≡ sys.now.seeds) }
 {
     seq.as_slice().starts_with(sys.seeds())
-}
-
-// Puts the seeds into an empty grid.
-fn put_seeds(sys: &System, scratch: &mut Grid)
-    requires valid { IsValid sys.now }
-    requires area { scratch.old.area ≡ sys.now.area }
-    requires empty { scratch.old.tiles ≡ [] }
-    ensures area { scratch.new.area ≡ scratch.old.area }
-    ensures placements { SamePlacements sys.now.seeds scratch.new.tiles }
-{
-    for seed in sys.seeds() {
-        scratch.put(*seed);
-    }
 }

@@ -1,7 +1,13 @@
 use Rattle.std.proofs.Common.{arith, inl, inr}
 use Rattle.std.proofs.lemmas.Bool.{cases_lt}
-use Rattle.attach_rule.proofs.Held.{empty_from, grows_held, fails_unheld, none_more}
+use Rattle.attach_rule.proofs.Held.{empty_from, grows_held, fails_unheld, none_unfaced, none_more}
 use Rattle.attach_rule.proofs.attach.first_type.Goals as goal
+
+-- no glue faces the site
+pub returns-then-are_none : goal.returns-then-are_none
+returns-then-are_none g c =
+    none_unfaced c.args.sys.now (g.P.Placed.placements c.args.placed.now) c.args.site c.glues_facing-glues.result c.glues_facing-glues.ensures
+    (c.are_none.ensures.0 c.if-are_none.true) c.tau-tau.ensures.valid.some_tau
 
 pub loop-index-init : goal.loop-index-init
 loop-index-init g c = λ t below grows. let never : ⊥ = omega (arith, below) in never
@@ -13,7 +19,7 @@ loop-index-preserved g c =
     let n = c.loop-index.index in
     none_more sys tiles c.args.site n c.loop-index.invariant
     (fails_unheld sys tiles c.args.site c.glues_facing-glues.result c.glues_facing-glues.ensures (record { 0 = n }) c.hold.result c.hold.ensures.value
-    (omega (arith, c.tau.ensures.tau)))
+    (omega (arith, c.tau-tau.ensures.tau)))
 
 -- the first that is held
 pub returns-then-hold-tau : goal.returns-then-hold-tau
@@ -25,7 +31,7 @@ returns-then-hold-tau g c =
       grows = grows_held sys tiles c.args.site c.glues_facing-glues.result c.glues_facing-glues.ensures (record { 0 = n }) c.hold.result c.hold.ensures.value
           (omega (arith, c.type_count-index-end.ensures.count))
           (empty_from c.at.result _ c.is_some.result c.at.ensures.tile c.is_some.ensures c.if-is_some.false)
-          (omega (arith, c.tau.ensures.tau));
+          (omega (arith, c.tau-tau.ensures.tau));
       least = λ u grows. elim (cases_lt u.0 n) [ inl earlier ↦ absurd (c.loop-index.invariant u earlier grows) | inr rest ↦ rest ];
     }
 

@@ -1,7 +1,8 @@
 use Rattle.std.proofs.Common.{◌<◌, ◌∙◌, length, arith, sym, refl}
 use Rattle.atam.specs.Sites.{InBox}
 use Rattle.atam.proofs.Lists.{All-slice_get}
-use Rattle.local_check.proofs.Sites.{near_inside, Fits-part}
+use Rattle.atam.proofs.Boxes.{near_inside}
+use Rattle.assembly.proofs.Opening.{Fits-part}
 use Rattle.local_check.proofs.Judging.{pull_by_inputs, exact_more}
 use Rattle.local_check.proofs.judgement.first_inexact.Goals as goal
 

@@ -1,5 +1,5 @@
 use Rattle.std.proofs.Common.{Some, None, sym, suc, arith}
-use Rattle.local_check.proofs.Sites.{Fits-part}
+use Rattle.assembly.proofs.Opening.{Fits-part}
 use Rattle.local_check.proofs.Judging.{exact_all, no_rival_all, one_map, least_open_same}
 use Rattle.local_check.proofs.judgement.judge.Goals as goal
 

@@ -10,7 +10,8 @@ use Rattle.local_check.proofs.Judging.{rival_from, no_rival_same, no_rival_weak}
 use Rattle.local_check.proofs.judgement.rival.Goals.{else-number-place-via-then-number-place+else-pull_on-tau, else-number-place-via-else-number-place}
 use Rattle.atam.specs.Sites.{InBox}
 use Rattle.atam.proofs.Lists.{All-slice_get}
-use Rattle.local_check.proofs.Sites.{near_inside, Fits-part}
+use Rattle.atam.proofs.Boxes.{near_inside}
+use Rattle.assembly.proofs.Opening.{Fits-part}
 use Rattle.local_check.proofs.judgement.rival.Goals as goal
 
 pub pull_on-requires-clause-near : goal.pull_on-requires-clause-near

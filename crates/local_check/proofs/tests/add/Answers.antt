@@ -7,7 +7,8 @@ use Rattle.atam.specs.Assembly.{Attaches, Fits}
 use Rattle.atam.specs.Growth.{IsLegal}
 use Rattle.atam.proofs.Sequences.{IsLegal-distinct, IsLegal-push, Fits-push}
 use Rattle.assembly.proofs.Tiles.{SamePlacements-push, SamePlacements-trans}
-use Rattle.local_check.proofs.Sites.{Fits-part, SameTiles-from, pull-same}
+use Rattle.assembly.proofs.Opening.{Fits-part, pull-beside}
+use Rattle.local_check.proofs.Sites.{SameTiles-from}
 use Rattle.local_check.proofs.tests.add.Goals as goal
 
 pub can_attach-requires-clause-fits : goal.can_attach-requires-clause-fits
@@ -24,7 +25,7 @@ returns-in_ok-push-clause-legal c =
     let Held : ℕ → Type 0 = λ n. sys.tau ≤ n in
     let attaches : Attaches sys order p.site p.tile = record {
       empty = same p.site ∙ there.empty;
-      held = subst Held (pull-same sys tiles order p.site p.tile (λ d. sym (same (neighbor p.site d)))) there.held;
+      held = subst Held (pull-beside sys tiles order p.site p.tile (λ d. sym (same (neighbor p.site d)))) there.held;
     }
     in
     let kind : IsType sys p.tile = omega (arith, c.if-place-type_count.false, c.type_count.ensures.count) in

@@ -1,5 +1,5 @@
-use Rattle.local_check.proofs.Judging.{least_inside, least_outside}
-use Rattle.local_check.proofs.open_site.least_open.Goals as goal
+use Rattle.attach_rule.proofs.LeastOfBoth.{least_inside, least_outside}
+use Rattle.attach_rule.proofs.plane.least_open.Goals as goal
 
 pub returns-then-precedes : goal.returns-then-precedes
 returns-then-precedes g c =

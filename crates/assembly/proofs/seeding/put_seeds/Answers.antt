@@ -1,7 +1,7 @@
 use Rattle.std.proofs.Common.{◌∙◌}
 use Rattle.std.proofs.lemmas.Option.{slice_get-get_or}
-use Rattle.local_check.proofs.Sites.{seed_empty, SamePlacements-more}
-use Rattle.local_check.proofs.side_table.put_seeds.Goals as goal
+use Rattle.assembly.proofs.Putting.{seed_empty, SamePlacements-more}
+use Rattle.assembly.proofs.seeding.put_seeds.Goals as goal
 
 pub put-requires-clause-empty : goal.put-requires-clause-empty
 put-requires-clause-empty c =

@@ -2,13 +2,14 @@
 ghost use Rattle.std.specs.Prelude.{◌↔◌, IsTrue};
 ghost use Rattle.atam.specs.Assembly.{Fits};
 ghost use Rattle.atam.specs.Growth.{IsLeastOpen};
-ghost use Rattle.local_check.specs.OpenSites.{Precedes};
+ghost use Rattle.attach_rule.specs.OpenSites.{Precedes};
 
-use attach_rule::{least_open_inside, least_open_outside};
+use crate::{least_open_inside, least_open_outside};
 use tile_system::{Placed, Site, System, TypeId};
 
-// The least site of the plane where a type attaches, with the first such type.
-pub(crate) fn least_open<P: Placed>(sys: &System, placed: &P) -> Option<(Site, TypeId)>
+/// The least site of the plane where a type attaches, with the first such type. Its time grows with
+/// the number of sites of the box, and with that of types at the sites beside tiles.
+pub fn least_open<P: Placed>(sys: &System, placed: &P) -> Option<(Site, TypeId)>
     requires { Fits sys.now (P.placements placed.now) }
     ensures { IsLeastOpen sys.now (P.placements placed.now) result }
 {
