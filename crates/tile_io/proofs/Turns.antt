@@ -1,5 +1,5 @@
 -- One turn of a reader of lines.
-use Rattle.std.proofs.Common.{◌≡◌, ℕ, ◌+◌, ◌-◌, ◌≤◌, Bool, true, false, List, [], ◌∷◌, ◌++◌, length, take, drop, length-drop, Ok, Err, inl, inr, refl, sym, ap, subst, ◌∙◌, arith}
+use Rattle.std.proofs.Common.{◌≡◌, ℕ, ◌+◌, ◌-◌, ◌≤◌, Bool, true, false, List, [], ◌∷◌, ◌++◌, length, take, drop, length-drop, Ok, Err, inl, inr, Result, refl, sym, ap, subst, ◌∙◌, arith}
 use Rattle.std.proofs.lemmas.Bool.{cases_lt}
 use Rattle.std.proofs.Math.Seq.{take-length}
 use Rattle.std.proofs.lemmas.List.{drop_all}
@@ -8,6 +8,7 @@ use Rattle.tile_io.specs.declared.fault.Cause.{Cause}
 use Rattle.tile_io.specs.declared.fault.Cause.TheVariants.{NoEnd}
 use Rattle.tile_io.specs.declared.mark.Mark.{Mark}
 use Rattle.tile_io.specs.declared.reading.Line.{Line}
+use Rattle.tile_io.specs.declared.take_lines.LineStop.{LineStop}
 use Rattle.tile_io.specs.Lines.{lines_of, lines_from, text_of, mark_after, words_of, AreSkipped}
 use Rattle.tile_io.specs.NextLine.{IsNextLine, line_bytes}
 use Rattle.tile_io.specs.Formats.{Format, Reads, Fault, missing_cause}
@@ -51,6 +52,18 @@ module _ {Item : Type 0} (format : Format Item) where
       to ≡ mark_after (lines_from text at) at (length (lines_from text at)) → cause ≡ missing_cause items → Fault format text from to.line cause
   turn_missing text from at to items cause b h skipped is incomplete place missing =
       progress_missing format text from at items to.line cause h skipped (sym incomplete ∙ is) (ap (λ m. m.line) place) missing
+
+-- what is taken or complete in a context is so in the same one
+module _ {Item Context : Type 0} (format : Context → Format Item) {now start : Context} (same : now ≡ start) where
+  pub takes_in_context : (old new : List Item) (words : List (List ℕ)) {found result : Result Bool LineStop} → found ≡ result →
+      TakesLine (format now) old new words found → TakesLine (format start) old new words result
+  takes_in_context old new words {found} {result} is h =
+      let At : Result Bool LineStop → Type 0 = λ r. TakesLine (format start) old new words r in
+      let In : Context → Type 0 = λ x. TakesLine (format x) old new words found in
+      subst At is (subst In same h)
+
+  pub completes_in_context : {items : List Item} {b : Bool} → b ≡ (format now).is_complete items → b ≡ (format start).is_complete items
+  completes_in_context {items} {b} h = h ∙ ap (λ x. (format x).is_complete items) same
 
 no_lines : (text : List ℕ) → lines_of text ≡ [] → length text ≡ 0
 no_lines [] e = refl

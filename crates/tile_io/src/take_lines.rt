@@ -27,22 +27,29 @@ impl From<Cause> for LineStop {
     }
 }
 
-/// What takes the kept lines of a text of some format.
+/// What takes the kept lines of a text of some format. The format may depend on a context, as on the system that a
+/// growth text follows; a line never changes the context.
 pub trait TakeLines {
     ghost Item: { Type 0 };
 
-    ghost format: { Format Item };
+    ghost Context: { Type 0 };
+
+    ghost context: { Self → Context };
+
+    ghost format: { Context → Format Item };
 
     ghost items: { Self → List Item };
 
     /// Takes a line, and tells whether it is the text's own end line.
     fn take_line(&mut self, line: &[u8]) -> Result<bool, LineStop>
         requires { length line.now ≤ 256 }
-        ensures { TakesLine format (items self.old) (items self.new) (words_of line.now) result };
+        ensures taken { TakesLine (format (context self.old)) (items self.old) (items self.new)
+            (words_of line.now) result }
+        ensures context { context self.new ≡ context self.old };
 
     /// Whether the input may end here.
     fn is_complete(&self) -> bool
-        ensures { result ≡ format.is_complete (items self.now) };
+        ensures { result ≡ (format (context self.now)).is_complete (items self.now) };
 }
 
 /// Reads the lines of a text, up to its own end line or the end of the input.
@@ -50,7 +57,9 @@ pub fn read_lines<D: TakeLines>(draft: &mut D, text: &[u8], from: Mark) -> Resul
     requires empty { D.items draft.old ≡ [] }
     requires short { length text.now ≤ 67108864 }
     requires mark { IsMark text.now from }
-    ensures { ReadsOrStops D.format text.now from (D.items draft.new) result }
+    ensures read { ReadsOrStops (D.format (D.context draft.old)) text.now from
+        (D.items draft.new) result }
+    ensures context { D.context draft.new ≡ D.context draft.old }
 {
     let mut mark = from;
     let mut missing = Cause::NoHeader;

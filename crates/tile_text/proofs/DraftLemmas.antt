@@ -1,5 +1,5 @@
 -- What is read of a draft: its last item and its glues; and the fields of a line.
-use Rattle.std.proofs.Common.{◌≡◌, ℕ, ◌+◌, ◌-◌, ◌≤◌, Bool, true, false, List, [], ◌∷◌, ◌++◌, length, map, slice_get, Some, Result, Ok, Err, refl, sym, ap, subst, ◌∙◌, arith, append-nil, append_assoc, length-append}
+use Rattle.std.proofs.Common.{◌≡◌, ℕ, ◌+◌, ◌≤◌, Bool, true, false, List, [], ◌∷◌, ◌++◌, length, map, slice_get, Some, Result, Ok, Err, refl, sym, ap, subst, ◌∙◌, arith, append-nil, append_assoc, length-append}
 use Rattle.std.specs.Prelude.{filter_map, bytes_eq, ◌||◌, nat_lt, ◌<◌}
 use Rattle.std.proofs.lemmas.Bool.{ltb-true}
 use Rattle.std.proofs.lemmas.List.{length-map}
@@ -9,6 +9,7 @@ use Rattle.std.proofs.lemmas.List.{map_push}
 use Rattle.std.proofs.lemmas.List.Elements.{filter_map-append}
 use Rattle.std.proofs.lemmas.Option.{none-some, same_Some}
 use Rattle.tile_io.specs.declared.fault.Cause.{Cause}
+use Rattle.tile_io.proofs.Checking.{last_push}
 use Rattle.tile_io.specs.Checks.{◌>>=◌, last_of}
 use Rattle.atam.specs.TileSystem.{Glue, TileType}
 use Rattle.tile_text.specs.declared.stage.Stage.{Stage}
@@ -22,15 +23,6 @@ use Rattle.tile_text.specs.declared.kind.LineKind.{LineKind}
 use Rattle.tile_text.specs.declared.kind.LineKind.TheVariants as kinds
 use Rattle.tile_text.specs.Kinds.{row_of, stage_takes, stage_of}
 use Rattle.tile_text.proofs.KindLemmas.{follows_is}
-
-get_last : {X : Type 0} (xs : List X) (y : X) → slice_get (xs ++ y ∷ []) (length xs) ≡ Some y
-get_last [] y = refl
-get_last (x ∷ xs) y = get_last xs y
-
-pub last_push : (items : List SystemItem) (item : SystemItem) → last_of (items ++ item ∷ []) ≡ Some item
-last_push items item =
-    let at : length (items ++ item ∷ []) - 1 ≡ length items = (let size : length (items ++ item ∷ []) ≡ length items + 1 = length-append items (item ∷ []) in omega (arith, size)) in
-    ap (λ n. slice_get (items ++ item ∷ []) n) at ∙ get_last items item
 
 -- the last of some items that are made of the elements of a list
 pub last_map : {X : Type 0} (f : X → SystemItem) (front : List SystemItem) (xs : List X) → 1 ≤ length xs → (x : X) × (last_of (front ++ map f xs) ≡ Some (f x))

@@ -7,7 +7,7 @@ use Rattle.std.proofs.lemmas.List.{length-map}
 use Rattle.std.proofs.lemmas.Option.{same_Some}
 use Rattle.tile_io.specs.declared.fault.Cause.{Cause}
 use Rattle.tile_io.specs.declared.fault.Cause.TheVariants.{OutOfRange, SeedOutside}
-use Rattle.tile_io.specs.Checks.{◌>>=◌, require, referred, last_of}
+use Rattle.tile_io.specs.Checks.{◌>>=◌, require, referred, last_of, coordinate}
 use Rattle.atam.specs.declared.area.BoxArea.{BoxArea}
 use Rattle.atam.specs.declared.place.Place.{Place}
 use Rattle.atam.specs.declared.site.Site.{Site}
@@ -15,7 +15,7 @@ use Rattle.atam.specs.TileSystem.{Glue, TileType}
 use Rattle.tile_text.specs.declared.stage.Stage.{Stage}
 use Rattle.tile_text.specs.declared.stage.Stage.TheVariants as stages
 use Rattle.tile_text.specs.declared.kind.LineKind.TheVariants as kinds
-use Rattle.tile_text.specs.SystemText.{SystemItem, glue_of, type_of, area_of, glue_names, type_names, coordinate, is_box, is_in_box, is_in_boxes, box_fields, seed_fields, follows_header, follows_tile, follows_box, follows_seed}
+use Rattle.tile_text.specs.SystemText.{SystemItem, glue_of, type_of, area_of, glue_names, type_names, is_box, is_in_box, is_in_boxes, box_fields, seed_fields, follows_header, follows_tile, follows_box, follows_seed}
 use Rattle.atam.specs.TileSystem.{is_name}
 use Rattle.tile_text.specs.SystemText.SystemItem.{Header, TauLine, GlueLine, TileLine, BoxLine, SeedLine, EndLine}
 use Rattle.tile_text.specs.Kinds.{stage_takes}

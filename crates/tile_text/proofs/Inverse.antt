@@ -6,24 +6,17 @@ use Rattle.std.proofs.lemmas.Bool.{leb-true}
 use Rattle.std.proofs.lemmas.List.Quantifiers.{position-Some}
 use Rattle.tile_io.specs.declared.fault.Cause.{Cause}
 use Rattle.tile_io.specs.declared.fault.Cause.TheVariants.{BadName, DoubleName, UnknownName, OutOfRange, BadNumber, SeedOutside}
-use Rattle.tile_io.specs.Checks.{◌>>=◌, require, number_in, in_range, number_value, are_digits, without_minus, declared, referred}
+use Rattle.tile_io.proofs.Checking.{bind_ok, require_ok}
+use Rattle.tile_io.specs.Checks.{◌>>=◌, require, number_in, in_range, number_value, are_digits, without_minus, declared, referred, coordinate}
 use Rattle.atam.specs.declared.place.GlueId.{GlueId}
 use Rattle.atam.specs.TileSystem.{Glue, TileType, IsName}
-use Rattle.tile_text.specs.SystemText.{SystemItem, count_in, coordinate, glue_names, type_names, glue_fields, tile_fields, tau_fields, side, side_unless, is_box, is_in_boxes, area_of}
+use Rattle.tile_text.specs.SystemText.{SystemItem, count_in, glue_names, type_names, glue_fields, tile_fields, tau_fields, side, side_unless, is_box, is_in_boxes, area_of}
 use Rattle.atam.specs.TileSystem.{is_name}
 use Rattle.tile_text.specs.Drafts.{corners_in, seed_in}
 use Rattle.atam.specs.declared.area.BoxArea.{BoxArea}
 use Rattle.atam.specs.declared.place.Place.{Place}
 use Rattle.atam.specs.declared.site.Site.{Site}
 use Rattle.tile_text.specs.SystemText.SystemItem.{TauLine, GlueLine, TileLine}
-
-pub bind_ok : {X Y : Type 0} (m : Result X Cause) (f : X → Result Y Cause) (y : Y) → (m >>= f) ≡ Ok y → (x : X) × (m ≡ Ok x) × (f x ≡ Ok y)
-bind_ok (Ok x) f y e = (x, refl, e)
-bind_ok (Err cause) f y e = absurd (cc e)
-
-pub require_ok : (b : Bool) (cause : Cause) (u : Unit {0}) → require b cause ≡ Ok u → b ≡ true
-require_ok true cause u e = refl
-require_ok false cause u e = absurd (cc e)
 
 pub and_both : (a b : Bool) → (a && b) ≡ true → (a ≡ true) × (b ≡ true)
 and_both true b e = (refl, e)

@@ -3,30 +3,18 @@ use Rattle.std.proofs.Common.{◌≡◌, ℕ, Bool, true, false, List, [], ◌�
 use Rattle.std.specs.Prelude.{bytes_eq, find, option_map, ◌&&◌}
 use Rattle.std.specs.Cmp.Lexicographic.{pointwise}
 use Rattle.std.proofs.Math.Bool.{and-true}
-use Rattle.std.proofs.lemmas.Option.{none-some, same_Some}
-use Rattle.tile_io.specs.declared.fault.Cause.TheVariants.{NoHeader, BadLine, OutOfOrder, TooMany}
-use Rattle.tile_io.specs.Checks.{Keyword, check_keyword, check_line, keyword_of, last_of}
+use Rattle.std.proofs.lemmas.Option.{same_Some}
+use Rattle.tile_io.specs.declared.fault.Cause.TheVariants.{NoHeader, BadLine}
+use Rattle.tile_io.specs.Checks.{check_keyword, check_line}
 use Rattle.tile_text.specs.declared.kind.LineKind.{LineKind}
 use Rattle.tile_io.specs.declared.take_lines.LineStop.{LineStop}
 use Rattle.tile_io.specs.declared.take_lines.LineStop.TheVariants as stops
 use Rattle.tile_text.specs.SystemText.{SystemItem, system_check, system_keywords, system_format}
 use Rattle.tile_text.specs.SystemText.SystemItem.{Header}
 use Rattle.tile_io.specs.TakeLines.{TakesLine}
+use Rattle.tile_io.proofs.Checking.{by_first}
 use Rattle.tile_text.specs.Kinds.{row_of}
 use Rattle.tile_text.specs.Drafts.{is_nothing, TakesItem}
-
-module _ (row : Keyword SystemItem) (earlier : List SystemItem) (words : List (List ℕ)) where
-  pub words_bad : row.has_words (length words) ≡ false → check_keyword (Some row) earlier words ≡ Err BadLine
-  words_bad e = rw e refl
-
-  pub order_bad : row.has_words (length words) ≡ true → row.may_follow (last_of earlier) ≡ false → check_keyword (Some row) earlier words ≡ Err OutOfOrder
-  order_bad e f = rw (e, f) refl
-
-  pub room_bad : row.has_words (length words) ≡ true → row.may_follow (last_of earlier) ≡ true → row.has_room earlier words ≡ false → check_keyword (Some row) earlier words ≡ Err TooMany
-  room_bad e f g = rw (e, f, g) refl
-
-  pub fields_then : row.has_words (length words) ≡ true → row.may_follow (last_of earlier) ≡ true → row.has_room earlier words ≡ true → check_keyword (Some row) earlier words ≡ row.fields earlier words
-  fields_then e f g = rw (e, f, g) refl
 
 -- the header, of two words
 pub header_words : (words : List (List ℕ)) (first second : List ℕ) → length words ≡ 2 → slice_get words 0 ≡ Some first → slice_get words 1 ≡ Some second →
@@ -65,13 +53,9 @@ unfolding system_check
 check_later [] words some = absurd (cc some)
 check_later (first ∷ others) words some = refl
 
-by_first : (words : List (List ℕ)) (word : List ℕ) → slice_get words 0 ≡ Some word → keyword_of system_keywords words ≡ find (λ row. bytes_eq word row.word) system_keywords
-by_first [] word at = absurd (none-some word at)
-by_first (a ∷ rest) word at = ap (λ w. find (λ row. bytes_eq w row.word) system_keywords) (same_Some a word at)
-
 pub check_kind : (earlier : List SystemItem) (words : List (List ℕ)) (word : List ℕ) (kind : Option LineKind) → is_nothing earlier ≡ false → slice_get words 0 ≡ Some word →
     option_map row_of kind ≡ find (λ row. bytes_eq word row.word) system_keywords → system_check earlier words ≡ check_keyword (option_map row_of kind) earlier words
-check_kind earlier words word kind some at is = check_later earlier words some ∙ ap (λ row. check_keyword row earlier words) (by_first words word at ∙ sym is)
+check_kind earlier words word kind some at is = check_later earlier words some ∙ ap (λ row. check_keyword row earlier words) (by_first system_keywords words word at ∙ sym is)
 
 pub check_empty : (earlier : List SystemItem) (words : List (List ℕ)) → is_nothing earlier ≡ false → length words ≡ 0 → system_check earlier words ≡ Err BadLine
 check_empty earlier [] some none = check_later earlier [] some

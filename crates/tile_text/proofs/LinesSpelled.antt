@@ -3,7 +3,7 @@ use Rattle.std.proofs.Common.{◌≡◌, ℕ, ◌^◌, ◌≤◌, ◌<◌, true,
 use Rattle.std.specs.List.{list_any}
 use Rattle.std.specs.Prelude.{bytes_eq}
 use Rattle.std.proofs.lemmas.Bool.{lt-ltb}
-use Rattle.tile_io.specs.Checks.{last_of}
+use Rattle.tile_io.specs.Checks.{last_of, coordinate}
 use Rattle.tile_io.proofs.NumberSpelled.{number_in-decimal, number_in-signed}
 use Rattle.std.specs.Prelude.{ℤ, pos, negsuc, int_le, nat_abs}
 use Rattle.std.specs.Fmt.{signed_decimal}
@@ -12,7 +12,7 @@ use Rattle.atam.specs.TileSystem.{Glue}
 use Rattle.std.specs.Prelude.{filter_map, position, Some, None}
 use Rattle.atam.specs.TileSystem.{TileType}
 use Rattle.atam.specs.declared.place.Place.{Place}
-use Rattle.tile_text.specs.SystemText.{SystemItem, system_check, system_keywords, tau_fields, glue_fields, tile_fields, box_fields, seed_fields, glue_names, type_names, area_of, count_in, side, coordinate, is_box, is_in_boxes, follows_header, follows_tau_or_glue, follows_tau_glue_or_tile, follows_tile, follows_box, follows_seed}
+use Rattle.tile_text.specs.SystemText.{SystemItem, system_check, system_keywords, tau_fields, glue_fields, tile_fields, box_fields, seed_fields, glue_names, type_names, area_of, count_in, side, is_box, is_in_boxes, follows_header, follows_tau_or_glue, follows_tau_glue_or_tile, follows_tile, follows_box, follows_seed}
 use Rattle.atam.specs.TileSystem.{is_name}
 use Rattle.tile_text.specs.Spelling.{glue_words, box_words}
 use Rattle.tile_text.specs.SystemText.SystemItem.{TauLine, GlueLine, TileLine, BoxLine, SeedLine, EndLine}

@@ -1,7 +1,7 @@
 -- The kept lines of a text that reads so far are those of sound parts.
 use Rattle.std.proofs.Common.{◌≡◌, ℕ, Bool, true, false, List, [], ◌∷◌, ◌++◌, length, codes, Option, Some, None, Ok, refl, sym, ap, subst, ◌∙◌, arith}
 use Rattle.std.specs.Prelude.{bytes_eq, find, cond, ◌==◌}
-use Rattle.tile_io.specs.declared.fault.Cause.TheVariants.{BadLine, OutOfOrder, OutOfRange, TooMany}
+use Rattle.tile_io.specs.declared.fault.Cause.TheVariants.{OutOfRange}
 use Rattle.tile_io.specs.Checks.{◌>>=◌, require, Keyword, check_keyword, keyword_of, last_of}
 use Rattle.atam.specs.declared.area.BoxArea.{BoxArea}
 use Rattle.atam.specs.declared.place.Place.{Place}
@@ -14,7 +14,7 @@ use Rattle.tile_text.specs.Kinds.{row_of}
 use Rattle.tile_text.specs.Drafts.{Parts, items_of, Lacks}
 use Rattle.tile_text.proofs.Sound.{Fits}
 use Rattle.tile_text.proofs.Sound.{IsSound}
-use Rattle.tile_text.proofs.Inverse.{bind_ok, require_ok}
+use Rattle.tile_io.proofs.Checking.{bind_ok, require_ok, row_ok}
 use Rattle.std.proofs.lemmas.Bool.{eqb-true}
 use Rattle.tile_io.specs.Checks.{declared}
 use Rattle.tile_text.specs.SystemText.{count_in, side, tau_fields, glue_fields, tile_fields, box_fields, seed_fields, is_box}
@@ -25,15 +25,6 @@ use Rattle.tile_text.proofs.TileLemmas.{with_type, tile_push, tile_fits}
 use Rattle.tile_text.proofs.FieldLemmas.{with_tau, with_box, with_seed, with_end, tau_push, box_push, seed_push, end_push, boxed, box_is, seed_is}
 use Rattle.tile_text.proofs.Inverse.{built, GoodBox, GoodSeed, tau_ok, glue_ok, tile_ok, box_ok, seed_ok}
 use Rattle.tile_text.proofs.Soundness.{tau_sound, glue_sound, type_sound, box_sound, seed_sound, end_sound}
-
--- a keyword's line that passed: it may stand there, and its fields pass
-pub row_ok : (row : Keyword SystemItem) (earlier : List SystemItem) (words : List (List ℕ)) (item : SystemItem) → check_keyword (Some row) earlier words ≡ Ok item →
-    (row.has_words (length words) ≡ true) × (row.may_follow (last_of earlier) ≡ true) × (row.has_room earlier words ≡ true) × (row.fields earlier words ≡ Ok item)
-row_ok row earlier words item e =
-    let one = bind_ok (require (row.has_words (length words)) BadLine) (λ _. require (row.may_follow (last_of earlier)) OutOfOrder >>= (λ _. require (row.has_room earlier words) TooMany >>= (λ _. row.fields earlier words))) item e in
-    let two = bind_ok (require (row.may_follow (last_of earlier)) OutOfOrder) (λ _. require (row.has_room earlier words) TooMany >>= (λ _. row.fields earlier words)) item one.2 in
-    let three = bind_ok (require (row.has_room earlier words) TooMany) (λ _. row.fields earlier words) item two.2 in
-    (require_ok (row.has_words (length words)) BadLine one.0 one.1, require_ok (row.may_follow (last_of earlier)) OutOfOrder two.0 two.1, require_ok (row.has_room earlier words) TooMany three.0 three.1, three.2)
 
 found_row : (a b d e f g h : Bool) (row : Keyword SystemItem) →
     cond a (Some (row_of kinds.Tiles)) (cond b (Some (row_of kinds.Tau)) (cond d (Some (row_of kinds.Glue)) (cond e (Some (row_of kinds.Tile)) (cond f (Some (row_of kinds.Box)) (cond g (Some (row_of kinds.Seed)) (cond h (Some (row_of kinds.End)) None)))))) ≡ Some row →

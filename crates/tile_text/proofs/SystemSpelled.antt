@@ -17,7 +17,7 @@ use Rattle.std.proofs.lemmas.Slice.Eq.{bytes_eq-Decides}
 use Rattle.tile_io.specs.declared.mark.Mark.{Mark}
 use Rattle.tile_io.specs.Lines.{line_of}
 use Rattle.tile_io.specs.Formats.{Reads}
-use Rattle.tile_io.specs.Checks.{last_of}
+use Rattle.tile_io.specs.Checks.{last_of, coordinate}
 use Rattle.tile_io.proofs.Spelled.{IsWord, IsSpelled, ChecksAs, reads_spelled}
 use Rattle.tile_io.proofs.WordsSpelled.{word_from, IsWord-decimal, IsWord-signed, length-decimal, length-signed}
 use Rattle.atam.specs.declared.area.BoxArea.{BoxArea}
@@ -27,11 +27,12 @@ use Rattle.atam.specs.declared.site.Side.{Side}
 use Rattle.atam.specs.declared.site.Side.TheVariants.{North, East, South, West}
 use Rattle.atam.specs.Sites.{InBox, IsBox}
 use Rattle.atam.specs.TileSystem.{TileSystem, Glue, TileType, IsName, IsValid, IsType, side_of, glue_name, type_name, is_name, is_name_byte}
-use Rattle.tile_text.specs.SystemText.{SystemItem, ReadsSystem, system_format, system_items, system_check, glue_names, type_names, type_of, area_of, side, coordinate, is_in_boxes, follows_tau_or_glue, follows_tau_glue_or_tile, follows_tile, follows_box, follows_seed}
+use Rattle.tile_text.specs.SystemText.{SystemItem, ReadsSystem, system_format, system_items, system_check, glue_names, type_names, type_of, area_of, side, is_in_boxes, follows_tau_or_glue, follows_tau_glue_or_tile, follows_tile, follows_box, follows_seed}
 use Rattle.tile_text.specs.SystemText.SystemItem.{Header, TauLine, GlueLine, TileLine, BoxLine, SeedLine, EndLine}
 use Rattle.tile_text.specs.Spelling.{glue_words, side_word, tile_words, box_words, seed_words, printed_words, spelling, end_of_print}
 use Rattle.tile_text.specs.Drafts.{head_items}
-use Rattle.tile_text.proofs.DraftLemmas.{last_push, last_map, glues_first, glues_then, types_then}
+use Rattle.tile_io.proofs.Checking.{last_push}
+use Rattle.tile_text.proofs.DraftLemmas.{last_map, glues_first, glues_then, types_then}
 use Rattle.tile_text.proofs.TileLemmas.{position_map}
 use Rattle.tile_text.proofs.FieldLemmas.{no_areas, holds_one}
 use Rattle.tile_text.proofs.Inverse.{and_both}
@@ -73,7 +74,7 @@ module _ {X : Type 0} (name : X → List ℕ) where
       position_map name (bytes_eq wanted) xs ∙ rw (first, lt-ltb i (length xs) l) refl
 
 -- where an element stands, all holds of it
-at_seam : {X : Type 0} (P : X → Type 0) (done : List X) (x : X) (todo : List X) → All P (done ++ x ∷ todo) → P x
+pub at_seam : {X : Type 0} (P : X → Type 0) (done : List X) (x : X) (todo : List X) → All P (done ++ x ∷ todo) → P x
 at_seam P done x todo h =
     let size : length (done ++ x ∷ todo) ≡ length done + length (x ∷ todo) = length-append done (x ∷ todo) in
     subst P (get_or-append_seam done x todo x) (h (length done) x (omega (arith, size)))
@@ -188,10 +189,10 @@ small_abs (pos n) low high = let most : n ≤ 1000000 = leb-true n 1000000 high 
 small_abs (negsuc n) low high = let most : n ≤ 999999 = leb-true n 999999 low in omega (arith, most)
 
 -- a number that may stand in a text
-record IsPlain (z : ℤ) : Type 0 where
-  reads : coordinate (signed_decimal z) ≡ Ok z
-  word : IsWord (signed_decimal z)
-  short : length (signed_decimal z) ≤ 11
+pub record IsPlain (z : ℤ) : Type 0 where
+  pub reads : coordinate (signed_decimal z) ≡ Ok z
+  pub word : IsWord (signed_decimal z)
+  pub short : length (signed_decimal z) ≤ 11
 
 plain : (z : ℤ) → negsuc 999999 ≤ℤ z → z ≤ℤ pos 1000000 → IsPlain z
 plain z low high =
@@ -219,11 +220,11 @@ plain_box area box =
       y1 = plain area.y1 (z_trans (negsuc 999999) area.y0 area.y1 c.bottom c.rows) c.top;
     }
 
-record PlainSeed (seed : Place) : Type 0 where
-  x : IsPlain seed.site.x
-  y : IsPlain seed.site.y
+pub record PlainSeed (seed : Place) : Type 0 where
+  pub x : IsPlain seed.site.x
+  pub y : IsPlain seed.site.y
 
-plain_seed : (area : BoxArea) (seed : Place) → IsBox area → InBox area seed.site → PlainSeed seed
+pub plain_seed : (area : BoxArea) (seed : Place) → IsBox area → InBox area seed.site → PlainSeed seed
 plain_seed area seed box inside =
     let c = box.corners in
     record {
@@ -231,7 +232,7 @@ plain_seed area seed box inside =
       y = plain seed.site.y (z_trans (negsuc 999999) area.y0 seed.site.y c.bottom inside.bottom) (z_trans seed.site.y area.y1 (pos 1000000) inside.top c.top);
     }
 
-name_word : (name : List ℕ) → is_name name ≡ true → IsWord name
+pub name_word : (name : List ℕ) → is_name name ≡ true → IsWord name
 unfolding is_name
 name_word name good =
     let outer = and_both (nat_le 1 (length name) && nat_le (length name) 40) (list_all is_name_byte name) good in
@@ -239,7 +240,7 @@ name_word name good =
     let some : 1 ≤ length name = leb-true 1 (length name) inner.0 in
     word_from is_name_byte name refl refl (omega (arith, some)) outer.1
 
-name_short : (name : List ℕ) → is_name name ≡ true → length name ≤ 40
+pub name_short : (name : List ℕ) → is_name name ≡ true → length name ≤ 40
 unfolding is_name
 name_short name good =
     let outer = and_both (nat_le 1 (length name) && nat_le (length name) 40) (list_all is_name_byte name) good in
@@ -249,7 +250,7 @@ name_short name good =
 dash_word : IsWord (codes "-")
 dash_word = word_from (λ b. b == 45) (codes "-") refl refl (omega arith) refl
 
-keyword_word : (word : List ℕ) → 0 < length word → list_all is_name_byte word ≡ true → IsWord word
+pub keyword_word : (word : List ℕ) → 0 < length word → list_all is_name_byte word ≡ true → IsWord word
 keyword_word word some all = word_from is_name_byte word refl refl some all
 
 -- the words of a spelling are short
@@ -339,11 +340,11 @@ spelled_end : IsSpelled (codes "end" ∷ [])
 spelled_end = record { parts = All-from_recursion IsWord (codes "end" ∷ []) (keyword_word (codes "end") (omega arith) refl, tt); short = omega arith; kept = refl }
 
 -- the name of the seed's type, and its place
-record NamedSeed (sys : TileSystem) (seed : Place) : Type 0 where
-  named : IsName (type_name sys seed.tile)
-  placed : position (bytes_eq (type_name sys seed.tile)) (map (λ t. t.name) sys.types) ≡ Some seed.tile.0
+pub record NamedSeed (sys : TileSystem) (seed : Place) : Type 0 where
+  pub named : IsName (type_name sys seed.tile)
+  pub placed : position (bytes_eq (type_name sys seed.tile)) (map (λ t. t.name) sys.types) ≡ Some seed.tile.0
 
-named_seed : (sys : TileSystem) (seed : Place) → All (λ t. IsName t.name) sys.types → AllPairs (λ t u. t.name ≢ u.name) sys.types → IsType sys seed.tile → NamedSeed sys seed
+pub named_seed : (sys : TileSystem) (seed : Place) → All (λ t. IsName t.name) sys.types → AllPairs (λ t u. t.name ≢ u.name) sys.types → IsType sys seed.tile → NamedSeed sys seed
 named_seed sys seed named distinct below =
     let d : TileType = record { name = []; north = None; east = None; south = None; west = None } in
     let found : slice_get sys.types seed.tile.0 ≡ Some (get_or sys.types seed.tile.0 d) = slice_get-get_or sys.types seed.tile.0 d below in

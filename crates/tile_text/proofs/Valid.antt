@@ -1,15 +1,12 @@
 -- A text that reads is that of a valid system.
-use Rattle.std.proofs.Common.{◌≡◌, ℕ, zero, suc, ◌≤◌, ◌<◌, List, [], ◌∷◌, ◌++◌, length, take, slice_get, get_or, codes, pos, Some, Ok, inl, inr, refl, sym, ap, subst, ◌∙◌, arith}
+use Rattle.std.proofs.Common.{◌≡◌, ℕ, List, [], ◌∷◌, ◌++◌, codes, pos, Some, Ok, refl, sym, ap, subst, ◌∙◌, arith}
 use Rattle.std.specs.Prelude.{bytes_eq}
 use Rattle.std.specs.Cmp.Lexicographic.{pointwise}
-use Rattle.std.proofs.lemmas.Option.{slice_get-get_or}
-use Rattle.std.proofs.Math.Seq.{take-length, take-suc}
 use Rattle.tile_io.specs.declared.fault.Cause.TheVariants.{NoHeader}
 use Rattle.tile_io.specs.declared.mark.Mark.{Mark}
-use Rattle.tile_io.specs.Lines.{TextLine, lines_from, words_of, kept_lines}
-use Rattle.tile_io.specs.Formats.{Reads, Passes}
+use Rattle.tile_io.specs.Formats.{Reads}
 use Rattle.tile_io.specs.Checks.{require, last_of}
-use Rattle.tile_io.proofs.Passing.{line_item-kept}
+use Rattle.tile_io.proofs.ReadItems.{reads_hold}
 use Rattle.atam.specs.declared.area.BoxArea.{BoxArea}
 use Rattle.atam.specs.declared.place.Place.{Place}
 use Rattle.atam.specs.TileSystem.{TileSystem, IsValid}
@@ -18,7 +15,7 @@ use Rattle.tile_text.specs.SystemText.{SystemItem, system_check, system_format, 
 use Rattle.tile_text.specs.SystemText.SystemItem.{Header, EndLine}
 use Rattle.tile_text.specs.Drafts.{Parts, items_of, Lacks}
 use Rattle.tile_text.proofs.FieldLemmas.{with_header}
-use Rattle.tile_text.proofs.Inverse.{bind_ok}
+use Rattle.tile_io.proofs.Checking.{bind_ok}
 use Rattle.tile_text.proofs.Soundness.{header_sound, none_sound, none_lacks, system_by, end_stage, end_valid, end_items}
 use Rattle.tile_text.proofs.Endings.{reads_end}
 use Rattle.tile_text.proofs.SoFar.{IsSoFar, IsPassed, line_ok, passed_so_far}
@@ -55,30 +52,9 @@ step (first ∷ others) words item h e =
     let More : List SystemItem → Type 0 = λ l. IsSoFar (l ++ item ∷ []) in
     subst More (sym h.items_are) (passed_so_far h.parts words item h.lacks h.fits h.sound line.0 (subst Passed h.items_are line.1))
 
-module _ (kept : List (List (List ℕ))) (items : List SystemItem) (count : length items ≡ length kept)
-    (each : (i : ℕ) (words : List (List ℕ)) (item : SystemItem) → slice_get kept i ≡ Some words → slice_get items i ≡ Some item → system_check (take i items) words ≡ Ok item) where
-  so_far : (n : ℕ) → n ≤ length items → IsSoFar (take n items)
-  so_far zero l = nothing_so_far
-  so_far (suc n) l =
-      let here : n < length items = omega (arith, l) in
-      let there : n < length kept = omega (arith, count, here) in
-      let low : n ≤ length items = omega (arith, l) in
-      let item = get_or items n EndLine in
-      let words = get_or kept n [] in
-      let checked = each n words item (slice_get-get_or kept n [] there) (slice_get-get_or items n EndLine here) in
-      subst IsSoFar (sym (take-suc items n EndLine here)) (step (take n items) words item (so_far n low) checked)
-
-passed_items : (lines : List TextLine) (items : List SystemItem) → Passes system_format lines items → IsSoFar items
-unfolding system_format
-passed_items lines items h = subst IsSoFar (take-length items) (so_far (kept_lines lines) items h.count h.each (length items) (omega arith))
-
 read_so_far : (text : List ℕ) (from to : Mark) (items : List SystemItem) → Reads system_format text from items to → IsSoFar items
 unfolding system_format
-read_so_far text from to items (inl h) =
-    let earlier = passed_items (take h.count (lines_from text from)) h.earlier h.passed in
-    let kept = line_item-kept system_format h.earlier h.line h.last h.item in
-    subst IsSoFar (sym h.whole) (step h.earlier (words_of h.line.bytes) h.last earlier kept.2)
-read_so_far text from to items (inr h) = passed_items (lines_from text from) items h.passed
+read_so_far text from to items h = reads_hold system_format IsSoFar nothing_so_far step text from to items h
 
 pub reads_valid : (text : List ℕ) (from to : Mark) (items : List SystemItem) → Reads system_format text from items to → (sys : TileSystem) × (items ≡ system_items sys) × (sys.pairs ≡ []) × IsValid sys
 reads_valid text from to items h =

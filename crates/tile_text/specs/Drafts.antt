@@ -12,12 +12,12 @@ use Rattle.atam.specs.TileSystem.{Glue, TileType}
 use Rattle.tile_text.specs.declared.stage.Stage.{Stage}
 use Rattle.tile_text.specs.declared.stage.Stage.TheVariants as stages
 use Rattle.tile_text.specs.declared.fields.Sides.{Sides}
-use Rattle.tile_io.specs.Checks.{◌>>=◌, require, referred}
+use Rattle.tile_io.specs.Checks.{◌>>=◌, require, referred, coordinate}
 use Rattle.tile_io.specs.declared.fault.Cause.TheVariants.{SeedOutside}
 use Rattle.atam.specs.declared.site.Site.{Site}
 use Rattle.tile_io.specs.declared.take_lines.LineStop.{LineStop}
 use Rattle.tile_io.specs.declared.take_lines.LineStop.TheVariants as stops
-use Rattle.tile_text.specs.SystemText.{SystemItem, side, is_end_line, coordinate, type_names, is_in_boxes, area_of}
+use Rattle.tile_text.specs.SystemText.{SystemItem, side, is_end_line, type_names, is_in_boxes, area_of}
 use Rattle.atam.specs.TileSystem.{is_name}
 use Rattle.tile_text.specs.SystemText.SystemItem.{Header, TauLine, GlueLine, TileLine, BoxLine, SeedLine, EndLine}
 

@@ -1,12 +1,12 @@
 -- The text of a system: what each kept line is, which checks it has to pass, and the items of a system.
-use Rattle.std.specs.Prelude.{◌≡◌, ℕ, ◌==◌, Bool, true, false, ◌&&◌, nat_lt, List, [], ◌∷◌, ◌++◌, length, map, filter_map, codes, bytes_eq, Option, Some, None, Result, Ok, Err, ℤ, pos, negsuc, ◌+ℤ◌, int_le, nat_abs}
+use Rattle.std.specs.Prelude.{◌≡◌, ℕ, ◌==◌, Bool, true, false, ◌&&◌, nat_lt, List, [], ◌∷◌, ◌++◌, length, map, filter_map, codes, bytes_eq, Option, Some, None, Result, Ok, Err, pos, ◌+ℤ◌, int_le, nat_abs}
 use Rattle.std.specs.List.{list_all}
 use Rattle.std.specs.Cmp.Lexicographic.{pointwise}
 use Rattle.tile_io.specs.declared.fault.Cause.{Cause}
 use Rattle.tile_io.specs.declared.fault.Cause.TheVariants.{NoHeader, BadLine, OutOfRange, SeedOutside}
 use Rattle.tile_io.specs.declared.mark.Mark.{Mark}
 use Rattle.tile_io.specs.Formats.{Format, Reads}
-use Rattle.tile_io.specs.Checks.{◌>>=◌, require, number_in, declared, referred, Keyword, check_line}
+use Rattle.tile_io.specs.Checks.{◌>>=◌, require, number_in, coordinate, declared, referred, Keyword, check_line}
 use Rattle.atam.specs.declared.site.Site.{Site}
 use Rattle.atam.specs.declared.place.GlueId.{GlueId}
 use Rattle.atam.specs.declared.place.Place.{Place}
@@ -45,9 +45,6 @@ glue_names earlier = map (λ g. g.name) (filter_map glue_of earlier)
 
 unfoldable pub type_names : List SystemItem → List (List ℕ)
 type_names earlier = map (λ t. t.name) (filter_map type_of earlier)
-
-abbrev pub coordinate : List ℕ → Result ℤ Cause
-coordinate word = number_in (negsuc 999999) (pos 1000000) word
 
 -- a number field that isn't negative
 abbrev pub count_in : ℕ → ℕ → List ℕ → Result ℕ Cause

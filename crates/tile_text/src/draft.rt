@@ -10,15 +10,13 @@ ghost use Rattle.tile_text.specs.Kinds.{row_of, words_in};
 ghost use Rattle.tile_system.specs.Refusals.{refusal_of};
 ghost use Rattle.tile_text.specs.Drafts.{TakesItem, Gives, tile_with, sides_in, seed_in, is_nothing, only_memory};
 
-use crate::fields::{Sides, is_header, read_coordinate, read_corners, read_strength, read_tau};
+use crate::fields::{Sides, is_header, read_corners, read_strength, read_tau};
 use crate::kind::{LineKind, kind_of};
-use crate::line::{word_at, word_count};
 use crate::stage::Stage;
-use crate::word::is_word;
 use atam::{GlueId, Place, Site, TypeId};
 use std::alloc::Global;
 use std::marker::Model;
-use tile_io::{Cause, LineStop, TakeLines};
+use tile_io::{Cause, LineStop, TakeLines, is_word, read_coordinate, word_at, word_count};
 use tile_system::{BuildStop, System, SystemBuilder, is_name};
 
 /// What was read so far: the kind of the last kept line, and from the `tau` line on a system
@@ -47,7 +45,11 @@ impl TakeLines for Draft {
 
     ghost Item = { SystemItem };
 
-    ghost format = { system_format };
+    ghost Context = { Unit {0} };
+
+    ghost context = { λ _. tt };
+
+    ghost format = { λ _. system_format };
 
     ghost items = { λ d. d };
 

@@ -2,14 +2,12 @@
 ghost use Rattle.std.specs.Prelude.{◌≡◌, ◌≤◌, codes, ℕ, List, [], ◌∷◌, Some, length, slice_get, bytes_eq, ◌&&◌};
 ghost use Rattle.std.specs.Cmp.Lexicographic.{pointwise};
 ghost use Rattle.tile_io.specs.Lines.{words_of};
-ghost use Rattle.tile_text.specs.SystemText.{SystemItem, count_in, tau_fields, coordinate};
+ghost use Rattle.tile_text.specs.SystemText.{SystemItem, count_in, tau_fields};
 ghost use Rattle.tile_text.specs.SystemText.SystemItem.{TauLine};
 ghost use Rattle.tile_text.specs.Drafts.{Gives, corners_in};
 
-use crate::line::{word_at, word_count};
-use crate::word::is_word;
 use atam::{BoxArea, GlueId};
-use tile_io::{Cause, read_number};
+use tile_io::{Cause, is_word, read_coordinate, read_number, word_at, word_count};
 
 /// The glues of a tile's sides.
 #[derive(Clone, Copy, Debug, PartialEq, Eq)]
@@ -36,16 +34,6 @@ pub(crate) fn read_tau(line: &[u8]) -> Result<u32, Cause>
     ensures { (earlier : List SystemItem) → Gives TauLine result (tau_fields earlier (words_of line.now)) }
 {
     read_count(word_at(line, 1), 1, 1000)
-}
-
-// A coordinate.
-pub(crate) fn read_coordinate(word: &[u8]) -> Result<i32, Cause>
-    ensures { result ≡ coordinate word.now }
-{
-    match read_number(word, -1000000, 1000000) {
-        Ok(number) => Ok(number as i32),
-        Err(cause) => Err(cause),
-    }
 }
 
 // The corners of a `box` line.

@@ -4,7 +4,7 @@ ghost use Rattle.tile_text.specs.SystemText.{system_keywords};
 ghost use Rattle.tile_text.specs.Kinds.{row_of, words_in, stage_takes};
 
 use crate::stage::Stage;
-use crate::word::is_word;
+use tile_io::is_word;
 
 /// A keyword.
 #[derive(Clone, Copy, Debug, PartialEq, Eq)]
