@@ -1,0 +1,24 @@
+// Laws over all lists of placements, at whatever sites, each as the contract of a function that does nothing.
+ghost use Rattle.unique_law.specs.Laws.{HasNoOtherPlaces, GrowsIntoDeterministic, HasOneFullGrowth, HasOutcomeByPlacements, HasOneOutcome, IsYesThroughout, GrowsIntoOutcome, HasVerdictByPlacements, IsYesWhereSomeOrderIs};
+
+/// Each legal sequence has places of a locally deterministic one alone, and grows into it.
+pub fn law_confluence()
+    ensures part { HasNoOtherPlaces }
+    ensures grows { GrowsIntoDeterministic }
+{}
+
+/// A producible assembly that is closed in the box is the only one where some sequence in the box
+/// is locally deterministic, and all that is told of it is the same each time.
+pub fn law_one_outcome()
+    ensures placements { HasOneFullGrowth }
+    ensures outcome { HasOutcomeByPlacements }
+    ensures yes { HasOneOutcome }
+    ensures throughout { IsYesThroughout }
+    ensures grows { GrowsIntoOutcome }
+{}
+
+/// Whether the sequence is locally deterministic does not depend on the order of its places.
+pub fn law_verdict()
+    ensures placements { HasVerdictByPlacements }
+    ensures yes { IsYesWhereSomeOrderIs }
+{}
