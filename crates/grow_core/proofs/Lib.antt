@@ -8,3 +8,8 @@ pub mod Start
 pub mod Stepped
 pub mod Answered
 pub mod Unique
+pub mod Entries
+pub mod Assembled
+pub mod Dividing
+pub mod Tables
+pub mod Acting

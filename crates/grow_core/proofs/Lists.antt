@@ -1,5 +1,5 @@
 -- What lists of any kind contain.
-use Rattle.std.proofs.Common.{◌≡◌, suc, Bool, true, false, cond, List, [], ◌∷◌, ◌++◌, filter, get_or, Contains, AllPairs, refl, ◌∙◌, ap, subst, inl, inr, arith}
+use Rattle.std.proofs.Common.{◌≡◌, suc, Bool, true, false, cond, List, [], ◌∷◌, ◌++◌, filter, map, get_or, Contains, AllPairs, refl, ◌∙◌, ap, subst, inl, inr, arith}
 use Rattle.std.proofs.lemmas.List.Elements.{All-filter, All-contains, All-contains_itself, All-append, Contains-get_or, filter_passes, Contains-append_cases, Contains-push_cases}
 use Rattle.std.proofs.lemmas.List.Kept.{AllPairs-cons}
 
@@ -46,3 +46,25 @@ all_pairs_append R (x ∷ xs) ys one other cross =
     (λ k d within. cross x (get_or ys k d) (Contains-here x xs) (Contains-get_or ys k d within)))
     (all_pairs_append R xs ys (λ i j d before within. one (suc i) (suc j) d (omega (arith, before)) (omega (arith, within))) other
     (λ y z c e. cross y z (Contains-there x y xs c) e))
+
+-- the image of what a list contains
+Contains-map : {X Y : Type 0} (f : X → Y) (xs : List X) (x : X) → Contains xs x → Contains (map f xs) (f x)
+Contains-map f [] x c = absurd (Contains-nil x c)
+Contains-map f (y ∷ xs) x c = elim (Contains-append_cases (y ∷ []) xs x c) [
+  | inl head ↦ elim (Contains-push_cases [] y x head) [
+    | inl never ↦ absurd (Contains-nil x never)
+    | inr same ↦ subst (λ z. Contains (f y ∷ map f xs) (f z)) same (Contains-here (f y) (map f xs))
+  ]
+  | inr later ↦ Contains-there (f y) (f x) (map f xs) (Contains-map f xs x later)
+]
+
+-- what a part has the whole has, also after a map
+pub map-part : {X Y : Type 0} (f : X → Y) (xs ys : List X) → ((x : X) → Contains xs x → Contains ys x) → (y : Y) → Contains (map f xs) y → Contains (map f ys) y
+map-part f [] ys part y c = absurd (Contains-nil y c)
+map-part f (x ∷ xs) ys part y c = elim (Contains-append_cases (f x ∷ []) (map f xs) y c) [
+  | inl head ↦ elim (Contains-push_cases [] (f x) y head) [
+    | inl never ↦ absurd (Contains-nil y never)
+    | inr same ↦ subst (λ z. Contains (map f ys) z) same (Contains-map f ys x (part x (Contains-here x xs)))
+  ]
+  | inr later ↦ map-part f xs ys (λ z d. part z (Contains-there x z xs d)) y later
+]

@@ -6,7 +6,7 @@ use Rattle.std.proofs.lemmas.Nat.{or_lt}
 use Rattle.std.proofs.lemmas.List.Elements.{Contains-append_left, Contains-append_cases, filter-append}
 use Rattle.atam.specs.TileSystem.{TileSystem}
 use Rattle.grow_core.specs.declared.tile.Tile.{Tile}
-use Rattle.grow_core.specs.Core.{Scout, scout_at, Owns, least, greatest, OwnsTwoOrMore, placed_by, Knows, IsConsistent}
+use Rattle.grow_core.specs.Core.{Scout, scout_at, Owns, least, greatest, OwnsTwoOrMore, placed_by, HasDistinctTiles, Knows, IsConsistent}
 use Rattle.grow_core.specs.Steps.{IsScoutOf, kept_tiles}
 use Rattle.grow_core.proofs.Lists.{Contains-append_right, filter-from, filter-passed, all_pairs_append}
 use Rattle.std.proofs.lemmas.List.Kept.{AllPairs-filter}
@@ -85,6 +85,13 @@ module _ (sys : TileSystem) (log : List Tile) (scouts : List (Option Scout)) (a 
   small : bit_or v.owned w.owned < 2 ^ 64
   small = or_lt 64 v.owned w.owned knows_v.numbers knows_w.numbers
 
+  -- their own tiles have distinct sites together
+  pub both_distinct : HasDistinctTiles (v.mine ++ w.mine)
+  both_distinct = all_pairs_append (λ (t u : Tile). t.place.site ≢ u.place.site) v.mine w.mine knows_v.mine_distinct knows_w.mine_distinct
+      (λ t u in_v in_w one. let same = same_tile log t u sound.ground.distinct (mine_tile sys log v knows_v t in_v) (mine_tile sys log w knows_w u in_w) one in
+      sound.apart a b v w at_a at_b differ t.placer (knows_v.mine_owned t in_v)
+      (subst (λ (z : Tile). Owns w.owned z.placer) (sym same) (knows_w.mine_owned u in_w)))
+
   -- a number of one has placed nothing that is the other's
   none_of : (n : ℕ) (owned : ℕ) (mine : List Tile) → ((t : Tile) → Contains mine t → Owns owned t.placer) → ¬ Owns owned n → placed_by n mine ≡ []
   none_of n owned mine mine_owned not_own = by_none n mine (λ t c e. not_own (subst (Owns owned) e (mine_owned t c)))
@@ -118,10 +125,7 @@ module _ (sys : TileSystem) (log : List Tile) (scouts : List (Option Scout)) (a 
           | inl one ↦ either-owns v.owned w.owned t.placer (inl (knows_v.mine_owned t one))
           | inr other ↦ either-owns v.owned w.owned t.placer (inr (knows_w.mine_owned t other))
         ];
-        mine_distinct = all_pairs_append (λ (t u : Tile). t.place.site ≢ u.place.site) v.mine w.mine knows_v.mine_distinct knows_w.mine_distinct
-            (λ t u in_v in_w one. let same = same_tile log t u sound.ground.distinct (mine_tile sys log v knows_v t in_v) (mine_tile sys log w knows_w u in_w) one in
-            sound.apart a b v w at_a at_b differ t.placer (knows_v.mine_owned t in_v)
-            (subst (λ (z : Tile). Owns w.owned z.placer) (sym same) (knows_w.mine_owned u in_w)));
+        mine_distinct = both_distinct;
         history = λ n own. elim (both-owned v.owned w.owned n own) [
           | inl one ↦ knows_v.history n one ∙ (sym (append-nil (placed_by n v.mine))
               ∙ (ap (λ l. placed_by n v.mine ++ l) (sym (none_of n w.owned w.mine knows_w.mine_owned (sound.apart a b v w at_a at_b differ n one)))

@@ -23,6 +23,7 @@ use Rattle.atam.proofs.Sequences.{IsLegal-seeds_distinct}
 use Rattle.atam.proofs.Closure.{closure}
 use Rattle.grow_core.specs.declared.tile.Tile.{Tile}
 use Rattle.grow_core.specs.declared.event.Event.{Event}
+use Rattle.grow_core.specs.declared.event.Event.TheVariants.{Look, Claim, Split, Join}
 use Rattle.grow_core.specs.declared.event.Seen.{Seen}
 use Rattle.grow_core.specs.declared.event.CoreStop.{CoreStop}
 use Rattle.grow_core.specs.Core.{Scout, CoreState, scout_at, least, greatest, places, IsGrounded, Knows, IsSound}
@@ -41,7 +42,7 @@ no_bond : (sys : TileSystem) (tiles : List Place) (m : Site) (t : TypeId) (d : S
 unfolding bond
 no_bond sys tiles m t d past = ap (λ (o : Option GlueId). interaction sys o (glue_at sys tiles (neighbor m d) (opposite d))) (past_types sys t past d)
 
-no_pull : (sys : TileSystem) (tiles : List Place) (m : Site) (t : TypeId) → length sys.types ≤ t.0 → pull sys tiles m t ≡ 0
+pub no_pull : (sys : TileSystem) (tiles : List Place) (m : Site) (t : TypeId) → length sys.types ≤ t.0 → pull sys tiles m t ≡ 0
 unfolding pull
 no_pull sys tiles m t past =
     let n = no_bond sys tiles m t North past in
@@ -55,49 +56,68 @@ pub supported_type : (sys : TileSystem) (tiles : List Place) (m : Site) (t : Typ
 supported_type sys tiles m t some_tau supported = dite (dec_lt t.0 (length sys.types)) (λ l. l)
     (λ f. let none = no_pull sys tiles m t (omega (arith, f)) in absurd (omega (arith, none, some_tau, supported)))
 
-pub step-sound : (sys : TileSystem) (s t : CoreState) (event : Event) (reply : Result Seen CoreStop) → IsValid sys → CoreStep sys s event reply t → IsSound sys s → IsSound sys t
-step-sound sys s t event reply valid (no_such_scout e nobody) sound = sound
-step-sound sys s t event reply valid (no_other_scout into from nobody) sound = sound
-step-sound sys s t event reply valid (same_scout into from same) sound = sound
-step-sound sys s t event reply valid (looks_outside who site v here outside) sound = sound
-step-sound sys s t event reply valid (claims_outside who site tile v here outside) sound = sound
-step-sound sys s t event reply valid (unsupported who site tile v here inside weak) sound = sound
-step-sound sys s t event reply valid (one_number who v here one) sound = sound
-step-sound sys s t event reply valid (no_memory who v here two) sound = sound
-step-sound sys s t event reply valid (saw_none who site v here inside empty) sound = sound
-step-sound sys s t event reply valid (saw_tile who site there v w here inside found is) sound = record {
-  consistent = seen-sound sys s.tiles s.scouts who v w (place site there) sound.consistent here (tile_at-Contains (places s.tiles) site there found) is;
-  named = named_set s.scouts who w sound.named (ap least is.owned ∙ sound.named.own_name who v here);
+-- A look, a split and a join keep the invariant.
+pub look-sound : (sys : TileSystem) (s t : CoreState) (who : ℕ) (site : Site) (reply : Result Seen CoreStop) → CoreStep sys s (Look who site) reply t → IsSound sys s → IsSound sys t
+look-sound sys s t who site reply (no_such_scout e nobody) sound = sound
+look-sound sys s t who site reply (looks_outside who1 site1 v here outside) sound = sound
+look-sound sys s t who site reply (saw_none who1 site1 v here inside empty) sound = sound
+look-sound sys s t who site reply (saw_tile who1 site1 there v w here inside found is) sound = record {
+  consistent = seen-sound sys s.tiles s.scouts who1 v w (place site1 there) sound.consistent here (tile_at-Contains (places s.tiles) site1 there found) is;
+  named = named_set s.scouts who1 w sound.named (ap least is.owned ∙ sound.named.own_name who1 v here);
 }
-step-sound sys s t event reply valid (won who site tile v w here inside supported empty is) sound = record {
-  consistent = won-sound sys s.tiles s.scouts who v w (place site tile) sound.consistent here
-      (supported_type sys v.seen site tile valid.some_tau supported) inside supported empty is;
-  named = named_set s.scouts who w sound.named (ap least is.owned ∙ sound.named.own_name who v here);
-}
-step-sound sys s t event reply valid (held who site tile there v w here inside supported found is) sound = record {
-  consistent = seen-sound sys s.tiles s.scouts who v w (place site there) sound.consistent here (tile_at-Contains (places s.tiles) site there found) is;
-  named = named_set s.scouts who w sound.named (ap least is.owned ∙ sound.named.own_name who v here);
-}
-step-sound sys s t event reply valid (divided who v w x here two rest new) sound =
-    let knows = sound.consistent.knows who v here in
+
+pub split-sound : (sys : TileSystem) (s t : CoreState) (who : ℕ) (reply : Result Seen CoreStop) → CoreStep sys s (Split who) reply t → IsSound sys s → IsSound sys t
+split-sound sys s t who reply (no_such_scout e nobody) sound = sound
+split-sound sys s t who reply (one_number who1 v here one) sound = sound
+split-sound sys s t who reply (no_memory who1 v here two) sound = sound
+split-sound sys s t who reply (divided who1 v w x here two rest new) sound =
+    let knows = sound.consistent.knows who1 v here in
     record {
-      consistent = divided-sound sys s.tiles s.scouts who v w x sound.consistent here two rest new;
-      named = named_set (set s.scouts who (Some w)) (greatest v.owned) x
-          (named_set s.scouts who w sound.named
-          (ap least rest.owned ∙ (least-of_rest v.owned knows.some_number knows.numbers two ∙ sound.named.own_name who v here)))
+      consistent = divided-sound sys s.tiles s.scouts who1 v w x sound.consistent here two rest new;
+      named = named_set (set s.scouts who1 (Some w)) (greatest v.owned) x
+          (named_set s.scouts who1 w sound.named
+          (ap least rest.owned ∙ (least-of_rest v.owned knows.some_number knows.numbers two ∙ sound.named.own_name who1 v here)))
           (ap least new.owned ∙ least-of_greatest v.owned knows.some_number knows.numbers);
     }
-step-sound sys s t event reply valid (joined into from v w x at_into at_from differ is) sound =
-    let knows_v = sound.consistent.knows into v at_into in
-    let knows_w = sound.consistent.knows from w at_from in
+
+pub join-sound : (sys : TileSystem) (s t : CoreState) (into from : ℕ) (reply : Result Seen CoreStop) → CoreStep sys s (Join into from) reply t → IsSound sys s → IsSound sys t
+join-sound sys s t into from reply (no_such_scout e nobody) sound = sound
+join-sound sys s t into from reply (no_other_scout into1 from1 nobody) sound = sound
+join-sound sys s t into from reply (same_scout into1 from1 same) sound = sound
+join-sound sys s t into from reply (joined into1 from1 v w x at_into at_from differ is) sound =
+    let knows_v = sound.consistent.knows into1 v at_into in
+    let knows_w = sound.consistent.knows from1 w at_from in
     record {
-      consistent = joined-sound sys s.tiles s.scouts into from v w x sound.consistent at_into at_from differ is;
-      named = named_set (set (set s.scouts into None) from None) (min into from) x
-          (named_unset (set s.scouts into None) from (named_unset s.scouts into sound.named))
+      consistent = joined-sound sys s.tiles s.scouts into1 from1 v w x sound.consistent at_into at_from differ is;
+      named = named_set (set (set s.scouts into1 None) from1 None) (min into1 from1) x
+          (named_unset (set s.scouts into1 None) from1 (named_unset s.scouts into1 sound.named))
           (ap least is.owned
           ∙ (least-of_both v.owned w.owned knows_v.some_number knows_v.numbers knows_w.some_number knows_w.numbers (or_lt 64 v.owned w.owned knows_v.numbers knows_w.numbers)
-          ∙ (ap (λ k. min k (least w.owned)) (sound.named.own_name into v at_into) ∙ ap (λ k. min into k) (sound.named.own_name from w at_from))));
+          ∙ (ap (λ k. min k (least w.owned)) (sound.named.own_name into1 v at_into) ∙ ap (λ k. min into1 k) (sound.named.own_name from1 w at_from))));
     }
+
+-- A claim keeps it in a valid system.
+pub claim-sound : (sys : TileSystem) (s t : CoreState) (who : ℕ) (site : Site) (tile : TypeId) (reply : Result Seen CoreStop) → IsValid sys → CoreStep sys s (Claim who site tile) reply t →
+    IsSound sys s → IsSound sys t
+claim-sound sys s t who site tile reply valid (no_such_scout e nobody) sound = sound
+claim-sound sys s t who site tile reply valid (claims_outside who1 site1 tile1 v here outside) sound = sound
+claim-sound sys s t who site tile reply valid (unsupported who1 site1 tile1 v here inside weak) sound = sound
+claim-sound sys s t who site tile reply valid (won who1 site1 tile1 v w here inside supported empty is) sound = record {
+  consistent = won-sound sys s.tiles s.scouts who1 v w (place site1 tile1) sound.consistent here
+      (supported_type sys v.seen site1 tile1 valid.some_tau supported) inside supported empty is;
+  named = named_set s.scouts who1 w sound.named (ap least is.owned ∙ sound.named.own_name who1 v here);
+}
+claim-sound sys s t who site tile reply valid (held who1 site1 tile1 there v w here inside supported found is) sound = record {
+  consistent = seen-sound sys s.tiles s.scouts who1 v w (place site1 there) sound.consistent here (tile_at-Contains (places s.tiles) site1 there found) is;
+  named = named_set s.scouts who1 w sound.named (ap least is.owned ∙ sound.named.own_name who1 v here);
+}
+
+-- so each event does
+pub step-sound : (sys : TileSystem) (s t : CoreState) (event : Event) (reply : Result Seen CoreStop) → IsValid sys → CoreStep sys s event reply t → IsSound sys s → IsSound sys t
+step-sound sys s t (Look who site) reply valid step sound = look-sound sys s t who site reply step sound
+step-sound sys s t (Claim who site tile) reply valid step sound = claim-sound sys s t who site tile reply valid step sound
+step-sound sys s t (Split who) reply valid step sound = split-sound sys s t who reply step sound
+step-sound sys s t (Join into from) reply valid step sound = join-sound sys s t into from reply step sound
 
 pub left-sound : (sys : TileSystem) (s : CoreState) (name : ℕ) → IsSound sys s → IsSound sys (without_scout s name)
 left-sound sys s name sound = record {

@@ -1,3 +1,4 @@
 pub mod Core
 pub mod Steps
 pub mod Laws
+pub mod Machine

@@ -1,6 +1,6 @@
 // What scouts do, and what they are told.
 use thiserror::Error;
-use tile_system::{Site, TypeId};
+use tile_system::{NoMemory, Site, TypeId};
 
 /// What a scout does. A scout goes by its name, the least of its numbers.
 #[derive(Debug, Clone, Copy, PartialEq, Eq)]
@@ -34,4 +34,15 @@ pub enum CoreStop {
     NoNumberLeft,
     #[error("no memory")]
     NoMemory,
+}
+
+impl From<NoMemory> for CoreStop {
+    ghost use Rattle.std.specs.Prelude.{◌≡◌};
+    ghost use Rattle.grow_core.specs.declared.event.CoreStop.TheVariants.{NoMemory as OutOfMemory};
+
+    ghost from_gives = { λ _ stop. stop ≡ OutOfMemory };
+
+    fn from(_: NoMemory) -> CoreStop {
+        CoreStop::NoMemory
+    }
 }
