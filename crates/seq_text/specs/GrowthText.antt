@@ -1,0 +1,100 @@
+-- The text of a growth: what each kept line is, and which checks it has to pass. It follows a system text, and names the types of that system.
+use Rattle.std.specs.Prelude.{◌≡◌, ℕ, ◌==◌, Bool, true, false, nat_le, List, [], ◌∷◌, map, filter_map, codes, is_none, Option, Some, None, Result, Ok, Err}
+use Rattle.tile_io.specs.declared.fault.Cause.{Cause}
+use Rattle.tile_io.specs.declared.fault.Cause.TheVariants.{BadLine, OutsideBox, DoubleSite}
+use Rattle.tile_io.specs.declared.mark.Mark.{Mark}
+use Rattle.tile_io.specs.Formats.{Format, Reads}
+use Rattle.tile_io.specs.Checks.{◌>>=◌, require, coordinate, referred, Keyword, check_line}
+use Rattle.atam.specs.declared.site.Site.{Site}
+use Rattle.atam.specs.declared.place.Place.{Place}
+use Rattle.atam.specs.Placements.{tile_at}
+use Rattle.atam.specs.TileSystem.{TileSystem, is_name}
+use Rattle.tile_text.specs.SystemText.{is_in_box}
+
+-- what a kept line of a growth text is
+pub data GrowthItem : Type 0 where
+  PlaceLine : (place : Place) → GrowthItem
+  ClosedLine : GrowthItem
+  UniqueLine : GrowthItem
+
+abbrev pub place_of : GrowthItem → Option Place
+place_of (PlaceLine p) = Some p
+place_of _ = None
+
+-- the places of the lines, in their order
+unfoldable pub places_of : List GrowthItem → List Place
+places_of items = filter_map place_of items
+
+-- whether a tile may be placed at a site after others: anywhere, or, where sites have to differ, where none stands yet
+abbrev pub may_stand : Bool → List Place → Site → Bool
+may_stand false earlier m = true
+may_stand true earlier m = is_none (tile_at earlier m)
+
+-- the fields of a `place` line, and the checks of the whole line
+unfoldable pub place_in : Bool → TileSystem → List Place → List ℕ → List ℕ → List ℕ → Result Place Cause
+place_in distinct sys earlier column row name = do
+  x ← coordinate column
+  y ← coordinate row
+  t ← referred is_name (map (λ t. t.name) sys.types) name
+  let site : Site = record { x = x; y = y }
+  _ ← require (is_in_box sys.area site) OutsideBox
+  _ ← require (may_stand distinct earlier site) DoubleSite
+  Ok (record { site = site; tile = record { 0 = t } })
+
+-- A line that isn't of its keyword's number of words is refused before.
+abbrev pub place_fields : Bool → TileSystem → List GrowthItem → List (List ℕ) → Result GrowthItem Cause
+place_fields distinct sys earlier (_ ∷ column ∷ row ∷ name ∷ _) = do
+  p ← place_in distinct sys (places_of earlier) column row name
+  Ok (PlaceLine p)
+place_fields distinct sys earlier _ = Err BadLine
+
+-- what may stand before what
+abbrev pub follows_place : Option GrowthItem → Bool
+follows_place None = true
+follows_place (Some (PlaceLine _)) = true
+follows_place _ = false
+
+abbrev pub follows_place_or_closed : Option GrowthItem → Bool
+follows_place_or_closed (Some ClosedLine) = true
+follows_place_or_closed before = follows_place before
+
+abbrev pub always_room : List GrowthItem → List (List ℕ) → Bool
+always_room earlier words = true
+
+-- the rows of the table: word, number of words, what it may stand after, limit, fields
+abbrev pub place_row : Bool → TileSystem → Keyword GrowthItem
+place_row distinct sys = record { word = codes "place"; has_words = λ n. n == 4; may_follow = follows_place; has_room = always_room; fields = place_fields distinct sys }
+
+abbrev pub closed_row : Keyword GrowthItem
+closed_row = record { word = codes "closed"; has_words = λ n. nat_le 2 n; may_follow = follows_place; has_room = always_room; fields = λ earlier words. Ok ClosedLine }
+
+abbrev pub unique_row : Keyword GrowthItem
+unique_row = record { word = codes "unique"; has_words = λ n. nat_le 2 n; may_follow = follows_place_or_closed; has_room = always_room; fields = λ earlier words. Ok UniqueLine }
+
+unfoldable pub growth_keywords : Bool → TileSystem → List (Keyword GrowthItem)
+growth_keywords distinct sys = place_row distinct sys ∷ closed_row ∷ unique_row ∷ []
+
+-- the format of the growth texts of a system: there is no end line, and the input may end after any line
+unfoldable pub growth_format : Bool → TileSystem → Format GrowthItem
+growth_format distinct sys = record { check = check_line (growth_keywords distinct sys); is_end = λ item. false; is_complete = λ items. true }
+
+-- as a sequence, whose sites may repeat
+abbrev pub sequence_format : TileSystem → Format GrowthItem
+sequence_format sys = growth_format false sys
+
+-- as a grid, whose sites differ
+abbrev pub grid_format : TileSystem → Format GrowthItem
+grid_format sys = growth_format true sys
+
+-- the text from a mark on, up to its end, reads as lines with these places
+pub record ReadsPlaces (format : Format GrowthItem) (text : List ℕ) (from : Mark) (places : List Place) : Type 0 where
+  pub items : List GrowthItem
+  pub to : Mark
+  pub reads : Reads format text from items to
+  pub places_are : places ≡ places_of items
+
+abbrev pub ReadsSequence : TileSystem → List ℕ → Mark → List Place → Type 0
+ReadsSequence sys text from places = ReadsPlaces (sequence_format sys) text from places
+
+abbrev pub ReadsPlacements : TileSystem → List ℕ → Mark → List Place → Type 0
+ReadsPlacements sys text from places = ReadsPlaces (grid_format sys) text from places

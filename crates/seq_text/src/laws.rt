@@ -1,0 +1,57 @@
+// Laws of growth texts.
+ghost use Rattle.std.specs.Prelude.{◌≡◌, ◌≤◌, ◌⊎◌, ◌++◌, ℕ, List, Bool, Option, IfSome, length, drop};
+ghost use Rattle.tile_io.specs.declared.mark.Mark.{Mark};
+ghost use Rattle.tile_io.specs.declared.fault.Cause.{Cause};
+ghost use Rattle.tile_io.specs.Formats.{Fault, IsRead, IsFaulty};
+ghost use Rattle.atam.specs.declared.place.Place.{Place};
+ghost use Rattle.atam.specs.declared.place.TypeId.{TypeId};
+ghost use Rattle.atam.specs.declared.site.Site.{Site};
+ghost use Rattle.atam.specs.Sites.{IsNearSite};
+ghost use Rattle.atam.specs.Assembly.{Fits};
+ghost use Rattle.atam.specs.Placements.{HasDistinctSites};
+ghost use Rattle.atam.specs.TileSystem.{TileSystem, IsType, IsValid};
+ghost use Rattle.seq_text.specs.GrowthLines.{place_lines, closed_line};
+ghost use Rattle.seq_text.specs.GrowthText.{growth_format, ReadsPlaces, ReadsSequence, ReadsPlacements};
+
+/// Each text, from each start, as a sequence or as a grid, either reads as one list of places or has one fault.
+pub fn law_growth_one_of_two()
+    ensures one { (distinct : Bool) (sys : TileSystem) (text : List ℕ) (from : Mark) →
+        IsRead (growth_format distinct sys) text from ⊎ IsFaulty (growth_format distinct sys) text from }
+    ensures not_both { (distinct : Bool) (sys : TileSystem) (text : List ℕ) (from : Mark)
+        (places : List Place) (number : ℕ) (cause : Cause) →
+        ReadsPlaces (growth_format distinct sys) text from places →
+        Fault (growth_format distinct sys) text from number cause → ⊥ }
+    ensures one_list { (distinct : Bool) (sys : TileSystem) (text : List ℕ) (from : Mark) (a b : List Place) →
+        ReadsPlaces (growth_format distinct sys) text from a →
+        ReadsPlaces (growth_format distinct sys) text from b → a ≡ b }
+    ensures one_fault { (distinct : Bool) (sys : TileSystem) (text : List ℕ) (from : Mark)
+        (m n : ℕ) (a b : Cause) →
+        Fault (growth_format distinct sys) text from m a →
+        Fault (growth_format distinct sys) text from n b → (m ≡ n) × (a ≡ b) }
+{}
+
+/// What a growth text reads as is of types of the system, within its box, and no longer than the text. The sites differ
+/// where it is read as a grid.
+pub fn law_growth_fits()
+    ensures sequence { (sys : TileSystem) (text : List ℕ) (from : Mark) (places : List Place) →
+        ReadsSequence sys text from places → Fits sys places }
+    ensures grid { (sys : TileSystem) (text : List ℕ) (from : Mark) (places : List Place) →
+        ReadsPlacements sys text from places → Fits sys places × HasDistinctSites places }
+    ensures count { (distinct : Bool) (sys : TileSystem) (text : List ℕ) (from : Mark) (places : List Place) →
+        ReadsPlaces (growth_format distinct sys) text from places → length places ≤ length text }
+{}
+
+/// The lines of places that fit a valid system, and then the `closed` line of what is open near its box, read as these
+/// places, to the end of the text.
+pub fn law_growth_reads_printed()
+    ensures sequence { (sys : TileSystem) (places : List Place) (found : Option (Site × TypeId))
+        (text : List ℕ) (from : Mark) → IsValid sys → Fits sys places →
+        IfSome found (λ open_site. IsType sys open_site.1 × IsNearSite open_site.0) →
+        drop from.at text ≡ place_lines sys places ++ closed_line sys found →
+        ReadsSequence sys text from places }
+    ensures grid { (sys : TileSystem) (places : List Place) (found : Option (Site × TypeId))
+        (text : List ℕ) (from : Mark) → IsValid sys → Fits sys places → HasDistinctSites places →
+        IfSome found (λ open_site. IsType sys open_site.1 × IsNearSite open_site.0) →
+        drop from.at text ≡ place_lines sys places ++ closed_line sys found →
+        ReadsPlacements sys text from places }
+{}
