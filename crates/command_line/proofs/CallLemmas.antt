@@ -54,7 +54,7 @@ options_once words Check b is states states_other = sym is
 options_once words Replay b is states states_other = sym is
 options_once words Format b is states states_other = sym is
 
-spelled_named : (words : List Text) (command : Command) → Spells words command → command_named words ≡ Some (name_of command)
+pub spelled_named : (words : List Text) (command : Command) → Spells words command → command_named words ≡ Some (name_of command)
 spelled_named words (Grow choice) (fits, inl is) = ap command_named is.0
 spelled_named words (Grow choice) (fits, inr is) = ap command_named is
 spelled_named words Check is = ap command_named is
@@ -103,6 +103,13 @@ spelled_stops words name NoCommand named other untaken spelled is = absurd (othe
 spelled_stops words name Usage named other untaken spelled is =
     let same = same_name words name (name_of spelled) named (spelled_named words spelled is) in
     absurd (true≢false (sym (ap (λ (n : CommandName). takes (command_app n) words) same ∙ spelled_taken words spelled is) ∙ untaken refl))
+
+-- the plainest words are not refused
+pub spelled_not_usage : (words : List Text) (command : Command) → Spells words command → IsUsage words → ⊥
+spelled_not_usage words command is usage =
+    let same = same_name words usage.name (name_of command) usage.named (spelled_named words command is) in
+    let taken : takes (command_app usage.name) words ≡ true = ap (λ (n : CommandName). takes (command_app n) words) same ∙ spelled_taken words command is in
+    true≢false (sym taken ∙ usage.untaken)
 
 -- words call for one command
 pub call_once : (words : List Text) (a b : Command) → IsCallOf words a → IsCallOf words b → a ≡ b

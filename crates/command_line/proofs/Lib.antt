@@ -1,4 +1,4 @@
-mod CallLemmas
+pub mod CallLemmas
 mod CommandLemmas
 mod FoundLemmas
 mod OptionLemmas
