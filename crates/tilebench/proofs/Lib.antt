@@ -1,4 +1,6 @@
-pub mod Writing
-pub mod Replying
-pub mod Looked
+pub mod Confluent
 pub mod Growths
+pub mod Looked
+pub mod Marks
+pub mod Replying
+pub mod Writing

@@ -1,31 +1,45 @@
 -- From what was read to the reply, and from the reply to the clauses of the top call.
-use Rattle.std.proofs.Common.{◌≡◌, ◌⊎◌, ◌<◌, ◌≤◌, ◌+◌, ◌++◌, ◌∙◌, ℕ, Bool, true, false, List, [], length, is_none, Option, Some, None, Result, Ok, Err, IfSome, refl, sym, ap, subst, arith, inl, inr, append-nil, length-append}
-use Rattle.std.proofs.lemmas.Option.{same_Some}
-use Rattle.std.specs.Io.KnownBytes.{Appends, Consumes, IsAtEnd}
+use Rattle.std.proofs.Common.{◌≡◌, ◌≢◌, ◌≤◌, ◌+◌, ◌++◌, ◌∙◌, ℕ, Bool, true, false, List, [], length, Option, Some, None, Result, Ok, Err, IfSome, refl, sym, ap, subst, arith, inl, inr, append-nil, length-append}
+use Rattle.std.specs.Io.KnownBytes.{Consumes, IsAtEnd}
 use Rattle.tile_io.specs.declared.fault.TextFault.{TextFault}
 use Rattle.tile_io.specs.declared.mark.Mark.{Mark}
 use Rattle.tile_io.specs.declared.whole.TheConstants.{MOST_INPUT}
 use Rattle.tile_io.specs.Checks.{nothing_more}
-use Rattle.tile_io.specs.Faults.{Rose}
-use Rattle.tile_io.specs.Rest.{HasNoMore}
-use Rattle.tile_io.proofs.Laws.{not_both, reads_once}
+use Rattle.tile_io.specs.Formats.{Format, Reads}
+use Rattle.tile_io.proofs.Laws.{not_both}
 use Rattle.atam.specs.declared.site.Site.{Site}
 use Rattle.atam.specs.declared.place.TypeId.{TypeId}
 use Rattle.atam.specs.declared.place.Place.{Place}
 use Rattle.atam.specs.TileSystem.{TileSystem, IsType}
 use Rattle.atam.specs.Growth.{IsLeastOpenOutside}
-use Rattle.tile_text.specs.SystemText.{system_format, system_items}
-use Rattle.tilebench.specs.declared.words.Command.{Command}
-use Rattle.tilebench.specs.declared.words.Command.TheVariants.{Grow, Format}
+use Rattle.tile_text.specs.SystemText.{ReadsSystem, system_format, system_items}
+use Rattle.tile_text.proofs.OneSystem.{reads_one_system}
+use Rattle.seq_text.specs.GrowthText.{sequence_format, grid_format}
+use Rattle.seq_text.specs.VerdictLines.{NamesTypes}
+use Rattle.local_check.specs.declared.verdict.Verdict.{Verdict}
+use Rattle.local_check.specs.declared.verdict.Verdict.TheVariants.{Yes, NotExact, Rival, NotTerminal}
+use Rattle.local_check.specs.Judgement.{IsVerdict}
+use Rattle.command_line.specs.declared.command.Command.{Command}
+use Rattle.command_line.specs.declared.command.CommandName.{CommandName}
+use Rattle.command_line.specs.declared.command.CommandName.TheVariants as names
+use Rattle.command_line.specs.declared.words_stop.WordsStop.{WordsStop}
+use Rattle.command_line.specs.declared.words_stop.WordsStop.TheVariants.{NoCommand, Usage, NoMemory}
+use Rattle.command_line.specs.Commands.{Spells, name_of}
+use Rattle.command_line.proofs.CallLemmas.{call_not_usage, call_spelled, spelled_named, spelled_not_usage}
 use Rattle.tilebench.specs.declared.answer.Answer.{Answer}
 use Rattle.tilebench.specs.declared.growth_order.Growth.{Growth}
 use Rattle.tilebench.specs.declared.stop.Stop.{Stop}
 use Rattle.tilebench.specs.declared.stop.Stop.TheVariants as stops
 use Rattle.tilebench.specs.declared.status.Status.{Status}
 use Rattle.tilebench.specs.declared.status.Status.TheVariants.{Done, No, WriteFault}
-use Rattle.tilebench.specs.Replies.{first_mark, IsWholeSystem, FailsAsSystem, Fails, Answers, IsAnswer, IsTextRefusal, CanAnswer, Tells}
+use Rattle.tilebench.specs.Commands.{IsCall, IsRefusedAs}
+use Rattle.tilebench.specs.Inputs.{first_mark, IsWholeSystem, IsAnswerable, Fails, FailsWithin}
+use Rattle.tilebench.specs.Replies.{Answers, IsAnswer, IsTextRefusal, CanAnswer, Tells, CutsOff}
 use Rattle.tilebench.specs.Statuses.{Writes, answer_status}
+use Rattle.tilebench.specs.GrowthText.{is_unique}
 use Rattle.tilebench.specs.AnswerText.{IsGrownFrom, growth_text, HasTypes}
+use Rattle.tilebench.specs.GrowthText.{IsGrowthOf}
+use Rattle.tilebench.proofs.Confluent.{confluent}
 use Rattle.tilebench.specs.Stops.{AnswersInput, AnswersCommand}
 
 -- the type that is open outside is one of the system
@@ -33,41 +47,54 @@ open_type : (sys : TileSystem) (tiles : List Place) (outside : Option (Site × T
 open_type sys tiles None least = tt
 open_type sys tiles (Some found) least = least.grows.kind
 
+-- and so is the type that a verdict names
+pub verdict_types : (sys : TileSystem) (s : List Place) (verdict : Verdict) → IsVerdict sys s verdict → NamesTypes sys verdict
+verdict_types sys s Yes judged = tt
+verdict_types sys s (NotExact m sum) judged = tt
+verdict_types sys s (Rival m t) judged = judged.1.rival.rival.grows.kind
+verdict_types sys s (NotTerminal m t) judged = judged.2.grows.kind
+
 -- what a whole input's system grows into is the answer of `grow`
 pub growth_answers : (input : List ℕ) (sys : TileSystem) (growth : Growth) → IsWholeSystem input sys → IsGrownFrom sys growth →
-    Answers Grow input (is_none growth.outside) (growth_text growth) × HasTypes growth
-growth_answers input sys growth whole grown = (
-  (
-    growth.sys,
-    subst (IsWholeSystem input) (sym grown.same) whole,
-    (
-      grown.tiles,
+    Answers names.Grow input (is_unique growth.verdict) (growth_text growth) × HasTypes growth
+growth_answers input sys growth whole grown =
+    let of_tiles : IsGrowthOf growth.sys grown.tiles (is_unique growth.verdict) (growth_text growth) = record {
+      full = grown.full;
+      text_of = record {
+        order = growth.order;
+        canonical = grown.canonical;
+        outside = growth.outside;
+        least = grown.least;
+        verdict = growth.verdict;
+        judged = grown.judged;
+        printed = refl;
+        answer = refl;
+      };
+    } in (
+      (
+        growth.sys,
+        subst (IsWholeSystem input) (sym grown.same) whole,
+        grown.tiles,
+        of_tiles,
+        confluent growth.sys grown.seeds grown.tiles (is_unique growth.verdict) (growth_text growth) of_tiles,
+      ),
       record {
-        full = grown.full;
-        text_of = record {
-          order = growth.order;
-          canonical = grown.canonical;
-          outside = growth.outside;
-          least = grown.least;
-          printed = refl;
-          answer = refl;
-        };
+        order = grown.types;
+        outside = open_type growth.sys grown.tiles growth.outside grown.least;
+        verdict = verdict_types growth.sys growth.order growth.verdict grown.judged;
       },
-    ),
-  ),
-  record { order = grown.types; outside = open_type growth.sys grown.tiles growth.outside grown.least },
-)
+    )
 
 -- what a command answers to all that was left is its answer to the source
-pub answers_command : (command : Command) (left left_after : Option (List ℕ)) (before now : ℕ) (input : List ℕ) (r : Result Answer Stop) →
-    Consumes left left_after input → IsAtEnd left_after → length input ≤ MOST_INPUT → AnswersInput command input r → AnswersCommand command left left_after before now r
-answers_command command left left_after before now input (Ok answer) read at_end short answers =
+pub answers_command : (name : CommandName) (left left_after : Option (List ℕ)) (before now : ℕ) (input : List ℕ) (r : Result Answer Stop) →
+    Consumes left left_after input → IsAtEnd left_after → length input ≤ MOST_INPUT → AnswersInput name input r → AnswersCommand name left left_after before now r
+answers_command name left left_after before now input (Ok answer) read at_end short answers =
     (record { input = input; read = read; at_end = at_end; short = short; answer = answers.0 }, answers.1)
-answers_command command left left_after before now input (Err (stops.Words stop)) read at_end short never = never
-answers_command command left left_after before now input (Err (stops.Text fault)) read at_end short fails =
+answers_command name left left_after before now input (Err (stops.Words stop)) read at_end short never = never
+answers_command name left left_after before now input (Err (stops.Text fault)) read at_end short fails =
     inr (record { input = input; read = read; at_end = at_end; short = short; fails = fails })
-answers_command command left left_after before now input (Err stops.ReadFault) read at_end short never = absurd never
-answers_command command left left_after before now input (Err stops.NoMemory) read at_end short _ = tt
+answers_command name left left_after before now input (Err stops.ReadFault) read at_end short never = absurd never
+answers_command name left left_after before now input (Err stops.NoMemory) read at_end short _ = tt
 
 -- an answer that was written whole is told as what it is
 pub tells_yes : (words : List (List ℕ)) (left left_after old new : Option (List ℕ)) (before now : ℕ) (is_yes : Bool) (text : List ℕ) (status : Status) →
@@ -82,19 +109,40 @@ tells_no words left left_after old new before now false text status answer (inl 
 tells_no words left left_after old new before now true text status answer (inl written) done = let other : Done ≡ No = sym written.outcome ∙ done in cc
 tells_no words left left_after old new before now is_yes text status answer (inr cut) done = let other : WriteFault ≡ No = sym cut.outcome ∙ done in cc
 
--- a whole system has no fault
-whole_or_faulty : (input : List ℕ) (sys : TileSystem) (fault : TextFault) → IsWholeSystem input sys → FailsAsSystem input fault → ⊥
-whole_or_faulty input sys fault whole (inl fails) =
-    not_both system_format input first_mark (system_items sys) whole.end fault.line fault.cause whole.reads.items fails
-whole_or_faulty input sys fault whole (inr behind) =
-    let one = reads_once system_format input first_mark (system_items sys) (system_items behind.sys) whole.end behind.end whole.reads.items behind.reads.items in
-    let rest : HasNoMore input behind.end = subst (HasNoMore input) one.1 whole.rest in
-    not_both nothing_more input behind.end [] rest.0 fault.line fault.cause rest.1 behind.more
+-- the plainest words for a command are not refused
+pub spelled_or_refused : (words : List (List ℕ)) (command : Command) (stop : WordsStop) → Spells words command → IsRefusedAs words stop → ⊥
+spelled_or_refused words command NoCommand spelled unnamed = let other : None ≡ Some (name_of command) = sym unnamed ∙ spelled_named words command spelled in cc
+spelled_or_refused words command Usage spelled usage = spelled_not_usage words command spelled usage
+spelled_or_refused words command NoMemory spelled never = never
 
--- what fails for a command fails as a system
-fails_as_system : (command : Command) (input : List ℕ) (fault : TextFault) → Fails command input fault → FailsAsSystem input fault
-fails_as_system Grow input fault fails = fails
-fails_as_system Format input fault fails = fails
+-- words that are refused are no call
+pub refused_uncalled : (words : List (List ℕ)) (stop : WordsStop) → IsRefusedAs words stop → ¬ IsCall words
+refused_uncalled words NoCommand unnamed = λ call. let other : None ≡ Some (name_of call.0) = sym unnamed ∙ call.1.named in cc
+refused_uncalled words Usage usage = λ call. call_not_usage words call.0 call.1 usage
+refused_uncalled words NoMemory never = λ call. never
+
+module _ {Item : Type 0} (format : TileSystem → Format Item) (input : List ℕ) where
+  -- an input that reads as a system and a text of the format has no fault
+  read_or_fault : (sys : TileSystem) (end to : Mark) (items : List Item) (fault : TextFault) → ReadsSystem input first_mark sys end →
+      Reads (format sys) input end items to → FailsWithin format input fault → ⊥
+  read_or_fault sys end to items fault system rest (inl fails) =
+      not_both system_format input first_mark (system_items sys) end fault.line fault.cause system.items fails
+  read_or_fault sys end to items fault system rest (inr behind) =
+      let one = reads_one_system input first_mark end behind.end sys behind.sys system behind.reads in
+      let there : Reads (format behind.sys) input end items to = subst (λ (s : TileSystem). Reads (format s) input end items to) one.0 rest in
+      let here : Reads (format behind.sys) input behind.end items to = subst (λ (mark : Mark). Reads (format behind.sys) input mark items to) one.1 there in
+      not_both (format behind.sys) input behind.end items to fault.line fault.cause here behind.behind
+
+-- an input that a command can answer has no fault for it
+answerable_or_faulty : (name : CommandName) (input : List ℕ) (fault : TextFault) → IsAnswerable name input → Fails name input fault → ⊥
+answerable_or_faulty names.Grow input fault found fails =
+    read_or_fault (λ sys. nothing_more) input found.0 found.1.end found.1.rest.0 [] fault found.1.reads found.1.rest.1 fails
+answerable_or_faulty names.Check input fault found fails =
+    read_or_fault sequence_format input found.0 found.2.end found.2.rest.to found.2.rest.items fault found.2.reads found.2.rest.reads fails
+answerable_or_faulty names.Replay input fault found fails =
+    read_or_fault grid_format input found.0 found.2.end found.2.rest.to found.2.rest.items fault found.2.reads found.2.rest.reads fails
+answerable_or_faulty names.Format input fault found fails =
+    read_or_fault (λ sys. nothing_more) input found.0 found.1.end found.1.rest.0 [] fault found.1.reads found.1.rest.1 fails
 
 -- what was taken of known bytes is at most these
 taken_within : (left : List ℕ) (left_after : Option (List ℕ)) (taken : List ℕ) → Consumes (Some left) left_after taken → length taken ≤ length left
@@ -119,6 +167,19 @@ answer_or_refusal words left left_after text can refusal =
       | inr faulty ↦
           let read : Consumes (Some can.input) left_after faulty.input = subst (λ (known : Option (List ℕ)). Consumes known left_after faulty.input) can.told faulty.read in
           let same = taken_all can.input left_after faulty.input read faulty.at_end in
-          let whole : IsWholeSystem faulty.input can.sys = subst (λ (input : List ℕ). IsWholeSystem input can.sys) same can.whole in
-          whole_or_faulty faulty.input can.sys refusal.fault whole (fails_as_system refusal.command faulty.input refusal.fault faulty.fails)
+          let command : refusal.command ≡ can.command = call_spelled words refusal.command can.command refusal.called can.spelled in
+          let answerable : IsAnswerable (name_of can.command) faulty.input = subst (IsAnswerable (name_of can.command)) same can.answerable in
+          let by_command : IsAnswerable (name_of refusal.command) faulty.input = subst (λ (c : Command). IsAnswerable (name_of c) faulty.input) (sym command) answerable in
+          answerable_or_faulty (name_of refusal.command) faulty.input refusal.fault by_command faulty.fails
     ]
+
+-- a text of which a write failed is told by a front of it
+pub cut_text : (IsSaid : List ℕ → Type 0) (old new : Option (List ℕ)) (before now : ℕ) (told status : Status) (text : List ℕ) → told ≢ WriteFault → IsSaid text →
+    Writes old new before now told status text → status ≡ WriteFault → CutsOff IsSaid old new
+cut_text IsSaid old new before now told status text other said (inl written) fault = absurd (other (sym written.outcome ∙ fault))
+cut_text IsSaid old new before now told status text other said (inr cut) fault = (text, said, cut.front)
+
+-- no answer is told as a fault
+pub answer_no_fault : (is_yes : Bool) → answer_status is_yes ≢ WriteFault
+answer_no_fault true = λ same. let other : Done ≡ WriteFault = same in cc
+answer_no_fault false = λ same. let other : No ≡ WriteFault = same in cc

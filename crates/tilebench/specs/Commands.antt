@@ -1,28 +1,20 @@
--- The words of a command line.
-use Rattle.std.specs.Prelude.{ℕ, List, [], ◌∷◌, codes, bytes_eq, if◌then◌else◌, Result, Ok, Err}
-use Rattle.tilebench.specs.declared.words.Command.{Command}
-use Rattle.tilebench.specs.declared.words.Command.TheVariants.{Grow, Format}
-use Rattle.tilebench.specs.declared.words.WordsStop.{WordsStop}
-use Rattle.tilebench.specs.declared.words.WordsStop.TheVariants.{NoCommand, Usage}
+-- The words of a command line, and their refusals.
+use Rattle.std.specs.Prelude.{◌≡◌, ℕ, List, [], ◌∷◌, codes, None}
 use Rattle.tile_io.specs.Lines.{line_of}
+use Rattle.command_line.specs.declared.command.Command.{Command}
+use Rattle.command_line.specs.declared.words_stop.WordsStop.{WordsStop}
+use Rattle.command_line.specs.declared.words_stop.WordsStop.TheVariants.{NoCommand, Usage, NoMemory}
+use Rattle.command_line.specs.Commands.{IsCallOf, IsUsage, command_named, words_stop_name}
 
--- a command that takes no further words
-abbrev pub command_alone : Command → List (List ℕ) → Result Command WordsStop
-command_alone command [] = Ok command
-command_alone command (word ∷ words) = Err Usage
+-- the words call for some command
+abbrev pub IsCall : List (List ℕ) → Type 0
+IsCall words = (command : Command) × IsCallOf words command
 
--- the command that the words name, or why they are refused
-abbrev pub command_of : List (List ℕ) → Result Command WordsStop
-command_of [] = Err NoCommand
-command_of (first ∷ rest) =
-    if bytes_eq first (codes "grow") then command_alone Grow rest
-    else if bytes_eq first (codes "format") then command_alone Format rest
-    else Err NoCommand
-
--- how the program calls a refusal of words
-abbrev pub words_stop_name : WordsStop → List ℕ
-words_stop_name NoCommand = codes "NoCommand"
-words_stop_name Usage = codes "Usage"
+-- why the words are refused: the first names no command, or clap finds a fault in the list; want of memory is no refusal
+abbrev pub IsRefusedAs : List (List ℕ) → WordsStop → Type 0
+IsRefusedAs words NoCommand = command_named words ≡ None
+IsRefusedAs words Usage = IsUsage words
+IsRefusedAs words NoMemory = ⊥
 
 -- the line that tells it
 abbrev pub refused_words : WordsStop → List ℕ

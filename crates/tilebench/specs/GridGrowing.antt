@@ -1,5 +1,5 @@
 -- Growth over a grid, with the sites that are to be looked at.
-use Rattle.std.specs.Prelude.{◌≡◌, ◌+◌, ◌*◌, ◌≤◌, List, length, All, Contains}
+use Rattle.std.specs.Prelude.{◌≡◌, ◌+◌, ◌*◌, ◌≤◌, List, length, All, Contains, Option, MatchOption}
 use Rattle.atam.specs.declared.site.Side.{Side}
 use Rattle.atam.specs.declared.site.Site.{Site}
 use Rattle.atam.specs.declared.place.TypeId.{TypeId}
@@ -27,6 +27,10 @@ pub record IsGrownSoFar (sys : TileSystem) (growth : GridGrowth) : Type 0 where
 -- no type attaches at a site of the box that isn't listed
 abbrev pub IsClosedBut : TileSystem → List Place → List Site → Type 0
 IsClosedBut sys tiles sites = (m : Site) (t : TypeId) → InBox sys.area m → CanGrow sys tiles m t → Contains sites m
+
+-- a type that attaches at the site; none exactly where none does
+abbrev pub IsOpenType : TileSystem → List Place → Site → Option TypeId → Type 0
+IsOpenType sys tiles m found = MatchOption found ((t : TypeId) → ¬ CanGrow sys tiles m t) (CanGrow sys tiles m)
 
 -- the site is listed too, if it is in the box
 pub record AddsSite (area : BoxArea) (m : Site) (old new : List Site) : Type 0 where

@@ -1,5 +1,5 @@
 -- What `grow` prints.
-use Rattle.std.specs.Prelude.{◌≡◌, ℕ, Bool, is_none, List, ◌++◌, Option, All}
+use Rattle.std.specs.Prelude.{◌≡◌, ℕ, Bool, true, false, List, ◌++◌, Option, All}
 use Rattle.atam.specs.declared.site.Site.{Site}
 use Rattle.atam.specs.declared.place.TypeId.{TypeId}
 use Rattle.atam.specs.declared.place.Place.{Place}
@@ -8,7 +8,11 @@ use Rattle.atam.specs.TileSystem.{TileSystem}
 use Rattle.atam.specs.Placements.{HasDistinctSites}
 use Rattle.atam.specs.Growth.{IsProducible, IsClosedInBox, IsLeastOpenOutside}
 use Rattle.atam.specs.Canonical.{IsCanonical}
+use Rattle.local_check.specs.declared.verdict.Verdict.{Verdict}
+use Rattle.local_check.specs.declared.verdict.Verdict.TheVariants.{Yes}
+use Rattle.local_check.specs.Judgement.{IsVerdict}
 use Rattle.seq_text.specs.GrowthLines.{place_lines, closed_line}
+use Rattle.seq_text.specs.VerdictLines.{verdict_line}
 
 -- a producible assembly in the box that nothing extends there
 pub record IsFullGrowth (sys : TileSystem) (tiles : List Place) : Type 0 where
@@ -17,14 +21,22 @@ pub record IsFullGrowth (sys : TileSystem) (tiles : List Place) : Type 0 where
   pub producible : IsProducible sys tiles
   pub closed : IsClosedInBox sys tiles
 
--- The places of the assembly in canonical order, and then what is open outside the box. It is a yes where nothing is.
+-- whether a verdict is a yes
+abbrev pub is_unique : Verdict → Bool
+is_unique Yes = true
+is_unique _ = false
+
+-- The places of the assembly in canonical order, then what is open outside the box, then the verdict on this order.
+-- It is a yes where the verdict is.
 pub record IsGrowthText (sys : TileSystem) (tiles : List Place) (is_yes : Bool) (text : List ℕ) : Type 0 where
   pub order : List Place
   pub canonical : IsCanonical sys tiles order
   pub outside : Option (Site × TypeId)
   pub least : IsLeastOpenOutside sys tiles outside
-  pub printed : text ≡ place_lines sys order ++ closed_line sys outside
-  pub answer : is_yes ≡ is_none outside
+  pub verdict : Verdict
+  pub judged : IsVerdict sys order verdict
+  pub printed : text ≡ place_lines sys order ++ closed_line sys outside ++ verdict_line sys verdict
+  pub answer : is_yes ≡ is_unique verdict
 
 -- the growth text of this assembly
 pub record IsGrowthOf (sys : TileSystem) (tiles : List Place) (is_yes : Bool) (text : List ℕ) : Type 0 where

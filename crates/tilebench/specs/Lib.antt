@@ -1,7 +1,12 @@
 pub mod AnswerText
+pub mod Causes
+pub mod CheckText
 pub mod Commands
+pub mod Confluence
+pub mod GridGrowing
 pub mod GrowthText
+pub mod Inputs
 pub mod Replies
+pub mod ReplayText
 pub mod Statuses
 pub mod Stops
-pub mod GridGrowing

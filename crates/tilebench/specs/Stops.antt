@@ -1,17 +1,23 @@
 -- What the steps towards an answer hand back: a value, or why there is none.
-use Rattle.std.specs.Prelude.{◌≤◌, ℕ, List, ◌⊎◌, ◌≡◌, length, Option, Result, Ok, Err}
+use Rattle.std.specs.Prelude.{◌≤◌, ℕ, List, ◌⊎◌, length, Option, Result, Ok, Err}
 use Rattle.std.specs.Io.KnownBytes.{Consumes, IsAtEnd}
 use Rattle.tile_io.specs.declared.fault.TextFault.{TextFault}
 use Rattle.tile_io.specs.declared.whole.TheConstants.{MOST_INPUT}
 use Rattle.tile_io.specs.Faults.{Rose}
 use Rattle.atam.specs.TileSystem.{TileSystem}
-use Rattle.tilebench.specs.declared.words.Command.{Command}
-use Rattle.tilebench.specs.declared.words.WordsStop.{WordsStop}
+use Rattle.command_line.specs.declared.command.CommandName.{CommandName}
+use Rattle.command_line.specs.declared.words_stop.WordsStop.{WordsStop}
+use Rattle.atam.specs.declared.place.Place.{Place}
+use Rattle.assembly.specs.Grids.{TileGrid}
 use Rattle.tilebench.specs.declared.answer.Answer.{Answer}
 use Rattle.tilebench.specs.declared.stop.Stop.{Stop}
 use Rattle.tilebench.specs.declared.stop.Stop.TheVariants as stops
-use Rattle.tilebench.specs.Commands.{command_of}
-use Rattle.tilebench.specs.Replies.{IsWholeSystem, FailsAsSystem, Fails, Answers, IsTooLong, IsFaulty, IsAnswer, IsCommandAnswer, IsTextRefusal, refused_text}
+use Rattle.tilebench.specs.Commands.{IsRefusedAs}
+use Rattle.tile_io.specs.Checks.{nothing_more}
+use Rattle.seq_text.specs.GrowthText.{sequence_format, grid_format}
+use Rattle.tilebench.specs.Inputs.{IsWholeSystem, IsSystemThenSequence, IsSystemThenPlacements, FailsWithin, Fails, refused_text}
+use Rattle.tilebench.specs.ReplayText.{IsAssemblyOf}
+use Rattle.tilebench.specs.Replies.{Answers, IsTooLong, IsFaulty, IsAnswer, IsCommandAnswer, IsTextRefusal}
 use Rattle.tilebench.specs.AnswerText.{answer_text, is_yes, IsPrintable}
 
 -- a value with a fact, or a refusal of the words or of the input, or a fault of the source, each with its fact; or no memory
@@ -27,23 +33,30 @@ abbrev pub ReadsInput : {Bytes : Type 0} → (Bytes → List ℕ) → Option (Li
 ReadsInput bytes left left_after before now result =
     Gives (λ input. Consumes left left_after (bytes input) × IsAtEnd left_after × (length (bytes input) ≤ MOST_INPUT)) (λ stop. ⊥) (IsTooLong left left_after) (Rose before now) result
 
--- the system whose text the input is, or its first fault
+-- the system whose text the input is, and what follows it, or the input's first fault
 abbrev pub ReadsAlone : List ℕ → Result TileSystem Stop → Type 0
-ReadsAlone input result = Gives (IsWholeSystem input) (λ stop. ⊥) (FailsAsSystem input) ⊥ result
+ReadsAlone input result = Gives (IsWholeSystem input) (λ stop. ⊥) (FailsWithin (λ sys. nothing_more) input) ⊥ result
+
+abbrev pub ReadsWithSequence : List ℕ → Result (TileSystem × List Place) Stop → Type 0
+ReadsWithSequence input result = Gives (λ found. IsSystemThenSequence input found.0 found.1) (λ stop. ⊥) (FailsWithin sequence_format input) ⊥ result
+
+abbrev pub ReadsWithGrid : List ℕ → Result (TileSystem × TileGrid) Stop → Type 0
+ReadsWithGrid input result =
+    Gives (λ found. (places : List Place) × IsSystemThenPlacements input found.0 places × IsAssemblyOf places found.1.tiles) (λ stop. ⊥) (FailsWithin grid_format input) ⊥ result
 
 -- a command's answer to an input, or the input's first fault
-abbrev pub AnswersInput : Command → List ℕ → Result Answer Stop → Type 0
-AnswersInput command input result =
-    Gives (λ answer. Answers command input (is_yes answer) (answer_text answer) × IsPrintable answer) (λ stop. ⊥) (Fails command input) ⊥ result
+abbrev pub AnswersInput : CommandName → List ℕ → Result Answer Stop → Type 0
+AnswersInput name input result =
+    Gives (λ answer. Answers name input (is_yes answer) (answer_text answer) × IsPrintable answer) (λ stop. ⊥) (Fails name input) ⊥ result
 
 -- a command's answer to what was left of the source, or the refusal, or a fault
-abbrev pub AnswersCommand : Command → Option (List ℕ) → Option (List ℕ) → ℕ → ℕ → Result Answer Stop → Type 0
-AnswersCommand command left left_after before now result =
-    Gives (λ answer. IsCommandAnswer command left left_after (is_yes answer) (answer_text answer) × IsPrintable answer) (λ stop. ⊥)
-    (λ fault. IsTooLong left left_after fault ⊎ IsFaulty command left left_after fault) (Rose before now) result
+abbrev pub AnswersCommand : CommandName → Option (List ℕ) → Option (List ℕ) → ℕ → ℕ → Result Answer Stop → Type 0
+AnswersCommand name left left_after before now result =
+    Gives (λ answer. IsCommandAnswer name left left_after (is_yes answer) (answer_text answer) × IsPrintable answer) (λ stop. ⊥)
+    (λ fault. IsTooLong left left_after fault ⊎ IsFaulty name left left_after fault) (Rose before now) result
 
 -- the same of the command that the words name
 abbrev pub AnswersWords : List (List ℕ) → Option (List ℕ) → Option (List ℕ) → ℕ → ℕ → Result Answer Stop → Type 0
 AnswersWords words left left_after before now result =
-    Gives (λ answer. IsAnswer words left left_after (is_yes answer) (answer_text answer) × IsPrintable answer) (λ stop. command_of words ≡ Err stop)
+    Gives (λ answer. IsAnswer words left left_after (is_yes answer) (answer_text answer) × IsPrintable answer) (IsRefusedAs words)
     (λ fault. IsTextRefusal words left left_after (refused_text fault)) (Rose before now) result

@@ -1,23 +1,43 @@
 // From words and a source to an answer, all of it in memory before anything is written.
-ghost use Rattle.std.specs.Prelude.{◌≡◌, ◌≤◌, length, map, string_bytes, IsErr};
+ghost use Rattle.std.specs.Prelude.{◌≡◌, ◌≤◌, Err, length, map, string_bytes};
+ghost use Rattle.local_check.specs.declared.verdict.Verdict.{Verdict};
 ghost use Rattle.tile_io.specs.declared.whole.TheConstants.{MOST_INPUT};
-ghost use Rattle.tilebench.specs.Commands.{command_of};
+ghost use Rattle.command_line.specs.declared.command.CommandName.TheVariants as names;
+ghost use Rattle.command_line.specs.Commands.{name_of};
+ghost use Rattle.tilebench.specs.declared.stop.Stop.TheVariants as stops;
+ghost use Rattle.tilebench.specs.Commands.{IsCall};
 ghost use Rattle.tilebench.specs.AnswerText.{is_yes};
-ghost use Rattle.tilebench.specs.Stops.{ReadsInput, ReadsAlone, AnswersInput, AnswersCommand, AnswersWords};
+ghost use Rattle.tilebench.specs.GrowthText.{is_unique};
+ghost use Rattle.tilebench.specs.Stops.{ReadsInput, AnswersInput, AnswersCommand, AnswersWords};
 
 use crate::growth_order::{Growth, growth_of};
+use crate::input::{read_alone, read_with_grid, read_with_sequence};
+use crate::judgement::judgement_of;
+use crate::reordering::order_of;
 use crate::stop::Stop;
-use crate::words::{Command, command_of};
+use assembly::Sequence;
+use command_line::{Command, command_of};
+use local_check::Verdict;
+use replay_order::Legality;
 use std::alloc::Global;
-use tile_io::{Cause, Mark, ReadStop, Source, TextFault, TextStop, check_rest, read_whole};
-use tile_system::System;
-use tile_text::read_system;
+use tile_io::{Source, read_whole};
+use tile_system::{Site, System};
 
 /// What a command answers.
 #[derive(Drop)]
 pub enum Answer {
-    /// The text of a growth.
+    /// What a system grew into.
     Growth(Growth),
+    /// The verdict on a legal sequence.
+    Legal { sys: System, verdict: Verdict },
+    /// What breaks legality first.
+    Breach(Legality),
+    /// An assembly in canonical order.
+    Order { sys: System, order: Sequence },
+    /// The site of a seed that an assembly lacks.
+    SeedMissing(Site),
+    /// How many tiles of an assembly can't be reached from the seeds, and the least site of theirs.
+    Stuck { left: u32, least: Site },
     /// The printed spelling of a system.
     Spelling(System),
 }
@@ -28,23 +48,30 @@ impl Answer {
         ensures { result ≡ is_yes self.now }
     {
         match self {
-            Answer::Growth(growth) => growth.outside.is_none(),
-            Answer::Spelling(_) => true,
+            Answer::Growth(growth) => is_unique(growth.verdict),
+            Answer::Legal { verdict, .. } => is_unique(*verdict),
+            Answer::Breach(_) | Answer::SeedMissing(_) | Answer::Stuck { .. } => false,
+            Answer::Order { .. } | Answer::Spelling(_) => true,
         }
     }
+}
+
+// Whether a verdict is a yes.
+fn is_unique(verdict: Verdict) -> bool
+    ensures { result ≡ is_unique verdict }
+{
+    matches!(verdict, Verdict::Yes)
 }
 
 /// The answer that the words and the source call for.
 pub fn answer_to<S: Source>(alloc: Global, words: &[String], source: &mut S) -> Result<Answer, Stop>
     ensures answer { AnswersWords (map string_bytes words.now) (S.left source.old) (S.left source.new)
         (S.faults source.old) (S.faults source.new) result }
-    ensures unread { IsErr (command_of (map string_bytes words.now)) → source.new ≡ source.old }
+    ensures unread { ¬ IsCall (map string_bytes words.now) → source.new ≡ source.old }
     ensures later { S.faults source.old ≤ S.faults source.new }
 {
-    match command_of(words) {
-        Ok(command) => command_answer(alloc, command, source),
-        Err(stop) => Err(Stop::Words(stop)),
-    }
+    let command = command_of(alloc, words)?;
+    command_answer(alloc, command, source)
 }
 
 // The answer of a command to what is left of the source.
@@ -53,14 +80,11 @@ fn command_answer<S: Source>(
     command: Command,
     source: &mut S,
 ) -> Result<Answer, Stop>
-    ensures answer { AnswersCommand command (S.left source.old) (S.left source.new)
+    ensures answer { AnswersCommand (name_of command) (S.left source.old) (S.left source.new)
         (S.faults source.old) (S.faults source.new) result }
     ensures later { S.faults source.old ≤ S.faults source.new }
 {
-    let input = match read_input(alloc, source) {
-        Ok(input) => input,
-        Err(stop) => return Err(stop),
-    };
+    let input = read_input(alloc, source)?;
     input_answer(alloc, command, &input)
 }
 
@@ -70,47 +94,45 @@ fn read_input<S: Source>(alloc: Global, source: &mut S) -> Result<Vec<u8>, Stop>
         (S.faults source.old) (S.faults source.new) result }
     ensures later { S.faults source.old ≤ S.faults source.new }
 {
-    match read_whole(alloc, source) {
-        Ok(input) => Ok(input),
-        Err(ReadStop::Failed) => Err(Stop::ReadFault),
-        Err(ReadStop::TooLong) => Err(Stop::Text(TextFault {
-            line: 0,
-            cause: Cause::TooLong,
-        })),
-        Err(ReadStop::NoMemory) => Err(Stop::NoMemory),
-    }
+    Ok(read_whole(alloc, source)?)
 }
 
 // The answer of a command to an input.
 fn input_answer(alloc: Global, command: Command, input: &[u8]) -> Result<Answer, Stop>
     requires { length input.now ≤ MOST_INPUT }
-    ensures { AnswersInput command input.now result }
+    ensures { AnswersInput (name_of command) input.now result }
 {
-    let sys = match read_alone(alloc, input) {
-        Ok(sys) => sys,
-        Err(stop) => return Err(stop),
-    };
     match command {
-        Command::Grow => match growth_of(alloc, sys) {
-            Ok(growth) => Ok(Answer::Growth(growth)),
-            Err(_) => Err(Stop::NoMemory),
-        },
-        Command::Format => Ok(Answer::Spelling(sys)),
+        Command::Grow { choice } => growth_answer(alloc, input, choice),
+        Command::Check => check_answer(alloc, input),
+        Command::Replay => replay_answer(alloc, input),
+        Command::Format => Ok(Answer::Spelling(read_alone(alloc, input)?)),
     }
 }
 
-// The system whose text the input is.
-fn read_alone(alloc: Global, input: &[u8]) -> Result<System, Stop>
+// The answer of `grow`.
+fn growth_answer(alloc: Global, input: &[u8], choice: u64) -> Result<Answer, Stop>
     requires { length input.now ≤ MOST_INPUT }
-    ensures { ReadsAlone input.now result }
+    ensures { AnswersInput names.Grow input.now result }
 {
-    let (sys, end) = match read_system(alloc, input, Mark::start()) {
-        Ok(found) => found,
-        Err(TextStop::Fault(fault)) => return Err(Stop::Text(fault)),
-        Err(TextStop::NoMemory) => return Err(Stop::NoMemory),
-    };
-    match check_rest(input, end) {
-        Ok(()) => Ok(sys),
-        Err(fault) => Err(Stop::Text(fault)),
-    }
+    let sys = read_alone(alloc, input)?;
+    Ok(Answer::Growth(growth_of(alloc, sys, choice)?))
+}
+
+// The answer of `check`.
+fn check_answer(alloc: Global, input: &[u8]) -> Result<Answer, Stop>
+    requires { length input.now ≤ MOST_INPUT }
+    ensures { AnswersInput names.Check input.now result }
+{
+    let (sys, sequence) = read_with_sequence(alloc, input)?;
+    Ok(judgement_of(alloc, sys, &sequence)?)
+}
+
+// The answer of `replay`.
+fn replay_answer(alloc: Global, input: &[u8]) -> Result<Answer, Stop>
+    requires { length input.now ≤ MOST_INPUT }
+    ensures { AnswersInput names.Replay input.now result }
+{
+    let (sys, grid) = read_with_grid(alloc, input)?;
+    Ok(order_of(alloc, sys, &grid)?)
 }

@@ -1,5 +1,5 @@
-// Growth on one thread, over a grid, in time that grows with the number of sites.
-ghost use Rattle.std.specs.Prelude.{◌≡◌, ◌<◌, [], ◌∷◌, ◌++◌, None, All, Contains, OnOk, IfOk};
+// Growth on one thread, over a grid.
+ghost use Rattle.std.specs.Prelude.{◌≡◌, ◌<◌, ◌≤◌, [], ◌∷◌, ◌++◌, length, None, All, Contains, OnOk, IfOk};
 ghost use Rattle.atam.specs.declared.site.Site.{Site};
 ghost use Rattle.atam.specs.Sites.{InBox, IsBox, IsNearSite};
 ghost use Rattle.atam.specs.Placements.{tile_at};
@@ -7,8 +7,9 @@ ghost use Rattle.atam.specs.Assembly.{Fits};
 ghost use Rattle.atam.specs.Growth.{IsClosedInBox, IsLegal};
 ghost use Rattle.tilebench.specs.GridGrowing.{IsInStep, IsGrownSoFar, IsClosedBut, AddsSite, AddsNeighbors, LooksAt};
 
+use crate::picker::Picker;
 use assembly::{Grid, Sequence, site_of_index};
-use attach_rule::first_type;
+use frontier_seat::Chooser;
 use std::alloc::Global;
 use tile_system::{BoxArea, NoMemory, Place, Side, Site, System};
 
@@ -86,21 +87,24 @@ fn list_neighbors(area: BoxArea, site: Site, sites: &mut Vec<Site>) -> Result<()
     list_site(area, site.step(Side::West), sites)
 }
 
-// Places the first type that attaches at the site, if there is one.
-fn look(
+// Places one of the types that attach at the site, if there are any.
+fn look<C: Chooser + Drop>(
     sys: &System,
+    picker: &mut Picker<C>,
     growth: &mut GridGrowth,
     site: Site,
     sites: &mut Vec<Site>,
 ) -> Result<(), NoMemory>
+    requires room { length sys.now.types ≤ picker.old.found.room }
     requires grown { IsGrownSoFar sys.now growth.old }
     requires site { InBox sys.now.area site }
     requires inside { All (InBox sys.now.area) sites.old.items }
     requires closed { IsClosedBut sys.now growth.old.sequence (sites.old.items ++ site ∷ []) }
-    ensures { OnOk result (LooksAt sys.now growth.old growth.new sites.old.items sites.new.items) }
+    ensures looked { OnOk result (LooksAt sys.now growth.old growth.new sites.old.items sites.new.items) }
+    ensures room { picker.new.found.room ≡ picker.old.found.room }
 {
     let area = sys.area();
-    match first_type(sys, &growth.grid, site) {
+    match picker.pick(sys, &growth.grid, site) {
         Some(tile) => {
             growth.add(Place { site, tile })?;
             list_neighbors(area, site, sites)
@@ -109,18 +113,24 @@ fn look(
     }
 }
 
-/// Adds tiles, each of the first type that attaches at its site, until none attaches in the box.
-pub(crate) fn grow_grid(alloc: Global, sys: &System) -> Result<GridGrowth, NoMemory>
+/// Adds tiles, each of a type that is picked among those that attach at its site, until none
+/// attaches in the box.
+pub(crate) fn grow_grid<C: Chooser + Drop>(
+    alloc: Global,
+    sys: &System,
+    chooser: C,
+) -> Result<GridGrowth, NoMemory>
     ensures legal { IfOk result (λ growth. IsLegal sys.now growth.sequence) }
     ensures fits { IfOk result (λ growth. Fits sys.now growth.sequence) }
     ensures closed { IfOk result (λ growth. IsClosedInBox sys.now growth.sequence) }
     ensures area { IfOk result (λ growth. growth.grid.area ≡ sys.now.area) }
     ensures step { IfOk result IsInStep }
 {
+    let mut picker = Picker::make(alloc, sys, chooser)?;
     let mut growth = start_grid(alloc, sys)?;
     let mut sites = all_sites(alloc, sys.area())?;
     while let Some(site) = sites.pop() {
-        look(sys, &mut growth, site, &mut sites)?;
+        look(sys, &mut picker, &mut growth, site, &mut sites)?;
     }
     Ok(growth)
 }

@@ -1,7 +1,8 @@
 // What a system grows into, in canonical order.
 ghost use Rattle.std.specs.Prelude.{◌≡◌, IfOk};
+ghost use Rattle.atam.specs.Placements.{HasDistinctSites};
 ghost use Rattle.atam.specs.Assembly.{Fits};
-ghost use Rattle.atam.specs.Growth.{IsProducible};
+ghost use Rattle.atam.specs.Growth.{IsLegal, IsProducible};
 ghost use Rattle.atam.specs.Canonical.{IsCanonical};
 ghost use Rattle.tilebench.specs.AnswerText.{IsGrownFrom};
 ghost use Rattle.tilebench.specs.GrowthText.{IsFullGrowth};
@@ -9,39 +10,48 @@ ghost use Rattle.tilebench.specs.GrowthText.{IsFullGrowth};
 use crate::grid_growth::{GridGrowth, grow_grid};
 use assembly::{Grid, Sequence};
 use attach_rule::least_open_outside;
+use frontier_seat::RngChooser;
+use local_check::{Verdict, inputs, judge};
+use rand_pcg::Lcg64Xsh32;
 use replay_order::{ReplayStop, replay};
 use std::alloc::Global;
 use tile_system::{NoMemory, Site, System, TypeId};
 
-/// What a system grew into: its tiles in canonical order, and what is open outside its box.
+/// What a system grew into: its tiles in canonical order, what is open outside its box, and the
+/// verdict on this order.
 #[derive(Drop)]
 pub struct Growth {
     pub sys: System,
     pub order: Sequence,
     pub outside: Option<(Site, TypeId)>,
+    pub verdict: Verdict,
 }
 
-/// Grows a system within its box.
-pub fn growth_of(alloc: Global, sys: System) -> Result<Growth, NoMemory>
+/// Grows a system within its box, at each site with the type that the choice picks.
+pub fn growth_of(alloc: Global, sys: System, choice: u64) -> Result<Growth, NoMemory>
     ensures { IfOk result (IsGrownFrom sys) }
 {
-    let grid = grown_grid(alloc, &sys)?;
+    let grid = grown_grid(alloc, &sys, choice)?;
     let outside = least_open_outside(&sys, &grid);
     let order = canonical_order(alloc, &sys, &grid)?;
+    let sides = inputs(alloc, &sys, &order)?;
+    let verdict = judge(&sys, &order, &sides);
     Ok(Growth {
         sys,
         order,
         outside,
+        verdict,
     })
 }
 
-// The grid of a full growth.
-fn grown_grid(alloc: Global, sys: &System) -> Result<Grid, NoMemory>
+// The grid of a full growth, whose types are picked by the random number generator of the choice.
+fn grown_grid(alloc: Global, sys: &System, choice: u64) -> Result<Grid, NoMemory>
     ensures area { IfOk result (λ grid. grid.area ≡ sys.now.area) }
     ensures full { IfOk result (λ grid. IsFullGrowth sys.now grid.tiles) }
     ensures fits { IfOk result (λ grid. Fits sys.now grid.tiles) }
 {
-    let growth = grow_grid(alloc, sys)?;
+    let chooser = RngChooser::make(Lcg64Xsh32::new(choice, 0));
+    let growth = grow_grid(alloc, sys, chooser)?;
     let GridGrowth { sequence: _, grid } = growth;
     let _area = grid.area();
     Ok(grid)
@@ -53,6 +63,8 @@ fn canonical_order(alloc: Global, sys: &System, grid: &Grid) -> Result<Sequence,
     requires fits { Fits sys.now grid.now.tiles }
     requires producible { IsProducible sys.now grid.now.tiles }
     ensures canonical { IfOk result (IsCanonical sys.now grid.now.tiles) }
+    ensures legal { IfOk result (IsLegal sys.now) }
+    ensures seeds { HasDistinctSites sys.now.seeds }
     ensures fits { IfOk result (Fits sys.now) }
 {
     let _seeds = sys.seeds();

@@ -4,16 +4,22 @@
 mod answer;
 mod grid_growth;
 mod growth_order;
+mod input;
+mod judgement;
 #[cfg(test)]
 mod list_growth;
+mod picker;
 #[cfg(test)]
 mod place_list;
+mod printing;
+mod reordering;
 mod status;
 mod stop;
 #[cfg(test)]
+mod systems;
+#[cfg(test)]
 mod tests;
 mod top;
-mod words;
 
 pub use status::{Ran, Status};
 use std::env;

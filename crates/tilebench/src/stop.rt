@@ -1,8 +1,7 @@
 // Why there is no answer.
-use crate::words::WordsStop;
-use std::alloc::{AllocError, AllocFailed};
+use command_line::WordsStop;
 use thiserror::Error;
-use tile_io::{TextFault, TextStop};
+use tile_io::{Cause, ReadStop, TextFault, TextStop};
 use tile_system::NoMemory;
 
 /// Why a command has no answer.
@@ -16,4 +15,72 @@ pub enum Stop {
     ReadFault,
     #[error("memory was wanting")]
     NoMemory,
+}
+
+impl From<WordsStop> for Stop {
+    ghost use Rattle.std.specs.Prelude.{◌≡◌};
+    ghost use Rattle.tilebench.specs.Causes.{stop_of_words};
+
+    ghost from_gives = { λ words stop. stop ≡ stop_of_words words };
+
+    fn from(words: WordsStop) -> Stop {
+        match words {
+            WordsStop::NoMemory => Stop::NoMemory,
+            refusal => Stop::Words(refusal),
+        }
+    }
+}
+
+impl From<ReadStop> for Stop {
+    ghost use Rattle.std.specs.Prelude.{◌≡◌};
+    ghost use Rattle.tilebench.specs.Causes.{stop_of_read};
+
+    ghost from_gives = { λ read stop. stop ≡ stop_of_read read };
+
+    fn from(read: ReadStop) -> Stop {
+        match read {
+            ReadStop::Failed => Stop::ReadFault,
+            ReadStop::TooLong => Stop::Text(TextFault {
+                line: 0,
+                cause: Cause::TooLong,
+            }),
+            ReadStop::NoMemory => Stop::NoMemory,
+        }
+    }
+}
+
+impl From<TextStop> for Stop {
+    ghost use Rattle.std.specs.Prelude.{◌≡◌};
+    ghost use Rattle.tilebench.specs.Causes.{stop_of_text};
+
+    ghost from_gives = { λ text stop. stop ≡ stop_of_text text };
+
+    fn from(text: TextStop) -> Stop {
+        match text {
+            TextStop::Fault(fault) => Stop::Text(fault),
+            TextStop::NoMemory => Stop::NoMemory,
+        }
+    }
+}
+
+impl From<TextFault> for Stop {
+    ghost use Rattle.std.specs.Prelude.{◌≡◌};
+    ghost use Rattle.tilebench.specs.declared.stop.Stop.TheVariants.{Text};
+
+    ghost from_gives = { λ fault stop. stop ≡ Text fault };
+
+    fn from(fault: TextFault) -> Stop {
+        Stop::Text(fault)
+    }
+}
+
+impl From<NoMemory> for Stop {
+    ghost use Rattle.std.specs.Prelude.{◌≡◌};
+    ghost use Rattle.tilebench.specs.declared.stop.Stop.TheVariants.{NoMemory as OutOfMemory};
+
+    ghost from_gives = { λ _ stop. stop ≡ OutOfMemory };
+
+    fn from(_: NoMemory) -> Stop {
+        Stop::NoMemory
+    }
 }

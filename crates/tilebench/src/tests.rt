@@ -2,22 +2,17 @@
 ghost use Rattle.std.specs.Prelude.{◌≤◌};
 
 use crate::grid_growth::grow_grid;
+use crate::systems::{
+    CHAIN, COUNTER, FLIPPER, FULL, LIMITS, MISMATCH, NULL_GLUES, RIVALS, SIERPINSKI, SINGLE, SQUARE,
+};
 use crate::{Status, list_growth, tilebench};
+use frontier_seat::First;
 use std::alloc::Global;
 use std::test::Fail;
 use std::thread::Threads;
 use tile_io::{Mark, MemorySink, MemorySource, OpenGate};
 use tile_system::{Placed, System};
 use tile_text::read_system;
-
-const CHAIN: &str = "tiles 1\ntau 2\nglue a 2\nglue b 2\ntile S - a - -\ntile B - b - a\n\
-    tile C - - - b\nbox 0 0 2 0\nseed 0 0 S\nend\n";
-
-const SIERPINSKI: &str = "tiles 1\ntau 2\nglue 0 1\nglue 1 1\nglue h 2\nglue v 2\n\
-    tile S v h - -\ntile B 1 h - h\ntile L v 1 v -\ntile r00 0 0 0 0\ntile r01 1 1 1 0\n\
-    tile r10 1 1 0 1\ntile r11 0 0 1 1\nbox 0 0 7 7\nseed 0 0 S\nend\n";
-
-const SINGLE: &str = "tiles 1\ntau 1\ntile S - - - -\nbox 0 0 0 0\nseed 0 0 S\nend\n";
 
 // How a run ended, and what its sinks hold.
 #[derive(Drop)]
@@ -77,61 +72,292 @@ fn grown<R: Threads + Sync>(rt: &R, alloc: Global, text: &str) -> Result<Outcome
 #[test]
 fn grows_worked_examples(rt: HostRuntime) -> Result<(), Fail> {
     for (text, status, out) in [
-        (SINGLE, Status::Done, "place 0 0 S\nclosed terminal\n"),
+        (
+            SINGLE,
+            Status::Done,
+            "place 0 0 S\nclosed terminal\nunique yes\n",
+        ),
         (
             CHAIN,
             Status::Done,
-            "place 0 0 S\nplace 1 0 B\nplace 2 0 C\nclosed terminal\n",
+            "place 0 0 S\nplace 1 0 B\nplace 2 0 C\nclosed terminal\nunique yes\n",
         ),
         // the box ends before C
         (
             "tiles 1\ntau 2\nglue a 2\nglue b 2\ntile S - a - -\ntile B - b - a\n\
              tile C - - - b\nbox 0 0 1 0\nseed 0 0 S\nend\n",
             Status::No,
-            "place 0 0 S\nplace 1 0 B\nclosed clipped 2 0 C\n",
+            "place 0 0 S\nplace 1 0 B\nclosed clipped 2 0 C\nunique no 3 2 0 C\n",
         ),
-        // the first of two rivals
         (
-            "tiles 1\ntau 1\nglue a 1\ntile S - a - -\ntile A - - - a\ntile B - - - a\n\
-             box 0 0 1 0\nseed 0 0 S\nend\n",
+            SQUARE,
+            Status::No,
+            "place 0 0 S\nplace 1 0 E\nplace 0 1 N\nplace 1 1 C\nclosed terminal\n\
+             unique no 1 1 1 2\n",
+        ),
+        (
+            NULL_GLUES,
             Status::Done,
-            "place 0 0 S\nplace 1 0 A\nclosed terminal\n",
+            "place 0 0 S\nclosed terminal\nunique yes\n",
         ),
-        // null beside null, and equal glues of strength 0
         (
-            "tiles 1\ntau 1\nglue z 0\ntile S - z - -\ntile A - - - z\ntile B - - - -\n\
-             box 0 0 1 0\nseed 0 0 S\nend\n",
+            LIMITS,
             Status::Done,
-            "place 0 0 S\nclosed terminal\n",
+            "place 0 0 S\nclosed terminal\nunique yes\n",
         ),
-        // the strongest glue at the highest temperature
         (
-            "tiles 1\ntau 1000\nglue a 250\ntile S - a - -\ntile A - - - a\n\
-             box 0 0 1 0\nseed 0 0 S\nend\n",
-            Status::Done,
-            "place 0 0 S\nclosed terminal\n",
-        ),
-        // T mismatches R's side, and is held by two others
-        (
-            "tiles 1\ntau 2\nglue a 2\nglue c 2\nglue p 2\nglue q 2\nglue u 1\nglue w 1\n\
-             glue n 1\nglue m 1\ntile S p a - -\ntile B u c - a\ntile D q - - c\n\
-             tile L - w p -\ntile T - n u w\ntile R - - q m\nbox 0 0 2 1\nseed 0 0 S\nend\n",
+            MISMATCH,
             Status::Done,
             "place 0 0 S\nplace 1 0 B\nplace 2 0 D\nplace 0 1 L\nplace 1 1 T\nplace 2 1 R\n\
-             closed terminal\n",
+             closed terminal\nunique yes\n",
+        ),
+        (
+            COUNTER,
+            Status::Done,
+            "place 0 0 t:0\nplace 1 0 t:1\nplace 1 1 ie:0\nplace 0 1 iw:00\nplace 0 2 cw:0\n\
+             place 1 2 ce:1\nplace 1 3 ie:1\nplace 0 3 iw:01\nplace 0 4 cw:1\nplace 1 4 ce:0\n\
+             place 1 5 ie:0\nplace 0 5 iw:10\nplace 0 6 cw:1\nplace 1 6 ce:1\nplace 1 7 ie:1\n\
+             place 0 7 iw:11\nclosed terminal\nunique yes\n",
+        ),
+        (
+            FLIPPER,
+            Status::Done,
+            "place 0 0 t:0\nplace 1 0 t:1\nplace 2 0 t:2\nplace 0 1 a:F:1\nplace 1 1 R:F:0\n\
+             place 2 1 r:1\nplace 1 2 a:F:0\nplace 0 2 l:0\nplace 2 2 R:F:1\nplace 2 3 a:F:1\n\
+             place 1 3 l:1\nplace 0 3 l:0\nclosed terminal\nunique yes\n",
         ),
         // a seed in the middle of a box with negative corners
         (
             "tiles 1\ntau 1\nglue a 1\nglue b 1\ntile S - a - b\ntile A - - - a\n\
              tile B - b - -\nbox -3 -7 -1 -7\nseed -2 -7 S\nend\n",
             Status::Done,
-            "place -2 -7 S\nplace -3 -7 B\nplace -1 -7 A\nclosed terminal\n",
+            "place -2 -7 S\nplace -3 -7 B\nplace -1 -7 A\nclosed terminal\nunique yes\n",
         ),
     ] {
         let ran = grown(&rt, rt.alloc(), text)?;
         assert_eq!(rt; ran.status, status, "{text}");
         assert_eq!(rt; ran.out.as_slice(), out.as_bytes(), "{text}");
         assert_eq!(rt; ran.err.len(), 0, "{text}");
+    }
+    Ok(())
+}
+
+// Runs `grow` with a choice.
+fn chosen<R: Threads + Sync>(
+    rt: &R,
+    alloc: Global,
+    text: &str,
+    choice: &str,
+) -> Result<Outcome, Fail> {
+    let failures = Failures {
+        source: NEVER,
+        out: NEVER,
+        err: NEVER,
+    };
+    run(
+        rt,
+        alloc,
+        &["grow", "--choice", choice],
+        text,
+        4096,
+        failures,
+    )
+}
+
+// Each choice takes one of two rivals, and both are taken.
+#[test]
+fn takes_one_of_two_rivals(rt: HostRuntime) -> Result<(), Fail> {
+    let first = b"place 0 0 S\nplace 1 0 A\nclosed terminal\nunique no 2 1 0 B\n";
+    let second = b"place 0 0 S\nplace 1 0 B\nclosed terminal\nunique no 2 1 0 A\n";
+    let mut took_first = false;
+    let mut took_second = false;
+    for choice in 0..64u32 {
+        let alloc = rt.alloc();
+        let word = format!(in alloc; "{choice}")?;
+        let ran = chosen(&rt, alloc, RIVALS, word.as_str())?;
+        assert_eq!(rt; ran.status, Status::No, "{choice}");
+        if ran.out.as_slice() == first.as_slice() {
+            took_first = true;
+        } else {
+            assert_eq!(rt; ran.out.as_slice(), second.as_slice(), "{choice}");
+            took_second = true;
+        }
+    }
+    assert!(rt; took_first && took_second);
+    Ok(())
+}
+
+// A yes has the same bytes at every choice.
+#[test]
+fn prints_the_same_at_every_choice(rt: HostRuntime) -> Result<(), Fail> {
+    let alloc = rt.alloc();
+    let without = grown(&rt, alloc, COUNTER)?;
+    for choice in ["0", "1", "18446744073709551615"] {
+        let ran = chosen(&rt, alloc, COUNTER, choice)?;
+        assert_eq!(rt; ran.status, Status::Done, "{choice}");
+        assert_eq!(rt; ran.out.as_slice(), without.out.as_slice(), "{choice}");
+    }
+    Ok(())
+}
+
+// A command on the text of a system and a growth text behind it.
+fn answered<R: Threads + Sync>(
+    rt: &R,
+    alloc: Global,
+    command: &str,
+    system: &str,
+    growth: &str,
+) -> Result<Outcome, Fail> {
+    let text = format!(in alloc; "{system}{growth}")?;
+    let failures = Failures {
+        source: NEVER,
+        out: NEVER,
+        err: NEVER,
+    };
+    run(rt, alloc, &[command], text.as_str(), 4096, failures)
+}
+
+#[test]
+fn judges_sequences(rt: HostRuntime) -> Result<(), Fail> {
+    for (system, growth, status, out) in [
+        (
+            CHAIN,
+            "place 0 0 S\nplace 1 0 B\nplace 2 0 C\n",
+            Status::Done,
+            "legal yes\nunique yes\n",
+        ),
+        (
+            CHAIN,
+            "place 0 0 S\nplace 1 0 B\nplace 2 0 C\nclosed terminal\nunique yes\n",
+            Status::Done,
+            "legal yes\nunique yes\n",
+        ),
+        (
+            CHAIN,
+            "place 0 0 S\nplace 1 0 B\n",
+            Status::No,
+            "legal yes\nunique no 3 2 0 C\n",
+        ),
+        (
+            CHAIN,
+            "place 0 0 S\nplace 1 0 B\nplace 2 0 C\nplace 1 0 B\n",
+            Status::No,
+            "legal no 2 3\n",
+        ),
+        (CHAIN, "place 1 0 B\n", Status::No, "legal no 1\n"),
+        (CHAIN, "", Status::No, "legal no 1\n"),
+        (
+            MISMATCH,
+            "place 0 0 S\nplace 1 0 B\nplace 1 1 T\n",
+            Status::No,
+            "legal no 3 2 1\n",
+        ),
+        // the mismatch is there as T attaches
+        (
+            MISMATCH,
+            "place 0 0 S\nplace 1 0 B\nplace 2 0 D\nplace 0 1 L\nplace 2 1 R\nplace 1 1 T\n",
+            Status::Done,
+            "legal yes\nunique yes\n",
+        ),
+        (
+            RIVALS,
+            "place 0 0 S\nplace 1 0 B\n",
+            Status::No,
+            "legal yes\nunique no 2 1 0 A\n",
+        ),
+    ] {
+        let ran = answered(&rt, rt.alloc(), "check", system, growth)?;
+        assert_eq!(rt; ran.status, status, "{growth}");
+        assert_eq!(rt; ran.out.as_slice(), out.as_bytes(), "{growth}");
+        assert_eq!(rt; ran.err.len(), 0, "{growth}");
+    }
+    Ok(())
+}
+
+#[test]
+fn puts_grids_in_order(rt: HostRuntime) -> Result<(), Fail> {
+    for (system, growth, status, out) in [
+        (
+            MISMATCH,
+            "place 2 1 R\nplace 1 1 T\nplace 0 1 L\nplace 2 0 D\nplace 1 0 B\nplace 0 0 S\n",
+            Status::Done,
+            "place 0 0 S\nplace 1 0 B\nplace 2 0 D\nplace 0 1 L\nplace 1 1 T\nplace 2 1 R\n",
+        ),
+        (
+            MISMATCH,
+            "place 0 0 S\nplace 2 0 D\nplace 2 1 R\n",
+            Status::No,
+            "stuck 2 2 0\n",
+        ),
+        (MISMATCH, "place 1 0 B\n", Status::No, "stuck seed 0 0\n"),
+        (
+            FULL,
+            "place 0 0 T\nplace 5 5 T\n",
+            Status::No,
+            "stuck 1 5 5\n",
+        ),
+    ] {
+        let ran = answered(&rt, rt.alloc(), "replay", system, growth)?;
+        assert_eq!(rt; ran.status, status, "{growth}");
+        assert_eq!(rt; ran.out.as_slice(), out.as_bytes(), "{growth}");
+        assert_eq!(rt; ran.err.len(), 0, "{growth}");
+    }
+    Ok(())
+}
+
+#[test]
+fn refuses_growth_texts(rt: HostRuntime) -> Result<(), Fail> {
+    for (command, growth, err) in [
+        (
+            "replay",
+            "place 0 0 S\nplace 0 0 S\n",
+            "refused text line 12 DoubleSite\n",
+        ),
+        (
+            "replay",
+            "place 3 0 C\n",
+            "refused text line 11 OutsideBox\n",
+        ),
+        (
+            "check",
+            "place 3 0 C\n",
+            "refused text line 11 OutsideBox\n",
+        ),
+        (
+            "replay",
+            "place 0 0 S\nplace 1 0",
+            "refused text line 12 NoEnd\n",
+        ),
+        ("grow", "place 0 0 S\n", "refused text line 11 AfterEnd\n"),
+        ("format", "tau 1\n", "refused text line 11 AfterEnd\n"),
+    ] {
+        let ran = answered(&rt, rt.alloc(), command, CHAIN, growth)?;
+        assert_eq!(rt; ran.status, Status::Text, "{growth}");
+        assert_eq!(rt; ran.err.as_slice(), err.as_bytes(), "{growth}");
+        assert_eq!(rt; ran.out.len(), 0, "{growth}");
+    }
+    Ok(())
+}
+
+// What `grow` prints is accepted behind its own system text, and put in order as it is.
+#[test]
+fn reads_what_it_prints(rt: HostRuntime) -> Result<(), Fail> {
+    for system in [CHAIN, RIVALS, SIERPINSKI, MISMATCH, COUNTER, FULL] {
+        let alloc = rt.alloc();
+        let grown = grown(&rt, alloc, system)?;
+        let Ok(growth) = str::from_utf8(&grown.out) else {
+            return Err("not text").map_err(Fail::from);
+        };
+        let checked = answered(&rt, alloc, "check", system, growth)?;
+        assert_eq!(rt; checked.status, grown.status, "{system}");
+        let ordered = answered(&rt, alloc, "replay", system, growth)?;
+        assert_eq!(rt; ordered.status, Status::Done, "{system}");
+        assert!(rt; growth.as_bytes().starts_with(&ordered.out), "{system}");
+        let Ok(order) = str::from_utf8(&ordered.out) else {
+            return Err("not text").map_err(Fail::from);
+        };
+        let again = answered(&rt, alloc, "replay", system, order)?;
+        assert_eq!(rt; again.out.as_slice(), order.as_bytes(), "{system}");
     }
     Ok(())
 }
@@ -153,7 +379,7 @@ fn names_the_least_open_site_outside(rt: HostRuntime) -> Result<(), Fail> {
             "tiles 1\ntau 1\nglue n 1\nglue e 1\nglue s 1\nglue w 1\n\
             tile O {sides}\ntile N - - n -\ntile E - - - e\ntile S s - - -\ntile W - w - -\nbox 0 0 0 0\nseed 0 0 O\nend\n"
         )?;
-        let out = format!(in alloc; "place 0 0 O\nclosed clipped {open}\n")?;
+        let out = format!(in alloc; "place 0 0 O\nclosed clipped {open}\nunique no 3 {open}\n")?;
         let ran = grown(&rt, rt.alloc(), text.as_str())?;
         assert_eq!(rt; ran.status, Status::No, "{sides}");
         assert_eq!(rt; ran.out.as_slice(), out.as_bytes(), "{sides}");
@@ -179,7 +405,7 @@ fn grows_the_same_over_a_list(rt: HostRuntime) -> Result<(), Fail> {
         let alloc = rt.alloc();
         let sys = system_of(alloc, text)?;
         let list = list_growth::grow(&sys, alloc)?;
-        let growth = grow_grid(alloc, &sys)?;
+        let growth = grow_grid(alloc, &sys, First)?;
         assert_eq!(rt; list.places().len(), growth.grid.count() as usize, "{text}");
         for place in list.places() {
             assert_eq!(rt; growth.grid.at(place.site), Some(place.tile), "{text}");
@@ -221,7 +447,7 @@ fn grows_the_sierpinski_triangle(rt: HostRuntime) -> Result<(), Fail> {
             out.push_str(line.as_str())?;
         }
     }
-    out.push_str("closed clipped 8 0 B\n")?;
+    out.push_str("closed clipped 8 0 B\nunique no 3 8 0 B\n")?;
     let ran = grown(&rt, alloc, SIERPINSKI)?;
     assert_eq!(rt; ran.status, Status::No);
     assert_eq!(rt; ran.out.as_slice(), out.as_bytes());
@@ -239,9 +465,8 @@ fn fills_a_box(rt: HostRuntime) -> Result<(), Fail> {
             out.push_str(line.as_str())?;
         }
     }
-    out.push_str("closed clipped 0 -1 T\n")?;
-    let text = "tiles 1\ntau 1\nglue a 1\ntile T a a a a\nbox 0 0 63 63\nseed 0 0 T\nend\n";
-    let ran = grown(&rt, rt.alloc(), text)?;
+    out.push_str("closed clipped 0 -1 T\nunique no 1 1 1 2\n")?;
+    let ran = grown(&rt, rt.alloc(), FULL)?;
     assert_eq!(rt; ran.status, Status::No);
     assert_eq!(rt; ran.out.as_slice(), out.as_bytes());
     Ok(())
@@ -262,8 +487,87 @@ fn refuses_words_and_texts(rt: HostRuntime) -> Result<(), Fail> {
             Status::Words,
             "refused words NoCommand\n",
         ),
+        (&[""][..], CHAIN, Status::Words, "refused words NoCommand\n"),
+        (
+            &["grow "][..],
+            CHAIN,
+            Status::Words,
+            "refused words NoCommand\n",
+        ),
+        (
+            &["--help"][..],
+            CHAIN,
+            Status::Words,
+            "refused words NoCommand\n",
+        ),
+        (
+            &["--version"][..],
+            CHAIN,
+            Status::Words,
+            "refused words NoCommand\n",
+        ),
+        (
+            &["-h"][..],
+            CHAIN,
+            Status::Words,
+            "refused words NoCommand\n",
+        ),
         (
             &["grow", "x"][..],
+            CHAIN,
+            Status::Words,
+            "refused words Usage\n",
+        ),
+        (
+            &["check", "x"][..],
+            CHAIN,
+            Status::Words,
+            "refused words Usage\n",
+        ),
+        (
+            &["replay", ""][..],
+            CHAIN,
+            Status::Words,
+            "refused words Usage\n",
+        ),
+        (
+            &["format", "--help"][..],
+            CHAIN,
+            Status::Words,
+            "refused words Usage\n",
+        ),
+        (
+            &["grow", "-h"][..],
+            CHAIN,
+            Status::Words,
+            "refused words Usage\n",
+        ),
+        (
+            &["grow", "--version"][..],
+            CHAIN,
+            Status::Words,
+            "refused words Usage\n",
+        ),
+        (
+            &["grow", "--choice"][..],
+            CHAIN,
+            Status::Words,
+            "refused words Usage\n",
+        ),
+        (
+            &["grow", "--choice", "18446744073709551616"][..],
+            CHAIN,
+            Status::Words,
+            "refused words Usage\n",
+        ),
+        (
+            &["check", "--choice", "1"][..],
+            CHAIN,
+            Status::Words,
+            "refused words Usage\n",
+        ),
+        (
+            &["grow", "--workers", "2"][..],
             CHAIN,
             Status::Words,
             "refused words Usage\n",
@@ -402,7 +706,7 @@ fn prints_the_one_spelling(rt: HostRuntime) -> Result<(), Fail> {
 // Where one call of the source fails there is no answer, and where one of the sink fails a front of it.
 #[test]
 fn tells_the_fault_of_each_call(rt: HostRuntime) -> Result<(), Fail> {
-    let whole = b"place 0 0 S\nclosed terminal\n";
+    let whole = b"place 0 0 S\nclosed terminal\nunique yes\n";
     for call in 0..57u32 {
         let failures = Failures {
             source: call,
@@ -436,11 +740,12 @@ fn tells_faults(rt: HostRuntime) -> Result<(), Fail> {
             NEVER,
             NEVER,
             Status::Done,
-            "place 0 0 S\nclosed terminal\n",
+            "place 0 0 S\nclosed terminal\nunique yes\n",
         ),
         (&["grow"][..], NEVER, 1, NEVER, Status::WriteFault, "p"),
         (&["grow"][..], 1, NEVER, NEVER, Status::ReadFault, ""),
         (&[][..], NEVER, NEVER, 0, Status::WriteFault, ""),
+        (&["grow", "x"][..], NEVER, NEVER, 0, Status::WriteFault, ""),
     ] {
         let ran = run(
             &rt,

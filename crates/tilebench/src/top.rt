@@ -2,22 +2,21 @@
 ghost use Rattle.std.specs.Prelude.{◌≡◌, ◌≢◌, ◌⊎◌, ◌≤◌, ℕ, Bool, true, false, List, Ok, map, string_bytes, IsErr};
 ghost use Rattle.tile_io.specs.Faults.{Rose};
 ghost use Rattle.tile_io.specs.Prints.{Prints};
-ghost use Rattle.tilebench.specs.Commands.{command_of, refused_words};
-ghost use Rattle.tilebench.specs.Replies.{IsAnswer, IsWordsRefusal, IsTextRefusal, IsRefusal, CanAnswer, Tells, CutsOff, refused_text};
+ghost use Rattle.tilebench.specs.Commands.{IsCall, refused_words};
+ghost use Rattle.tilebench.specs.Inputs.{refused_text};
+ghost use Rattle.tilebench.specs.Replies.{IsAnswer, IsWordsRefusal, IsTextRefusal, IsRefusal, CanAnswer, Tells, CutsOff};
 ghost use Rattle.tilebench.specs.Statuses.{IsAnswered, Writes, answer_status, written_status};
-ghost use Rattle.tilebench.specs.AnswerText.{growth_text, answer_text, is_yes, HasTypes, IsPrintable};
+ghost use Rattle.tilebench.specs.AnswerText.{answer_text, is_yes, IsPrintable};
 
 use crate::answer::{Answer, answer_to};
-use crate::growth_order::Growth;
+use crate::printing::print_text;
 use crate::status::{Ran, Status};
 use crate::stop::Stop;
-use crate::words::WordsStop;
+use command_line::WordsStop;
 use itoa::Buffer;
-use seq_text::{print_closed, print_places};
 use std::alloc::Global;
 use std::thread::Threads;
 use tile_io::{Failed, Gate, Sink, Source, TextFault, print_line};
-use tile_text::print_system;
 
 /// Runs a command: reads `source`, and writes the answer to `out` or a refusal to `err`.
 ///
@@ -64,7 +63,8 @@ pub fn tilebench<R: Threads + Sync, S: Source, K: Sink, E: Sink, G: Gate>(
         → result.status ≢ Status.WriteFault → out.new ≡ out.old }
     ensures err_stays { result.status ≢ Status.Words → result.status ≢ Status.Text
         → result.status ≢ Status.WriteFault → err.new ≡ err.old }
-    ensures unread { IsErr (command_of (map string_bytes words.now)) → source.new ≡ source.old }
+    ensures unread { ¬ IsCall (map string_bytes words.now) → source.new ≡ source.old }
+    ensures words_unread { result.status ≡ Status.Words → source.new ≡ source.old }
     ensures faults { (S.faults source.old ≤ S.faults source.new) × (K.faults out.old ≤ K.faults out.new)
         × (E.faults err.old ≤ E.faults err.new) }
 
@@ -101,34 +101,12 @@ fn answer_status(is_yes: bool) -> Status
     if is_yes { Status::Done } else { Status::No }
 }
 
-// Writes the text of an answer.
-fn print_text<K: Sink>(answer: &Answer, out: &mut K) -> Result<(), Failed>
-    requires { IsPrintable answer.now }
-    ensures { Prints (K.written out.old) (K.written out.new) (K.faults out.old) (K.faults out.new) result
-        (answer_text answer.now) }
-{
-    match answer {
-        Answer::Growth(growth) => print_growth(growth, out),
-        Answer::Spelling(sys) => print_system(sys, out),
-    }
-}
-
-// Writes the text of a growth.
-fn print_growth<K: Sink>(growth: &Growth, out: &mut K) -> Result<(), Failed>
-    requires { HasTypes growth.now }
-    ensures { Prints (K.written out.old) (K.written out.new) (K.faults out.old) (K.faults out.new) result
-        (growth_text growth.now) }
-{
-    print_places(&growth.sys, growth.order.as_slice(), out)?;
-    print_closed(&growth.sys, growth.outside, out)
-}
-
 // Writes the refusal of the words.
 fn refuse_words<E: Sink>(stop: WordsStop, err: &mut E) -> Status
     ensures { Writes (E.written err.old) (E.written err.new) (E.faults err.old) (E.faults err.new)
         Status.Words result (refused_words stop) }
 {
-    let done = print_line(err, b"refused", &[b"words", stop.name()]);
+    let done = print_line(err, b"refused", &[b"words", stop.name().as_bytes()]);
     written(done, Status::Words)
 }
 

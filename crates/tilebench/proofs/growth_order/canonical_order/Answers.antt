@@ -1,6 +1,7 @@
 use Rattle.std.proofs.Common.{List, subst}
 use Rattle.atam.specs.declared.place.Place.{Place}
 use Rattle.atam.specs.Placements.{HasDistinctSites}
+use Rattle.atam.proofs.Canon.{canonical_IsLegal}
 use Rattle.assembly.proofs.Opening.{Fits-part}
 use Rattle.tilebench.proofs.Growths.{lacks_no_seed}
 use Rattle.tilebench.proofs.growth_order.canonical_order.Goals as goal
@@ -18,3 +19,9 @@ unreachable-requires-in-Err-Stuck c =
 
 pub returns-in-Ok-clause-fits : goal.returns-in-Ok-clause-fits
 returns-in-Ok-clause-fits c = Fits-part c.args.sys.now c.in-Ok.order c.args.grid.now.tiles c.in-Ok.ensures.answer.same.part c.requires.fits
+
+pub returns-in-Ok-clause-legal : goal.returns-in-Ok-clause-legal
+returns-in-Ok-clause-legal c =
+    let Distinct : List Place → Type 0 = λ places. HasDistinctSites places in
+    canonical_IsLegal c.args.sys.now c.args.grid.now.tiles c.in-Ok.order c.area-area.ensures.distinct c.requires.fits.types
+    (subst Distinct c.seeds-seeds.ensures.seeds c.seeds-seeds.ensures.distinct) c.in-Ok.ensures.answer.canonical
