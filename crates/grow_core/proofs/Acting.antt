@@ -1,14 +1,12 @@
 -- What the machine knows of a sound state, and the steps by which scouts look and claim.
 use Rattle.std.proofs.Common.{◌≡◌, ◌≢◌, ◌<◌, ◌≤◌, ◌+◌, ℕ, List, [], ◌∷◌, ◌++◌, get_or, length, Option, Some, None, Ok, sym, ◌∙◌, ap, subst, inl, inr, arith, length-append}
-use Rattle.std.proofs.lemmas.Int.{ints}
 use Rattle.std.proofs.lemmas.Option.{same_Some}
 use Rattle.std.proofs.lemmas.List.{length-map, get_or-map}
 use Rattle.std.proofs.lemmas.List.Elements.{All-contains, All-map, All-push, Contains-append_cases}
 use Rattle.atam.specs.declared.site.Site.{Site}
-use Rattle.atam.specs.declared.area.BoxArea.{BoxArea}
 use Rattle.atam.specs.declared.place.TypeId.{TypeId}
 use Rattle.atam.specs.declared.place.Place.{Place}
-use Rattle.atam.specs.Sites.{InBox, IsBox, IsNearSite}
+use Rattle.atam.specs.Sites.{InBox}
 use Rattle.atam.specs.TileSystem.{TileSystem, IsType, IsValid}
 use Rattle.atam.specs.Placements.{HasDistinctSites, IsPartOf, tile_at}
 use Rattle.atam.specs.Assembly.{Fits}
@@ -26,14 +24,6 @@ use Rattle.grow_core.proofs.Lists.{map-part}
 use Rattle.grow_core.proofs.Own.{mine_tile}
 use Rattle.grow_core.proofs.Kept.{extends}
 use Rattle.grow_core.proofs.Parted.{both_distinct}
-
-pub near_inside : (area : BoxArea) (m : Site) → IsBox area → InBox area m → IsNearSite m
-near_inside area m limits inside = record {
-  left = omega (arith, ints, limits.corners.left, inside.left);
-  right = omega (arith, ints, limits.corners.right, inside.right);
-  bottom = omega (arith, ints, limits.corners.bottom, inside.bottom);
-  top = omega (arith, ints, limits.corners.top, inside.top);
-}
 
 -- tiles with distinct sites, as places
 distinct_places : (tiles : List Tile) → HasDistinctTiles tiles → HasDistinctSites (places tiles)

@@ -10,7 +10,8 @@ use Rattle.grow_core.specs.Steps.{Supports, no_such_scout, claims_outside, unsup
 use Rattle.grow_core.specs.Machine.{BoxedCore, state_of}
 use Rattle.grow_core.proofs.Entries.{name_within}
 use Rattle.grow_core.proofs.Stepped.{supported_type}
-use Rattle.grow_core.proofs.Acting.{near_inside, small_type, seen_agrees, seen_empty, seen_fits, room_for, held_step, won_step}
+use Rattle.atam.proofs.Boxes.{near_inside}
+use Rattle.grow_core.proofs.Acting.{small_type, seen_agrees, seen_empty, seen_fits, room_for, held_step, won_step}
 use Rattle.grow_core.proofs.machine.Core.claim.Goals as goal
 
 pub returns-in_default-clause-step : goal.returns-in_default-clause-step
