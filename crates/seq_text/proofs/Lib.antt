@@ -4,3 +4,4 @@ pub mod Lines
 pub mod Scratch
 pub mod Fitting
 pub mod Printed
+pub mod Events

@@ -58,7 +58,7 @@ abbrev pub follows_place_or_closed : Option GrowthItem → Bool
 follows_place_or_closed (Some ClosedLine) = true
 follows_place_or_closed before = follows_place before
 
-abbrev pub always_room : List GrowthItem → List (List ℕ) → Bool
+abbrev pub always_room : {Item : Type 0} → List Item → List (List ℕ) → Bool
 always_room earlier words = true
 
 -- the rows of the table: word, number of words, what it may stand after, limit, fields

@@ -5,3 +5,6 @@ pub mod StuckLines
 pub mod GrowthText
 pub mod GrowthReading
 pub mod GrowthDrafts
+pub mod ScheduleText
+pub mod ScheduleReading
+pub mod SeenLines

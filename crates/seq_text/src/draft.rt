@@ -236,8 +236,8 @@ impl<'a> Draft<'a> {
     }
 }
 
-// The type that a word names.
-fn read_type(system: &System, word: &[u8]) -> Result<TypeId, Cause>
+/// The type that a word names.
+pub(crate) fn read_type(system: &System, word: &[u8]) -> Result<TypeId, Cause>
     ensures { Gives (λ tile. tile.0) result
         (referred is_name (map (λ t. t.name) system.now.types) word.now) }
 {

@@ -1,4 +1,4 @@
-// Laws of growth texts.
+// Laws of growth and schedule texts.
 ghost use Rattle.std.specs.Prelude.{◌≡◌, ◌≤◌, ◌⊎◌, ◌++◌, ℕ, List, Bool, Option, IfSome, length, drop};
 ghost use Rattle.tile_io.specs.declared.mark.Mark.{Mark};
 ghost use Rattle.tile_io.specs.declared.fault.Cause.{Cause};
@@ -11,7 +11,9 @@ ghost use Rattle.atam.specs.Assembly.{Fits};
 ghost use Rattle.atam.specs.Placements.{HasDistinctSites};
 ghost use Rattle.atam.specs.TileSystem.{TileSystem, IsType, IsValid};
 ghost use Rattle.seq_text.specs.GrowthLines.{place_lines, closed_line};
+ghost use Rattle.grow_core.specs.declared.event.Event.{Event};
 ghost use Rattle.seq_text.specs.GrowthText.{growth_format, ReadsPlaces, ReadsSequence, ReadsPlacements};
+ghost use Rattle.seq_text.specs.ScheduleText.{schedule_format, ReadsEvents};
 
 /// Each text, from each start, as a sequence or as a grid, either reads as one list of places or has one fault.
 pub fn law_growth_one_of_two()
@@ -54,4 +56,18 @@ pub fn law_growth_reads_printed()
         IfSome found (λ open_site. IsType sys open_site.1 × IsNearSite open_site.0) →
         drop from.at text ≡ place_lines sys places ++ closed_line sys found →
         ReadsPlacements sys text from places }
+{}
+
+/// Each text, from each start, either reads as one list of events or has one fault.
+pub fn law_schedule_one_of_two()
+    ensures one { (sys : TileSystem) (text : List ℕ) (from : Mark) →
+        IsRead (schedule_format sys) text from ⊎ IsFaulty (schedule_format sys) text from }
+    ensures not_both { (sys : TileSystem) (text : List ℕ) (from : Mark) (events : List Event)
+        (number : ℕ) (cause : Cause) → ReadsEvents sys text from events →
+        Fault (schedule_format sys) text from number cause → ⊥ }
+    ensures one_list { (sys : TileSystem) (text : List ℕ) (from : Mark) (a b : List Event) →
+        ReadsEvents sys text from a → ReadsEvents sys text from b → a ≡ b }
+    ensures one_fault { (sys : TileSystem) (text : List ℕ) (from : Mark) (m n : ℕ) (a b : Cause) →
+        Fault (schedule_format sys) text from m a →
+        Fault (schedule_format sys) text from n b → (m ≡ n) × (a ≡ b) }
 {}

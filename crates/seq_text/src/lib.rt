@@ -1,6 +1,7 @@
-//! Growths as text.
+//! Growths as text, and the schedules of scouts.
 #![tactic(auto)]
 
+mod action;
 mod closed;
 mod draft;
 mod ending;
@@ -9,15 +10,21 @@ mod laws;
 mod legality;
 mod places;
 mod reader;
+mod schedule;
+mod seen;
 mod stuck;
 #[cfg(test)]
 mod tests;
 mod verdict;
 
 pub use closed::print_closed;
-pub use laws::{law_growth_fits, law_growth_one_of_two, law_growth_reads_printed};
+pub use laws::{
+    law_growth_fits, law_growth_one_of_two, law_growth_reads_printed, law_schedule_one_of_two,
+};
 pub use legality::print_legality;
 pub use places::print_places;
 pub use reader::{read_grid, read_sequence};
+pub use schedule::read_events;
+pub use seen::{print_replies, print_seen, put_seen};
 pub use stuck::{print_stuck, print_stuck_seed};
 pub use verdict::print_verdict;

@@ -1,8 +1,9 @@
 use super::*;
 use assembly::{Grid, Sequence};
+use grow_core::{CoreStop, Event, Seen};
 use std::alloc::{AllocError, Global};
 use std::test::Fail;
-use tile_io::{Cause, MOST_INPUT, Mark, TextFault, TextStop};
+use tile_io::{Cause, MOST_INPUT, Mark, MemorySink, TextFault, TextStop};
 use tile_system::{Place, Placed, Site, TypeId};
 use tile_text::read_system;
 
@@ -129,5 +130,109 @@ fn refuses_a_double_site_in_a_grid(rt: HostRuntime) -> Result<(), Fail> {
     let sequence = sequence_of(alloc, growth)?;
     let places = [place(0, 0, 0), place(1, 0, 1), place(0, 0, 1)];
     assert_eq!(rt; sequence.as_slice(), &places[..]);
+    Ok(())
+}
+
+#[tactic(auto, using(tile_io::proofs::Progress::start_is_mark))]
+fn events_of(alloc: Global, schedule: &[u8]) -> Result<Vec<Event>, TextStop> {
+    let text = whole(alloc, schedule)?;
+    let text = text.as_slice();
+    if text.len() > MOST_INPUT {
+        return Err(TextStop::NoMemory);
+    }
+    let (system, from) = read_system(alloc, text, Mark::start())?;
+    read_events(alloc, &system, text, from)
+}
+
+// Lines in any order, sites outside the box, and the greatest number of a scout.
+#[test]
+fn reads_a_schedule(rt: HostRuntime) -> Result<(), Fail> {
+    let alloc = rt.alloc();
+    let schedule =
+        b"# two\nsplit 0\nclaim 4294967295 1 -0 B\nlook 007 -1000000 1000000\n\njoin 2 40\nsplit 2\n";
+    let events = events_of(alloc, schedule)?;
+    let wanted = [
+        Event::Split { who: 0 },
+        Event::Claim {
+            who: 4294967295,
+            site: Site { x: 1, y: 0 },
+            tile: TypeId(1),
+        },
+        Event::Look {
+            who: 7,
+            site: Site {
+                x: -1000000,
+                y: 1000000,
+            },
+        },
+        Event::Join { into: 2, from: 40 },
+        Event::Split { who: 2 },
+    ];
+    assert_eq!(rt; events.as_slice(), &wanted[..]);
+    let none = events_of(alloc, b"# nothing\n")?;
+    assert_eq!(rt; none.len(), 0);
+    Ok(())
+}
+
+#[test]
+fn refuses_lines_of_a_schedule(rt: HostRuntime) -> Result<(), Fail> {
+    let alloc = rt.alloc();
+    for (schedule, at, cause) in [
+        (&b"look 0 0\n"[..], 0, Cause::BadLine),
+        (b"split 0 1\n", 0, Cause::BadLine),
+        (b"join 0\n", 0, Cause::BadLine),
+        (b"claim 0 0 0\n", 0, Cause::BadLine),
+        (b"split 0\nplace 0 0 S\n", 1, Cause::BadLine),
+        (b"look x y 0\n", 0, Cause::BadNumber),
+        (b"split -1\n", 0, Cause::OutOfRange),
+        (b"join 0 4294967296\n", 0, Cause::OutOfRange),
+        (b"look 0 1000001 y\n", 0, Cause::OutOfRange),
+        (b"claim 0 0 0 -\n", 0, Cause::BadName),
+        (b"#\nclaim 0 9 9 C\n", 1, Cause::UnknownName),
+        (b"split 0\nsplit 0", 1, Cause::NoEnd),
+    ] {
+        let fault = TextFault {
+            line: FIRST + at,
+            cause,
+        };
+        assert_eq!(rt;
+            events_of(alloc, schedule).err(),
+            Some(TextStop::Fault(fault))
+        );
+    }
+    Ok(())
+}
+
+// One line for each answer.
+#[test]
+#[tactic(auto, using(tile_io::proofs::Progress::start_is_mark))]
+fn prints_answers(rt: HostRuntime) -> Result<(), Fail> {
+    let alloc = rt.alloc();
+    assert!(rt; SYSTEM.len() <= 200);
+    let (system, _) = read_system(alloc, SYSTEM, Mark::start())?;
+    match system.find_type(b"B") {
+        Some(tile) => {
+            let mut sink = MemorySink::make(alloc, 200, 7, Vec::new(alloc))?;
+            let replies = [
+                Ok(Seen::Saw(None)),
+                Ok(Seen::Saw(Some(tile))),
+                Ok(Seen::Won),
+                Ok(Seen::Held(tile)),
+                Ok(Seen::Divided(32)),
+                Ok(Seen::Joined(4294967295)),
+                Err(CoreStop::NoSuchScout),
+                Err(CoreStop::NotSupported { pull: 10 }),
+                Err(CoreStop::OutsideBox),
+            ];
+            assert_eq!(rt; print_replies(&system, &replies, &mut sink), Ok(()));
+            let last = Err(CoreStop::NoNumberLeft);
+            assert_eq!(rt; print_seen(&system, &last, &mut sink), Ok(()));
+            assert_eq!(rt;
+                sink.bytes(),
+                &b"saw -\nsaw B\nwon\nheld B\nsplit 32\njoined 4294967295\nrefused 1\nrefused 2 10\nrefused 3\nrefused 4\n"[..]
+            );
+        }
+        None => assert!(rt; false, "no type B"),
+    }
     Ok(())
 }
