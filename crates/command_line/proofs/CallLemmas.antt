@@ -5,7 +5,7 @@ use Rattle.clap.specs.Words.{Text, fault_of, takes}
 use Rattle.clap.specs.declared.parser.matches.ArgMatches.{ArgMatches}
 use Rattle.clap.proofs.OnLiterals.{clap_on_literals}
 use Rattle.command_line.specs.declared.command.Command.{Command}
-use Rattle.command_line.specs.declared.command.Command.TheVariants.{Grow, Check, Replay, Format}
+use Rattle.command_line.specs.declared.command.Command.TheVariants.{Grow, Check, Replay, Schedule, Format}
 use Rattle.command_line.specs.declared.command.CommandName.{CommandName}
 use Rattle.command_line.specs.declared.command.CommandName.TheVariants as name
 use Rattle.command_line.specs.declared.words_stop.WordsStop.{WordsStop}
@@ -22,6 +22,7 @@ options_stated : (words : List Text) (found : ArgMatches) (command : Command) �
 options_stated words found (Grow choice) exact has = number_stated (command_app name.Grow) words (codes "choice") found choice exact has
 options_stated words found Check exact has = tt
 options_stated words found Replay exact has = tt
+options_stated words found Schedule exact has = tt
 options_stated words found Format exact has = tt
 
 -- a command that was read off a parse of the words is the one that they call for
@@ -38,12 +39,14 @@ abbrev IsNamed : CommandName → Command → Type 0
 IsNamed name.Grow command = (choice : ℕ) × (command ≡ Grow choice)
 IsNamed name.Check command = command ≡ Check
 IsNamed name.Replay command = command ≡ Replay
+IsNamed name.Schedule command = command ≡ Schedule
 IsNamed name.Format command = command ≡ Format
 
 is_named : (command : Command) → IsNamed (name_of command) command
 is_named (Grow choice) = (choice, refl)
 is_named Check = refl
 is_named Replay = refl
+is_named Schedule = refl
 is_named Format = refl
 
 -- clap states one value for each option
@@ -52,6 +55,7 @@ options_once words (Grow choice) b (other, is) states states_other =
     ap (λ n. Grow n) (states_once (command_app name.Grow) words (codes "choice") choice other states (subst (StatesOptions words) is states_other)) ∙ sym is
 options_once words Check b is states states_other = sym is
 options_once words Replay b is states states_other = sym is
+options_once words Schedule b is states states_other = sym is
 options_once words Format b is states states_other = sym is
 
 pub spelled_named : (words : List Text) (command : Command) → Spells words command → command_named words ≡ Some (name_of command)
@@ -59,6 +63,7 @@ spelled_named words (Grow choice) (fits, inl is) = ap command_named is.0
 spelled_named words (Grow choice) (fits, inr is) = ap command_named is
 spelled_named words Check is = ap command_named is
 spelled_named words Replay is = ap command_named is
+spelled_named words Schedule is = ap command_named is
 spelled_named words Format is = ap command_named is
 
 spelled_stated : (words : List Text) (command : Command) → Spells words command → StatesOptions words command
@@ -67,6 +72,7 @@ spelled_stated words (Grow choice) (fits, inl is) = rw (is.0, is.1) (none_stated
 spelled_stated words (Grow choice) (fits, inr is) = rw is (choice_stated (codes "grow") (decimal choice) choice fits (decimal_text choice fits))
 spelled_stated words Check is = tt
 spelled_stated words Replay is = tt
+spelled_stated words Schedule is = tt
 spelled_stated words Format is = tt
 
 -- a command without options takes its word alone
@@ -75,6 +81,7 @@ unfolding command_app clap_on_literals
 alone_taken name.Grow = refl
 alone_taken name.Check = refl
 alone_taken name.Replay = refl
+alone_taken name.Schedule = refl
 alone_taken name.Format = refl
 
 spelled_taken : (words : List Text) (command : Command) → Spells words command → takes (command_app (name_of command)) words ≡ true
@@ -83,6 +90,7 @@ spelled_taken words (Grow choice) (fits, inl is) = rw is.0 (none_taken (codes "g
 spelled_taken words (Grow choice) (fits, inr is) = rw is (choice_taken (codes "grow") (decimal choice) choice fits (decimal_text choice fits))
 spelled_taken words Check is = rw is (alone_taken name.Check)
 spelled_taken words Replay is = rw is (alone_taken name.Replay)
+spelled_taken words Schedule is = rw is (alone_taken name.Schedule)
 spelled_taken words Format is = rw is (alone_taken name.Format)
 
 -- a name that two names of a list are

@@ -8,7 +8,7 @@ use Rattle.clap.specs.declared.builder.command.Command.{Command}
 use Rattle.clap.specs.declared.parser.matches.ArgMatches.{ArgMatches}
 use Rattle.clap.proofs.WalkLemmas.{both}
 use Rattle.command_line.specs.declared.command.CommandName.{CommandName}
-use Rattle.command_line.specs.declared.command.CommandName.TheVariants.{Grow, Check, Replay, Format}
+use Rattle.command_line.specs.declared.command.CommandName.TheVariants.{Grow, Check, Replay, Schedule, Format}
 use Rattle.command_line.specs.Commands.{command_app}
 use Rattle.command_line.specs.Options.{FindsOptions}
 use Rattle.command_line.specs.Stated.{IsExact}
@@ -20,6 +20,7 @@ unfolding command_app
 app_simple Grow = refl
 app_simple Check = refl
 app_simple Replay = refl
+app_simple Schedule = refl
 app_simple Format = refl
 
 grow_choice : HasNumberOption (command_app Grow) 0 (codes "choice") (codes "0") 0 (2 ^ 64 - 1)
@@ -39,6 +40,7 @@ options_found : (name : CommandName) (command : Command) (found : ArgMatches) â†
 options_found Grow command found is parsed = option_found command found (command_app Grow) is parsed 0 (codes "choice") (codes "0") 0 (2 ^ 64 - 1) grow_choice
 options_found Check command found is parsed = tt
 options_found Replay command found is parsed = tt
+options_found Schedule command found is parsed = tt
 options_found Format command found is parsed = tt
 
 -- a parse finds what clap states, and a number for each option

@@ -5,7 +5,7 @@ use Rattle.clap.specs.Simple.{on_top}
 use Rattle.clap.specs.declared.builder.action.ArgAction.TheVariants.{Set}
 use Rattle.clap.specs.declared.builder.value_parser.ValueParser.TheVariants.{Unsigned}
 use Rattle.command_line.specs.declared.command.Command.{Command}
-use Rattle.command_line.specs.declared.command.Command.TheVariants.{Grow, Check, Replay, Format}
+use Rattle.command_line.specs.declared.command.Command.TheVariants.{Grow, Check, Replay, Schedule, Format}
 use Rattle.command_line.specs.declared.command.CommandName.{CommandName}
 use Rattle.command_line.specs.declared.command.CommandName.TheVariants as name
 use Rattle.command_line.specs.declared.words_stop.WordsStop.{WordsStop}
@@ -17,11 +17,12 @@ abbrev pub command_word : CommandName → Text
 command_word name.Grow = codes "grow"
 command_word name.Check = codes "check"
 command_word name.Replay = codes "replay"
+command_word name.Schedule = codes "schedule"
 command_word name.Format = codes "format"
 
 -- all commands
 abbrev pub command_names : List CommandName
-command_names = name.Grow ∷ name.Check ∷ name.Replay ∷ name.Format ∷ []
+command_names = name.Grow ∷ name.Check ∷ name.Replay ∷ name.Schedule ∷ name.Format ∷ []
 
 -- the command that a word names
 abbrev pub name_of_word : Text → Option CommandName
@@ -59,6 +60,7 @@ abbrev pub name_of : Command → CommandName
 name_of (Grow choice) = name.Grow
 name_of Check = name.Check
 name_of Replay = name.Replay
+name_of Schedule = name.Schedule
 name_of Format = name.Format
 
 -- clap states the values of the command's options for these words
@@ -66,6 +68,7 @@ abbrev pub StatesOptions : List Text → Command → Type 0
 StatesOptions words (Grow choice) = States (command_app name.Grow) words (codes "choice") choice
 StatesOptions words Check = Unit
 StatesOptions words Replay = Unit
+StatesOptions words Schedule = Unit
 StatesOptions words Format = Unit
 
 -- the first word names the command, clap finds no fault in the list, and states the values of the options

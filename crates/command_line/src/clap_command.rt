@@ -41,6 +41,7 @@ fn clap_command<'a>(alloc: Global, name: CommandName) -> Result<clap::Command<'a
         CommandName::Grow => plain_command(alloc, "grow").arg(choice_option(alloc)),
         CommandName::Check => Ok(plain_command(alloc, "check")),
         CommandName::Replay => Ok(plain_command(alloc, "replay")),
+        CommandName::Schedule => Ok(plain_command(alloc, "schedule")),
         CommandName::Format => Ok(plain_command(alloc, "format")),
     }
 }

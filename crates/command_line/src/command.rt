@@ -8,6 +8,7 @@ pub enum Command {
     Grow { choice: u64 },
     Check,
     Replay,
+    Schedule,
     Format,
 }
 
@@ -17,6 +18,7 @@ pub enum CommandName {
     Grow,
     Check,
     Replay,
+    Schedule,
     Format,
 }
 
@@ -28,6 +30,7 @@ pub fn name_of_word(word: &str) -> Option<CommandName>
         "grow" => Some(CommandName::Grow),
         "check" => Some(CommandName::Check),
         "replay" => Some(CommandName::Replay),
+        "schedule" => Some(CommandName::Schedule),
         "format" => Some(CommandName::Format),
         _ => None,
     }

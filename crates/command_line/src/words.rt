@@ -62,6 +62,7 @@ fn with_options(name: CommandName, found: &ArgMatches) -> Command
         },
         CommandName::Check => Command::Check,
         CommandName::Replay => Command::Replay,
+        CommandName::Schedule => Command::Schedule,
         CommandName::Format => Command::Format,
     }
 }
