@@ -5,6 +5,7 @@ use Rattle.tile_io.specs.declared.fault.TextFault.{TextFault}
 use Rattle.tile_io.specs.declared.mark.Mark.{Mark}
 use Rattle.tile_io.specs.declared.whole.TheConstants.{MOST_INPUT}
 use Rattle.tile_io.specs.Checks.{nothing_more}
+use Rattle.tile_io.specs.Faults.{Rose}
 use Rattle.tile_io.specs.Formats.{Format, Reads}
 use Rattle.tile_io.proofs.Laws.{not_both}
 use Rattle.atam.specs.declared.site.Site.{Site}
@@ -15,6 +16,7 @@ use Rattle.atam.specs.Growth.{IsLeastOpenOutside}
 use Rattle.tile_text.specs.SystemText.{ReadsSystem, system_format, system_items}
 use Rattle.tile_text.proofs.OneSystem.{reads_one_system}
 use Rattle.seq_text.specs.GrowthText.{sequence_format, grid_format}
+use Rattle.seq_text.specs.ScheduleText.{schedule_format}
 use Rattle.seq_text.specs.VerdictLines.{NamesTypes}
 use Rattle.local_check.specs.declared.verdict.Verdict.{Verdict}
 use Rattle.local_check.specs.declared.verdict.Verdict.TheVariants.{Yes, NotExact, Rival, NotTerminal}
@@ -35,10 +37,15 @@ use Rattle.tilebench.specs.declared.status.Status.TheVariants.{Done, No, WriteFa
 use Rattle.tilebench.specs.Commands.{IsCall, IsRefusedAs}
 use Rattle.tilebench.specs.Inputs.{first_mark, IsWholeSystem, IsAnswerable, Fails, FailsWithin}
 use Rattle.tilebench.specs.Replies.{Answers, IsAnswer, IsTextRefusal, CanAnswer, Tells, CutsOff}
-use Rattle.tilebench.specs.Statuses.{Writes, answer_status}
+use Rattle.tilebench.specs.Statuses.{IsAnswered, Writes, answer_status}
 use Rattle.tilebench.specs.GrowthText.{is_unique}
 use Rattle.tilebench.specs.AnswerText.{IsGrownFrom, growth_text, HasTypes}
 use Rattle.tilebench.specs.GrowthText.{IsGrowthOf}
+use Rattle.tilebench.specs.AnswerText.{IsScheduled, schedule_text, HasLines}
+use Rattle.tilebench.specs.ScheduleAnswer.{are_answered}
+use Rattle.tilebench.specs.Inputs.{IsSystemThenEvents}
+use Rattle.tilebench.specs.declared.schedule.Schedule.{Schedule}
+use Rattle.grow_core.specs.declared.event.Event.{Event}
 use Rattle.tilebench.proofs.Confluent.{confluent}
 use Rattle.tilebench.specs.Stops.{AnswersInput, AnswersCommand}
 
@@ -84,6 +91,30 @@ growth_answers input sys growth whole grown =
         verdict = verdict_types growth.sys growth.order growth.verdict grown.judged;
       },
     )
+
+-- what a whole input's events come to is the answer of `schedule`
+pub schedule_answers : (input : List ℕ) (sys : TileSystem) (events : List Event) (schedule : Schedule) → IsSystemThenEvents input sys events → IsScheduled sys events schedule →
+    Answers names.Schedule input (are_answered schedule.replies.items) (schedule_text schedule) × HasLines schedule
+schedule_answers input sys events schedule whole done = (
+  (
+    schedule.sys,
+    events,
+    subst (λ (s : TileSystem). IsSystemThenEvents input s events) (sym done.same) whole,
+    record {
+      start = done.start;
+      starts = done.starts;
+      replies = schedule.replies.items;
+      told = done.told;
+      end = done.end;
+      run = done.run;
+      order = schedule.order;
+      canonical = done.canonical;
+      printed = refl;
+      answer = refl;
+    },
+  ),
+  record { replies = done.told; order = done.types },
+)
 
 -- what a command answers to all that was left is its answer to the source
 pub answers_command : (name : CommandName) (left left_after : Option (List ℕ)) (before now : ℕ) (input : List ℕ) (r : Result Answer Stop) →
@@ -141,6 +172,8 @@ answerable_or_faulty names.Check input fault found fails =
     read_or_fault sequence_format input found.0 found.2.end found.2.rest.to found.2.rest.items fault found.2.reads found.2.rest.reads fails
 answerable_or_faulty names.Replay input fault found fails =
     read_or_fault grid_format input found.0 found.2.end found.2.rest.to found.2.rest.items fault found.2.reads found.2.rest.reads fails
+answerable_or_faulty names.Schedule input fault found fails =
+    read_or_fault schedule_format input found.0 found.2.end found.2.rest.to found.1 fault found.2.reads found.2.rest.reads fails
 answerable_or_faulty names.Format input fault found fails =
     read_or_fault (λ sys. nothing_more) input found.0 found.1.end found.1.rest.0 [] fault found.1.reads found.1.rest.1 fails
 
@@ -183,3 +216,17 @@ cut_text IsSaid old new before now told status text other said (inr cut) fault =
 pub answer_no_fault : (is_yes : Bool) → answer_status is_yes ≢ WriteFault
 answer_no_fault true = λ same. let other : Done ≡ WriteFault = same in cc
 answer_no_fault false = λ same. let other : No ≡ WriteFault = same in cc
+
+-- an answer that was to be written ends with its status, or with a fault
+pub answer_told : (old new : Option (List ℕ)) (before now : ℕ) (is_yes : Bool) (status other : Status) (text : List ℕ) → Done ≢ other → No ≢ other → WriteFault ≢ other →
+    Writes old new before now (answer_status is_yes) status text → status ≡ other → ⊥
+answer_told old new before now true status other text not_done not_no not_fault (inl written) is = not_done (sym written.outcome ∙ is)
+answer_told old new before now false status other text not_done not_no not_fault (inl written) is = not_no (sym written.outcome ∙ is)
+answer_told old new before now is_yes status other text not_done not_no not_fault (inr cut) is = not_fault (sym cut.outcome ∙ is)
+
+-- and without a fault it is an answer
+pub answer_whole : (old new : Option (List ℕ)) (before now : ℕ) (is_yes : Bool) (status : Status) (text : List ℕ) → Writes old new before now (answer_status is_yes) status text →
+    ¬ Rose before now → IsAnswered status
+answer_whole old new before now true status text (inl written) quiet = inl written.outcome
+answer_whole old new before now false status text (inl written) quiet = inr written.outcome
+answer_whole old new before now is_yes status text (inr cut) quiet = absurd (quiet cut.rose)

@@ -11,6 +11,8 @@ use Rattle.atam.specs.declared.place.Place.{Place}
 use Rattle.atam.specs.TileSystem.{TileSystem}
 use Rattle.tile_text.specs.SystemText.{ReadsSystem, system_format}
 use Rattle.seq_text.specs.GrowthText.{sequence_format, grid_format, ReadsSequence, ReadsPlacements}
+use Rattle.grow_core.specs.declared.event.Event.{Event}
+use Rattle.seq_text.specs.ScheduleText.{schedule_format, ReadsEvents}
 use Rattle.command_line.specs.declared.command.CommandName.{CommandName}
 use Rattle.command_line.specs.declared.command.CommandName.TheVariants as name
 
@@ -36,11 +38,18 @@ pub record IsSystemThenPlacements (input : List ℕ) (sys : TileSystem) (places 
   pub reads : ReadsSystem input first_mark sys end
   pub rest : ReadsPlacements sys input end places
 
+-- the input is the text of this system, and then that of these events
+pub record IsSystemThenEvents (input : List ℕ) (sys : TileSystem) (events : List Event) : Type 0 where
+  pub end : Mark
+  pub reads : ReadsSystem input first_mark sys end
+  pub rest : ReadsEvents sys input end events
+
 -- a command can answer to this input
 abbrev pub IsAnswerable : CommandName → List ℕ → Type 0
 IsAnswerable name.Grow input = (sys : TileSystem) × IsWholeSystem input sys
 IsAnswerable name.Check input = (sys : TileSystem) × (sequence : List Place) × IsSystemThenSequence input sys sequence
 IsAnswerable name.Replay input = (sys : TileSystem) × (places : List Place) × IsSystemThenPlacements input sys places
+IsAnswerable name.Schedule input = (sys : TileSystem) × (events : List Event) × IsSystemThenEvents input sys events
 IsAnswerable name.Format input = (sys : TileSystem) × IsWholeSystem input sys
 
 -- a system is read, and the text of this format that follows it has a fault
@@ -59,6 +68,7 @@ abbrev pub Fails : CommandName → List ℕ → TextFault → Type 0
 Fails name.Grow input fault = FailsWithin (λ sys. nothing_more) input fault
 Fails name.Check input fault = FailsWithin sequence_format input fault
 Fails name.Replay input fault = FailsWithin grid_format input fault
+Fails name.Schedule input fault = FailsWithin schedule_format input fault
 Fails name.Format input fault = FailsWithin (λ sys. nothing_more) input fault
 
 -- the line that tells a fault

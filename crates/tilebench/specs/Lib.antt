@@ -8,5 +8,6 @@ pub mod GrowthText
 pub mod Inputs
 pub mod Replies
 pub mod ReplayText
+pub mod ScheduleAnswer
 pub mod Statuses
 pub mod Stops

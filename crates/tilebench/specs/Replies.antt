@@ -14,7 +14,9 @@ use Rattle.command_line.specs.declared.command.CommandName.TheVariants as names
 use Rattle.command_line.specs.declared.words_stop.WordsStop.{WordsStop}
 use Rattle.command_line.specs.Commands.{IsCallOf, Spells, name_of}
 use Rattle.tilebench.specs.Commands.{IsRefusedAs, refused_words}
-use Rattle.tilebench.specs.Inputs.{IsWholeSystem, IsSystemThenSequence, IsSystemThenPlacements, IsAnswerable, Fails, refused_text}
+use Rattle.tilebench.specs.Inputs.{IsWholeSystem, IsSystemThenSequence, IsSystemThenPlacements, IsSystemThenEvents, IsAnswerable, Fails, refused_text}
+use Rattle.grow_core.specs.declared.event.Event.{Event}
+use Rattle.tilebench.specs.ScheduleAnswer.{IsScheduleAnswer}
 use Rattle.tilebench.specs.GrowthText.{IsGrowthOf}
 use Rattle.tilebench.specs.Confluence.{IsConfluent}
 use Rattle.tilebench.specs.CheckText.{IsCheckAnswer}
@@ -29,6 +31,8 @@ Answers names.Check input is_yes text =
 Answers names.Replay input is_yes text =
     (sys : TileSystem) × (places : List Place) × IsSystemThenPlacements input sys places × (tiles : List Place) × IsAssemblyOf places tiles
     × IsReplayAnswer sys tiles is_yes text
+Answers names.Schedule input is_yes text =
+    (sys : TileSystem) × (events : List Event) × IsSystemThenEvents input sys events × IsScheduleAnswer sys events is_yes text
 Answers names.Format input is_yes text = (sys : TileSystem) × IsWholeSystem input sys × (text ≡ spelling sys) × (is_yes ≡ true)
 
 -- the source was read to its end, and this is what the command answers to it

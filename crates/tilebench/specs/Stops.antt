@@ -15,7 +15,9 @@ use Rattle.tilebench.specs.declared.stop.Stop.TheVariants as stops
 use Rattle.tilebench.specs.Commands.{IsRefusedAs}
 use Rattle.tile_io.specs.Checks.{nothing_more}
 use Rattle.seq_text.specs.GrowthText.{sequence_format, grid_format}
-use Rattle.tilebench.specs.Inputs.{IsWholeSystem, IsSystemThenSequence, IsSystemThenPlacements, FailsWithin, Fails, refused_text}
+use Rattle.grow_core.specs.declared.event.Event.{Event}
+use Rattle.seq_text.specs.ScheduleText.{schedule_format}
+use Rattle.tilebench.specs.Inputs.{IsWholeSystem, IsSystemThenSequence, IsSystemThenPlacements, IsSystemThenEvents, FailsWithin, Fails, refused_text}
 use Rattle.tilebench.specs.ReplayText.{IsAssemblyOf}
 use Rattle.tilebench.specs.Replies.{Answers, IsTooLong, IsFaulty, IsAnswer, IsCommandAnswer, IsTextRefusal}
 use Rattle.tilebench.specs.AnswerText.{answer_text, is_yes, IsPrintable}
@@ -43,6 +45,9 @@ ReadsWithSequence input result = Gives (λ found. IsSystemThenSequence input fou
 abbrev pub ReadsWithGrid : List ℕ → Result (TileSystem × TileGrid) Stop → Type 0
 ReadsWithGrid input result =
     Gives (λ found. (places : List Place) × IsSystemThenPlacements input found.0 places × IsAssemblyOf places found.1.tiles) (λ stop. ⊥) (FailsWithin grid_format input) ⊥ result
+
+abbrev pub ReadsWithEvents : {Events : Type 0} → (Events → List Event) → List ℕ → Result (TileSystem × Events) Stop → Type 0
+ReadsWithEvents events input result = Gives (λ found. IsSystemThenEvents input found.0 (events found.1)) (λ stop. ⊥) (FailsWithin schedule_format input) ⊥ result
 
 -- a command's answer to an input, or the input's first fault
 abbrev pub AnswersInput : CommandName → List ℕ → Result Answer Stop → Type 0

@@ -11,9 +11,10 @@ ghost use Rattle.tilebench.specs.GrowthText.{is_unique};
 ghost use Rattle.tilebench.specs.Stops.{ReadsInput, AnswersInput, AnswersCommand, AnswersWords};
 
 use crate::growth_order::{Growth, growth_of};
-use crate::input::{read_alone, read_with_grid, read_with_sequence};
+use crate::input::{read_alone, read_with_events, read_with_grid, read_with_sequence};
 use crate::judgement::judgement_of;
 use crate::reordering::order_of;
+use crate::schedule::{Schedule, schedule_of};
 use crate::stop::Stop;
 use assembly::Sequence;
 use command_line::{Command, command_of};
@@ -38,6 +39,8 @@ pub enum Answer {
     SeedMissing(Site),
     /// How many tiles of an assembly can't be reached from the seeds, and the least site of theirs.
     Stuck { left: u32, least: Site },
+    /// What the events of a schedule came to.
+    Schedule(Schedule),
     /// The printed spelling of a system.
     Spelling(System),
 }
@@ -51,6 +54,7 @@ impl Answer {
             Answer::Growth(growth) => is_unique(growth.verdict),
             Answer::Legal { verdict, .. } => is_unique(*verdict),
             Answer::Breach(_) | Answer::SeedMissing(_) | Answer::Stuck { .. } => false,
+            Answer::Schedule(schedule) => schedule.is_answered(),
             Answer::Order { .. } | Answer::Spelling(_) => true,
         }
     }
@@ -106,6 +110,7 @@ fn input_answer(alloc: Global, command: Command, input: &[u8]) -> Result<Answer,
         Command::Grow { choice } => growth_answer(alloc, input, choice),
         Command::Check => check_answer(alloc, input),
         Command::Replay => replay_answer(alloc, input),
+        Command::Schedule => schedule_answer(alloc, input),
         Command::Format => Ok(Answer::Spelling(read_alone(alloc, input)?)),
     }
 }
@@ -135,4 +140,13 @@ fn replay_answer(alloc: Global, input: &[u8]) -> Result<Answer, Stop>
 {
     let (sys, grid) = read_with_grid(alloc, input)?;
     Ok(order_of(alloc, sys, &grid)?)
+}
+
+// The answer of `schedule`.
+fn schedule_answer(alloc: Global, input: &[u8]) -> Result<Answer, Stop>
+    requires { length input.now ≤ MOST_INPUT }
+    ensures { AnswersInput names.Schedule input.now result }
+{
+    let (sys, events) = read_with_events(alloc, input)?;
+    Ok(Answer::Schedule(schedule_of(alloc, sys, &events)?))
 }

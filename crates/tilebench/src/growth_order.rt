@@ -57,8 +57,12 @@ fn grown_grid(alloc: Global, sys: &System, choice: u64) -> Result<Grid, NoMemory
     Ok(grid)
 }
 
-// The canonical sequence of a producible grid.
-fn canonical_order(alloc: Global, sys: &System, grid: &Grid) -> Result<Sequence, NoMemory>
+/// The canonical sequence of a producible grid.
+pub(crate) fn canonical_order(
+    alloc: Global,
+    sys: &System,
+    grid: &Grid,
+) -> Result<Sequence, NoMemory>
     requires area { grid.now.area ≡ sys.now.area }
     requires fits { Fits sys.now grid.now.tiles }
     requires producible { IsProducible sys.now grid.now.tiles }

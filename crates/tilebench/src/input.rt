@@ -2,11 +2,12 @@
 ghost use Rattle.std.specs.Prelude.{◌≡◌, ◌≤◌, ◌<◌, ◌^◌, length, IfOk};
 ghost use Rattle.atam.specs.Assembly.{Fits};
 ghost use Rattle.tile_io.specs.declared.whole.TheConstants.{MOST_INPUT};
-ghost use Rattle.tilebench.specs.Stops.{ReadsAlone, ReadsWithSequence, ReadsWithGrid};
+ghost use Rattle.tilebench.specs.Stops.{ReadsAlone, ReadsWithSequence, ReadsWithGrid, ReadsWithEvents};
 
 use crate::stop::Stop;
 use assembly::{Grid, Sequence};
-use seq_text::{read_grid, read_sequence};
+use grow_core::Event;
+use seq_text::{read_events, read_grid, read_sequence};
 use std::alloc::Global;
 use tile_io::{Mark, check_rest};
 use tile_system::System;
@@ -44,4 +45,14 @@ pub fn read_with_grid(alloc: Global, input: &[u8]) -> Result<(System, Grid), Sto
     let (sys, end) = read_system(alloc, input, Mark::start())?;
     let grid = read_grid(alloc, &sys, input, end)?;
     Ok((sys, grid))
+}
+
+/// The system and the events whose texts the input is.
+pub fn read_with_events(alloc: Global, input: &[u8]) -> Result<(System, Vec<Event>), Stop>
+    requires { length input.now ≤ MOST_INPUT }
+    ensures { ReadsWithEvents (λ events. events.items) input.now result }
+{
+    let (sys, end) = read_system(alloc, input, Mark::start())?;
+    let events = read_events(alloc, &sys, input, end)?;
+    Ok((sys, events))
 }

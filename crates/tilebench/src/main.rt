@@ -13,6 +13,7 @@ mod picker;
 mod place_list;
 mod printing;
 mod reordering;
+mod schedule;
 mod status;
 mod stop;
 #[cfg(test)]

@@ -306,6 +306,38 @@ fn puts_grids_in_order(rt: HostRuntime) -> Result<(), Fail> {
 }
 
 #[test]
+fn runs_schedules(rt: HostRuntime) -> Result<(), Fail> {
+    for (system, events, status, out) in [
+        (
+            CHAIN,
+            "claim 0 1 0 B\nlook 0 1 0\nsplit 0\njoin 63 0\n",
+            Status::Done,
+            "won\nsaw B\nsplit 63\njoined 0\nplace 0 0 S\nplace 1 0 B\n",
+        ),
+        (
+            RIVALS,
+            "split 0\nclaim 0 1 0 A\nclaim 63 1 0 B\nclaim 63 0 0 B\n",
+            Status::No,
+            "split 63\nwon\nheld A\nrefused 2 0\nplace 0 0 S\nplace 1 0 A\n",
+        ),
+        (
+            MISMATCH,
+            "claim 0 1 0 B\nclaim 0 1 1 T\nlook 0 2 0\nclaim 1 1 0 B\nlook 0 3 0\nsplit 0\n\
+             split 63\njoin 63 0\n",
+            Status::No,
+            "won\nrefused 2 1\nsaw -\nrefused 1\nrefused 3\nsplit 63\nrefused 4\njoined 0\n\
+             place 0 0 S\nplace 1 0 B\n",
+        ),
+    ] {
+        let ran = answered(&rt, rt.alloc(), "schedule", system, events)?;
+        assert_eq!(rt; ran.status, status, "{events}");
+        assert_eq!(rt; ran.out.as_slice(), out.as_bytes(), "{events}");
+        assert_eq!(rt; ran.err.len(), 0, "{events}");
+    }
+    Ok(())
+}
+
+#[test]
 fn refuses_growth_texts(rt: HostRuntime) -> Result<(), Fail> {
     for (command, growth, err) in [
         (

@@ -2,8 +2,8 @@ use Rattle.std.proofs.Common.{◌≢◌, ℕ, Bool, List, map, string_bytes, ref
 use Rattle.tilebench.specs.AnswerText.{is_yes, answer_text}
 use Rattle.tilebench.specs.Inputs.{refused_text}
 use Rattle.tilebench.specs.Replies.{IsAnswer, IsRefusal}
-use Rattle.tilebench.specs.declared.status.Status.TheVariants.{Text, WriteFault}
-use Rattle.tilebench.proofs.Replying.{tells_yes, tells_no, cut_text, answer_no_fault, answer_or_refusal, spelled_or_refused, refused_uncalled}
+use Rattle.tilebench.specs.declared.status.Status.TheVariants.{Done, No, Words, Text, WriteFault}
+use Rattle.tilebench.proofs.Replying.{answer_told, answer_whole, tells_yes, tells_no, cut_text, answer_no_fault, answer_or_refusal, spelled_or_refused, refused_uncalled}
 use Rattle.tilebench.proofs.top.tilebench.Goals as goal
 
 pub returns-in-Ok-clause-done : goal.returns-in-Ok-clause-done
@@ -40,3 +40,21 @@ returns-in-Err-Text-clause-cut_off g c = λ fault.
     let IsSaid : List ℕ → Type 0 = IsRefusal (map string_bytes c.args.words.now) left left_after in
     let other : Text ≢ WriteFault = λ same. cc in
     inr (cut_text IsSaid _ _ _ _ Text c.refuse_text-status.result (refused_text c.in-Err-Text.fault) other (inr (rw c.in-Err-Text.field-0-is at c.in-Err-Text.ensures.answer)) c.refuse_text-status.ensures fault, refl)
+
+pub returns-in-Ok-clause-words : goal.returns-in-Ok-clause-words
+returns-in-Ok-clause-words g c = λ is.
+    let not_done : Done ≢ Words = λ same. cc in
+    let not_no : No ≢ Words = λ same. cc in
+    let not_fault : WriteFault ≢ Words = λ same. cc in
+    absurd (answer_told _ _ _ _ (is_yes c.in-Ok.answer) c.print_answer-status.result Words (answer_text c.in-Ok.answer) not_done not_no not_fault c.print_answer-status.ensures is)
+
+pub returns-in-Ok-clause-text : goal.returns-in-Ok-clause-text
+returns-in-Ok-clause-text g c = λ is.
+    let not_done : Done ≢ Text = λ same. cc in
+    let not_no : No ≢ Text = λ same. cc in
+    let not_fault : WriteFault ≢ Text = λ same. cc in
+    absurd (answer_told _ _ _ _ (is_yes c.in-Ok.answer) c.print_answer-status.result Text (answer_text c.in-Ok.answer) not_done not_no not_fault c.print_answer-status.ensures is)
+
+pub returns-in-Ok-clause-complete : goal.returns-in-Ok-clause-complete
+returns-in-Ok-clause-complete g c = λ can source_quiet out_quiet err_quiet.
+    inl (answer_whole _ _ _ _ (is_yes c.in-Ok.answer) c.print_answer-status.result (answer_text c.in-Ok.answer) c.print_answer-status.ensures out_quiet)
