@@ -11,7 +11,7 @@ use Rattle.atam.specs.Sites.{neighbor, opposite, InBox}
 use Rattle.atam.specs.Placements.{IsPartOf, tile_at}
 use Rattle.atam.specs.TileSystem.{TileSystem, IsType}
 use Rattle.atam.specs.Assembly.{Fits, bond, pull, Attaches}
-use Rattle.atam.specs.Growth.{CanGrow}
+use Rattle.atam.specs.Growth.{IsCandidate}
 use Rattle.atam.proofs.Boxes.{same_site_tells}
 use Rattle.atam.proofs.Bonds.{neighbor-opposite}
 use Rattle.assembly.proofs.Tiles.{SameTiles, tile_at-push_here, tile_at-push_other}
@@ -30,9 +30,9 @@ pull-beside sys a b m t same =
     λ k. at North k + at East k + at South k + at West k
 
 -- so what attaches to one list attaches to one with the same tiles
-pub CanGrow-beside : (sys : TileSystem) (a b : List Place) (m : Site) (t : TypeId) → tile_at a m ≡ tile_at b m →
-    ((d : Side) → tile_at a (neighbor m d) ≡ tile_at b (neighbor m d)) → CanGrow sys a m t → CanGrow sys b m t
-CanGrow-beside sys a b m t here same grows =
+pub IsCandidate-beside : (sys : TileSystem) (a b : List Place) (m : Site) (t : TypeId) → tile_at a m ≡ tile_at b m →
+    ((d : Side) → tile_at a (neighbor m d) ≡ tile_at b (neighbor m d)) → IsCandidate sys a m t → IsCandidate sys b m t
+IsCandidate-beside sys a b m t here same grows =
     let Held : ℕ → Type 0 = λ n. sys.tau ≤ n in
     record {
       kind = grows.kind;
@@ -42,16 +42,16 @@ CanGrow-beside sys a b m t here same grows =
       };
     }
 
-pub CanGrow-same : (sys : TileSystem) (a b : List Place) (m : Site) (t : TypeId) → SameTiles a b → CanGrow sys a m t → CanGrow sys b m t
-CanGrow-same sys a b m t same grows = CanGrow-beside sys a b m t (same m) (λ d. same (neighbor m d)) grows
+pub IsCandidate-same : (sys : TileSystem) (a b : List Place) (m : Site) (t : TypeId) → SameTiles a b → IsCandidate sys a m t → IsCandidate sys b m t
+IsCandidate-same sys a b m t same grows = IsCandidate-beside sys a b m t (same m) (λ d. same (neighbor m d)) grows
 
 pub Attaches-same : (sys : TileSystem) (a b : List Place) (m : Site) (t : TypeId) → SameTiles a b → IsType sys t → Attaches sys a m t → Attaches sys b m t
-Attaches-same sys a b m t same kind attaches = (CanGrow-same sys a b m t same (record { kind = kind; attaches = attaches })).attaches
+Attaches-same sys a b m t same kind attaches = (IsCandidate-same sys a b m t same (record { kind = kind; attaches = attaches })).attaches
 
 -- a tile opens no site but those beside it
-pub CanGrow-push : (sys : TileSystem) (tiles : List Place) (p : Place) (m : Site) (t : TypeId) → tile_at tiles p.site ≡ None → CanGrow sys (tiles ++ p ∷ []) m t →
-    ((d : Side) × (neighbor p.site d ≡ m)) ⊎ ((p.site ≢ m) × CanGrow sys tiles m t)
-CanGrow-push sys tiles p m t empty grows =
+pub IsCandidate-push : (sys : TileSystem) (tiles : List Place) (p : Place) (m : Site) (t : TypeId) → tile_at tiles p.site ≡ None → IsCandidate sys (tiles ++ p ∷ []) m t →
+    ((d : Side) × (neighbor p.site d ≡ m)) ⊎ ((p.site ≢ m) × IsCandidate sys tiles m t)
+IsCandidate-push sys tiles p m t empty grows =
     let beside : Type 0 = (d : Side) × (neighbor p.site d ≡ m) in
     let from : (d : Side) → p.site ≡ neighbor m d → beside = λ d one.
     (opposite d, ap (λ n. neighbor n (opposite d)) one ∙ neighbor-opposite m d)
@@ -60,8 +60,8 @@ CanGrow-push sys tiles p m t empty grows =
     let At : Site → Type 0 = λ n. tile_at (tiles ++ p ∷ []) n ≡ None in
     none-some p.tile (sym (subst At (sym one) grows.attaches.empty) ∙ tile_at-push_here tiles p empty)
     in
-    let far : ((d : Side) → p.site ≢ neighbor m d) → CanGrow sys tiles m t = λ other.
-    CanGrow-beside sys (tiles ++ p ∷ []) tiles m t (tile_at-push_other tiles p m apart) (λ d. tile_at-push_other tiles p (neighbor m d) (other d)) grows
+    let far : ((d : Side) → p.site ≢ neighbor m d) → IsCandidate sys tiles m t = λ other.
+    IsCandidate-beside sys (tiles ++ p ∷ []) tiles m t (tile_at-push_other tiles p m apart) (λ d. tile_at-push_other tiles p (neighbor m d) (other d)) grows
     in
     elim (same_site_tells p.site (neighbor m North)) [
       | inl one ↦ inl (from North one.1)

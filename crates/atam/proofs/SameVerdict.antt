@@ -13,7 +13,7 @@ use Rattle.atam.specs.Sites.{neighbor, opposite, same_site, directions}
 use Rattle.atam.specs.Placements.{HasDistinctSites, SamePlacements, tile_at}
 use Rattle.atam.specs.TileSystem.{TileSystem}
 use Rattle.atam.specs.Assembly.{pull}
-use Rattle.atam.specs.Growth.{IsLegal, CanGrow}
+use Rattle.atam.specs.Growth.{IsLegal, IsCandidate}
 use Rattle.atam.specs.Determinism.{is_input, is_output, index_at, without_outputs, IsExact, IsRival, IsLocallyDeterministic}
 use Rattle.atam.proofs.Boxes.{same_site-refl}
 use Rattle.atam.proofs.Lists.{some_or_none}
@@ -23,8 +23,8 @@ use Rattle.atam.proofs.Sequences.{IsLegal-distinct, IsLegal-tile_at, same_index}
 use Rattle.atam.proofs.Confluence.{Match, confluence}
 
 -- the same types attach to two lists with the same tiles
-pub CanGrow-same : (sys : TileSystem) (a b : List Place) (m : Site) (t : TypeId) → Extends a b → Extends b a → CanGrow sys a m t → CanGrow sys b m t
-CanGrow-same sys a b m t to_b to_a grows = record {
+pub IsCandidate-same : (sys : TileSystem) (a b : List Place) (m : Site) (t : TypeId) → Extends a b → Extends b a → IsCandidate sys a m t → IsCandidate sys b m t
+IsCandidate-same sys a b m t to_b to_a grows = record {
   kind = grows.kind;
   attaches = record {
     empty = empty_in_part b a m to_a grows.attaches.empty;
@@ -126,7 +126,7 @@ module _ (sys : TileSystem) (a b : List Place) (distinct : HasDistinctSites sys.
     legal = legal;
     exact = λ i p later there. exact i p later there (confluence sys a b distinct ld legal i p there);
     no_rival = λ i p t later there. no_rival i p later there (confluence sys a b distinct ld legal i p there) t;
-    terminal = λ m t grows. ld.terminal m t (CanGrow-same sys b a m t to_a to_b grows);
+    terminal = λ m t grows. ld.terminal m t (IsCandidate-same sys b a m t to_a to_b grows);
   }
 
 pub same_verdict : (sys : TileSystem) (a b : List Place) → HasDistinctSites sys.seeds → IsLegal sys a → IsLegal sys b → SamePlacements a b →

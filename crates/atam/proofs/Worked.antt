@@ -14,7 +14,7 @@ use Rattle.atam.specs.Sites.{InBox, widened, width_of, height_of, site_in}
 use Rattle.atam.specs.TileSystem.{TileSystem, Glue, TileType}
 use Rattle.atam.specs.Placements.{tile_at}
 use Rattle.atam.specs.Assembly.{pull, Fits}
-use Rattle.atam.specs.Growth.{IsLegal, CanGrow, IsClosedInBox, IsTerminal}
+use Rattle.atam.specs.Growth.{IsLegal, IsCandidate, IsClosedInBox, IsTerminal}
 use Rattle.atam.specs.Determinism.{without_outputs, IsLocallyDeterministic}
 use Rattle.atam.proofs.Boxes.{cell_of}
 use Rattle.atam.proofs.Sequences.{IsLegal-push}
@@ -60,15 +60,15 @@ none_from : {A : Type 0} (o : Option A) → is_none o ≡ true → o ≡ None
 none_from None h = refl
 none_from (Some a) h = cc
 
-pub CanGrow-from : (sys : TileSystem) (tiles : List Place) (m : Site) (t : TypeId) → can_grow sys tiles m t ≡ true → CanGrow sys tiles m t
-CanGrow-from sys tiles m t h =
+pub IsCandidate-from : (sys : TileSystem) (tiles : List Place) (m : Site) (t : TypeId) → can_grow sys tiles m t ≡ true → IsCandidate sys tiles m t
+IsCandidate-from sys tiles m t h =
     let kind = and_parts (nat_lt t.0 (length sys.types)) (is_none (tile_at tiles m) && nat_le sys.tau (pull sys tiles m t)) h in
     let rest = and_parts (is_none (tile_at tiles m)) (nat_le sys.tau (pull sys tiles m t)) kind.1 in
     let is_kind : t.0 < length sys.types = grind (arith, nat_tests, kind.0) in
     let held : sys.tau ≤ pull sys tiles m t = grind (arith, nat_tests, rest.1) in
     record { kind = is_kind; attaches = record { empty = none_from (tile_at tiles m) rest.0; held = held } }
 
-pub can_grow-from : (sys : TileSystem) (tiles : List Place) (m : Site) (t : TypeId) → CanGrow sys tiles m t → can_grow sys tiles m t ≡ true
+pub can_grow-from : (sys : TileSystem) (tiles : List Place) (m : Site) (t : TypeId) → IsCandidate sys tiles m t → can_grow sys tiles m t ≡ true
 can_grow-from sys tiles m t grows =
     let kind : nat_lt t.0 (length sys.types) ≡ true = grind (arith, nat_tests, grows.kind) in
     let held : nat_le sys.tau (pull sys tiles m t) ≡ true = grind (arith, nat_tests, grows.attaches.held) in
@@ -83,7 +83,7 @@ pub IsLegal-from : (sys : TileSystem) (before s : List Place) → IsLegal sys be
 IsLegal-from sys before [] legal h = rw append-nil legal
 IsLegal-from sys before (p ∷ s) legal h =
     let first = and_parts (can_grow sys before p.site p.tile) (each_attaches sys (before ++ p ∷ []) s) h in
-    let grows = CanGrow-from sys before p.site p.tile first.0 in
+    let grows = IsCandidate-from sys before p.site p.tile first.0 in
     subst (IsLegal sys) (append_assoc before (p ∷ []) s)
     (IsLegal-from sys (before ++ p ∷ []) s (IsLegal-push sys before p legal grows.kind grows.attaches) first.1)
 
@@ -111,10 +111,10 @@ not_both : (b : Bool) → b ≡ true → not b ≡ true → ⊥
 not_both true yes_it_is h = cc
 not_both false yes_it_is h = cc
 
-none_grows : (area : BoxArea) (sys : TileSystem) (tiles : List Place) → is_closed_over area sys tiles ≡ true → (m : Site) (t : TypeId) → InBox area m → ¬ CanGrow sys tiles m t
+none_grows : (area : BoxArea) (sys : TileSystem) (tiles : List Place) → is_closed_over area sys tiles ≡ true → (m : Site) (t : TypeId) → InBox area m → ¬ IsCandidate sys tiles m t
 none_grows area sys tiles h m t inside grows =
     let cell = cell_of area m inside in
-    let Grows : Site → Type 0 = λ n. CanGrow sys tiles n t in
+    let Grows : Site → Type 0 = λ n. IsCandidate sys tiles n t in
     let test : ℕ → ℕ → ℕ → Bool = λ row column u. not (can_grow sys tiles (site_in area column row) (record { 0 = u })) in
     let of_row = all_below-at (height_of area) (λ row. all_below (width_of area) (λ column. all_below (length sys.types) (test row column))) cell.1 h cell.3 in
     let of_cell = all_below-at (width_of area) (λ column. all_below (length sys.types) (test cell.1 column)) cell.0 of_row cell.2 in

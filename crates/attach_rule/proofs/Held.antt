@@ -10,7 +10,7 @@ use Rattle.atam.specs.declared.place.Place.{Place}
 use Rattle.atam.specs.Placements.{tile_at}
 use Rattle.atam.specs.TileSystem.{TileSystem, IsType, side_glue}
 use Rattle.atam.specs.Assembly.{interaction, bond, pull}
-use Rattle.atam.specs.Growth.{CanGrow}
+use Rattle.atam.specs.Growth.{IsCandidate}
 use Rattle.atam.proofs.Bonds.{interaction-none}
 use Rattle.attach_rule.specs.declared.facing.FacingGlues.{FacingGlues}
 use Rattle.attach_rule.specs.Facing.{AreNone, FacesSite, strength_of_hold}
@@ -24,7 +24,7 @@ strength_of_hold-pull sys tiles m glues t faces =
 
 module _ (sys : TileSystem) (tiles : List Place) (m : Site) (glues : FacingGlues) (faces : FacesSite sys tiles m glues) (t : TypeId) (strength : ℕ) (is : strength ≡ strength_of_hold sys glues t) where
   -- so a type that they hold attaches where the site is empty
-  pub grows_held : IsType sys t → tile_at tiles m ≡ None → sys.tau ≤ strength → CanGrow sys tiles m t
+  pub grows_held : IsType sys t → tile_at tiles m ≡ None → sys.tau ≤ strength → IsCandidate sys tiles m t
   grows_held kind empty held =
       let Held : ℕ → Type 0 = λ n. sys.tau ≤ n in
       record {
@@ -33,7 +33,7 @@ module _ (sys : TileSystem) (tiles : List Place) (m : Site) (glues : FacingGlues
       }
 
   -- and one that they don't hold doesn't
-  pub fails_unheld : strength < sys.tau → ¬ CanGrow sys tiles m t
+  pub fails_unheld : strength < sys.tau → ¬ IsCandidate sys tiles m t
   fails_unheld weak grows =
       let same = strength_of_hold-pull sys tiles m glues t faces in
       let never : ⊥ = omega (arith, weak, grows.attaches.held, same, is) in
@@ -41,7 +41,7 @@ module _ (sys : TileSystem) (tiles : List Place) (m : Site) (glues : FacingGlues
 
 -- where no glue faces the site, no type attaches
 pub none_unfaced : (sys : TileSystem) (tiles : List Place) (m : Site) (glues : FacingGlues) → FacesSite sys tiles m glues → AreNone glues →
-    1 ≤ sys.tau → (t : TypeId) → ¬ CanGrow sys tiles m t
+    1 ≤ sys.tau → (t : TypeId) → ¬ IsCandidate sys tiles m t
 none_unfaced sys tiles m glues faces none some_tau t grows =
     let at : (d : Side) (g : Option GlueId) → g ≡ None → interaction sys (side_glue sys t d) g ≡ 0 = λ d g is_none.
     ap (interaction sys (side_glue sys t d)) is_none ∙ interaction-none sys (side_glue sys t d)
@@ -60,13 +60,13 @@ none_unfaced sys tiles m glues faces none some_tau t grows =
     never
 
 -- one type more that doesn't attach
-pub none_more : (sys : TileSystem) (tiles : List Place) (m : Site) (n : ℕ) → ((t : TypeId) → t.0 < n → ¬ CanGrow sys tiles m t) →
-    ¬ CanGrow sys tiles m (record { 0 = n }) → (t : TypeId) → t.0 < n + 1 → ¬ CanGrow sys tiles m t
+pub none_more : (sys : TileSystem) (tiles : List Place) (m : Site) (n : ℕ) → ((t : TypeId) → t.0 < n → ¬ IsCandidate sys tiles m t) →
+    ¬ IsCandidate sys tiles m (record { 0 = n }) → (t : TypeId) → t.0 < n + 1 → ¬ IsCandidate sys tiles m t
 none_more sys tiles m n before none t below grows = elim (cases_lt t.0 n) [
   | inl earlier ↦ before t earlier grows
   | inr last ↦
       let equal : t.0 ≡ n = omega (arith, below, last) in
-      let Grows : ℕ → Type 0 = λ k. CanGrow sys tiles m (record { 0 = k }) in
+      let Grows : ℕ → Type 0 = λ k. IsCandidate sys tiles m (record { 0 = k }) in
       none (subst Grows equal grows)
 ]
 

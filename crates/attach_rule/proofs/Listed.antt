@@ -9,14 +9,14 @@ use Rattle.atam.specs.declared.site.Site.{Site}
 use Rattle.atam.specs.declared.place.TypeId.{TypeId}
 use Rattle.atam.specs.declared.place.Place.{Place}
 use Rattle.atam.specs.TileSystem.{TileSystem}
-use Rattle.atam.specs.Growth.{CanGrow}
+use Rattle.atam.specs.Growth.{IsCandidate}
 use Rattle.attach_rule.specs.Candidates.{AreCandidates}
 
 pub record AreCandidatesBelow (sys : TileSystem) (tiles : List Place) (m : Site) (n : ℕ) (types : List TypeId) : Type 0 where
   pub sorted : AllPairs (λ t u. t.0 < u.0) types
   pub below : All (λ t. t.0 < n) types
-  pub each : All (CanGrow sys tiles m) types
-  pub complete : (t : TypeId) → t.0 < n → CanGrow sys tiles m t → Contains types t
+  pub each : All (IsCandidate sys tiles m) types
+  pub complete : (t : TypeId) → t.0 < n → IsCandidate sys tiles m t → Contains types t
   pub few : length types ≤ n
 
 module _ (sys : TileSystem) (tiles : List Place) (m : Site) where
@@ -26,23 +26,23 @@ module _ (sys : TileSystem) (tiles : List Place) (m : Site) where
       subst Candidates (sym empty) (record {
         sorted = λ i j d less within. let never : ⊥ = omega (arith, within) in absurd never;
         below = All-nil (λ t. t.0 < 0);
-        each = All-nil (CanGrow sys tiles m);
+        each = All-nil (IsCandidate sys tiles m);
         complete = λ t low grows. let never : ⊥ = omega (arith, low) in absurd never;
         few = omega arith;
       })
 
   -- the empty list has all types that attach where none does
-  pub no_candidates : (types : List TypeId) → types ≡ [] → ((t : TypeId) → ¬ CanGrow sys tiles m t) → AreCandidates sys tiles m types
+  pub no_candidates : (types : List TypeId) → types ≡ [] → ((t : TypeId) → ¬ IsCandidate sys tiles m t) → AreCandidates sys tiles m types
   no_candidates types empty none =
       let Candidates : List TypeId → Type 0 = AreCandidates sys tiles m in
       subst Candidates (sym empty) (record {
         sorted = λ i j d less within. let never : ⊥ = omega (arith, within) in absurd never;
-        each = All-nil (CanGrow sys tiles m);
+        each = All-nil (IsCandidate sys tiles m);
         complete = λ t grows. absurd (none t grows);
       })
 
   -- the next type is no candidate, or it is listed
-  pub candidates_kept : (n : ℕ) (types : List TypeId) → AreCandidatesBelow sys tiles m n types → ¬ CanGrow sys tiles m (record { 0 = n }) → AreCandidatesBelow sys tiles m (n + 1) types
+  pub candidates_kept : (n : ℕ) (types : List TypeId) → AreCandidatesBelow sys tiles m n types → ¬ IsCandidate sys tiles m (record { 0 = n }) → AreCandidatesBelow sys tiles m (n + 1) types
   candidates_kept n types lists none = record {
     sorted = lists.sorted;
     below = λ k d within. let low = lists.below k d within in omega (arith, low);
@@ -51,20 +51,20 @@ module _ (sys : TileSystem) (tiles : List Place) (m : Site) where
       | inl earlier ↦ lists.complete t earlier grows
       | inr last ↦
           let equal : t.0 ≡ n = omega (arith, low, last) in
-          let Grows : ℕ → Type 0 = λ k. CanGrow sys tiles m (record { 0 = k }) in
+          let Grows : ℕ → Type 0 = λ k. IsCandidate sys tiles m (record { 0 = k }) in
           absurd (none (subst Grows equal grows))
     ];
     few = omega (arith, lists.few);
   }
 
-  pub candidates_more : (n : ℕ) (types : List TypeId) → AreCandidatesBelow sys tiles m n types → CanGrow sys tiles m (record { 0 = n }) →
+  pub candidates_more : (n : ℕ) (types : List TypeId) → AreCandidatesBelow sys tiles m n types → IsCandidate sys tiles m (record { 0 = n }) →
       AreCandidatesBelow sys tiles m (n + 1) (types ++ record { 0 = n } ∷ [])
   candidates_more n types lists grows =
       let last : TypeId = record { 0 = n } in
       record {
         sorted = all_pairs_push (λ t u. t.0 < u.0) types last lists.sorted lists.below;
         below = All-push (λ t. t.0 < n + 1) types last (λ k d within. let low = lists.below k d within in omega (arith, low)) (omega arith);
-        each = All-push (CanGrow sys tiles m) types last lists.each grows;
+        each = All-push (IsCandidate sys tiles m) types last lists.each grows;
         complete = λ t low can. elim (cases_lt t.0 n) [
           | inl earlier ↦ Contains-append_left types (last ∷ []) t (lists.complete t earlier can)
           | inr past ↦

@@ -11,7 +11,7 @@ use Rattle.atam.specs.declared.area.BoxArea.{BoxArea}
 use Rattle.atam.specs.Sites.{InBox, neighbor}
 use Rattle.atam.specs.TileSystem.{TileSystem}
 use Rattle.atam.specs.Assembly.{Fits}
-use Rattle.atam.specs.Growth.{CanGrow, IsLeastOpenAmong, IsLeastOpenOutside}
+use Rattle.atam.specs.Growth.{IsCandidate, IsLeastOpenAmong, IsLeastOpenOutside}
 use Rattle.atam.proofs.Lists.{All-slice_get}
 use Rattle.atam.proofs.Bonds.{beside_a_tile}
 use Rattle.atam.proofs.Placements.{tile_at-place}
@@ -40,7 +40,7 @@ ring_cases area below above m West below_is above_is outside beside = elim (less
 
 module _ (sys : TileSystem) (tiles : List Place) (some_tau : 1 ≤ sys.tau) (fits : Fits sys tiles) (area : BoxArea) (same_area : area ≡ sys.area) where
   -- an open site is beside a tile, which is in the box
-  open_cases : (below above : ℤ) → below ≡ area.y0 -ℤ pos 1 → above ≡ area.y1 +ℤ pos 1 → (m : Site) (t : TypeId) → CanGrow sys tiles m t → ¬ InBox area m →
+  open_cases : (below above : ℤ) → below ≡ area.y0 -ℤ pos 1 → above ≡ area.y1 +ℤ pos 1 → (m : Site) (t : TypeId) → IsCandidate sys tiles m t → ¬ InBox area m →
       InBox (row_at area below) m ⊎ (IsAtEnds area m ⊎ InBox (row_at area above) m)
   open_cases below above below_is above_is m t grows outside =
       let tile = beside_a_tile sys tiles m t (le_trans some_tau grows.attaches.held) in

@@ -7,7 +7,7 @@ use Rattle.atam.specs.declared.place.Place.{Place}
 use Rattle.atam.specs.declared.area.BoxArea.{BoxArea}
 use Rattle.atam.specs.Sites.{IsBefore, InBox}
 use Rattle.atam.specs.TileSystem.{TileSystem}
-use Rattle.atam.specs.Growth.{CanGrow, IsLeastOpenAmong}
+use Rattle.atam.specs.Growth.{IsCandidate, IsLeastOpenAmong}
 use Rattle.atam.proofs.Boxes.{same_coordinates}
 use Rattle.attach_rule.specs.Searches.{row_at, IsAtEnds}
 
@@ -22,14 +22,14 @@ less_or_not a b = by_lt_z a b (λ less. inl less) (λ more. inr more)
 
 module _ (sys : TileSystem) (tiles : List Place) (P Q R : Site → Type 0) where
   -- nothing is open among the sites of two parts where nothing is in either
-  pub none_in_parts : ((m : Site) (t : TypeId) → CanGrow sys tiles m t → R m → P m ⊎ Q m) →
+  pub none_in_parts : ((m : Site) (t : TypeId) → IsCandidate sys tiles m t → R m → P m ⊎ Q m) →
       IsLeastOpenAmong sys tiles P None → IsLeastOpenAmong sys tiles Q None → IsLeastOpenAmong sys tiles R None
   none_in_parts parts none_p none_q m t among grows =
       elim (parts m t grows among) [ inl in_p ↦ none_p m t in_p grows | inr in_q ↦ none_q m t in_q grows ]
 
   -- and what is found in the later part, and is before the sites that are left, is least of all
   pub least_in_parts : (found : Site × TypeId) → ((m : Site) → Q m → R m) →
-      ((m n : Site) (t : TypeId) → CanGrow sys tiles n t → Q m → R n → P n ⊎ (Q n ⊎ IsBefore m n)) →
+      ((m n : Site) (t : TypeId) → IsCandidate sys tiles n t → Q m → R n → P n ⊎ (Q n ⊎ IsBefore m n)) →
       IsLeastOpenAmong sys tiles P None → IsLeastOpenAmong sys tiles Q (Some found) → IsLeastOpenAmong sys tiles R (Some found)
   least_in_parts found inside parts none_p least = record {
     among = inside found.0 least.among;
@@ -42,7 +42,7 @@ module _ (sys : TileSystem) (tiles : List Place) (P Q R : Site → Type 0) where
   }
 
   -- whatever the last part has
-  pub last_part : (found : Option (Site × TypeId)) → ((m : Site) → Q m → R m) → ((m : Site) (t : TypeId) → CanGrow sys tiles m t → R m → P m ⊎ Q m) →
+  pub last_part : (found : Option (Site × TypeId)) → ((m : Site) → Q m → R m) → ((m : Site) (t : TypeId) → IsCandidate sys tiles m t → R m → P m ⊎ Q m) →
       IsLeastOpenAmong sys tiles P None → IsLeastOpenAmong sys tiles Q found → IsLeastOpenAmong sys tiles R found
   last_part None inside parts none_p none = none_in_parts parts none_p none
   last_part (Some found) inside parts none_p least =

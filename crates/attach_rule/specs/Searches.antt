@@ -5,16 +5,16 @@ use Rattle.atam.specs.declared.place.TypeId.{TypeId}
 use Rattle.atam.specs.declared.place.Place.{Place}
 use Rattle.atam.specs.declared.area.BoxArea.{BoxArea}
 use Rattle.atam.specs.TileSystem.{TileSystem}
-use Rattle.atam.specs.Growth.{CanGrow}
+use Rattle.atam.specs.Growth.{IsCandidate}
 
 -- the type attaches at the site, and none with a lesser index does
 pub record AttachesFirst (sys : TileSystem) (tiles : List Place) (m : Site) (t : TypeId) : Type 0 where
-  pub grows : CanGrow sys tiles m t
-  pub least : (u : TypeId) → CanGrow sys tiles m u → t.0 ≤ u.0
+  pub grows : IsCandidate sys tiles m t
+  pub least : (u : TypeId) → IsCandidate sys tiles m u → t.0 ≤ u.0
 
 -- none exactly where no type attaches at the site
 abbrev pub IsFirstType : TileSystem → List Place → Site → Option TypeId → Type 0
-IsFirstType sys tiles m found = MatchOption found ((t : TypeId) → ¬ CanGrow sys tiles m t) (AttachesFirst sys tiles m)
+IsFirstType sys tiles m found = MatchOption found ((t : TypeId) → ¬ IsCandidate sys tiles m t) (AttachesFirst sys tiles m)
 
 -- the sites at this height in the columns of a box
 abbrev pub row_at : BoxArea → ℤ → BoxArea

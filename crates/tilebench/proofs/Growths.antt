@@ -7,7 +7,7 @@ use Rattle.atam.specs.Assembly.{Fits}
 use Rattle.atam.specs.Growth.{IsLegal, IsProducible, IsClosedInBox}
 use Rattle.atam.proofs.Canon.{producible_seeded}
 use Rattle.atam.proofs.Placements.{Contains-tile_at}
-use Rattle.assembly.proofs.Opening.{CanGrow-same, Fits-part}
+use Rattle.assembly.proofs.Opening.{IsCandidate-same, Fits-part}
 use Rattle.replay_order.specs.ReplayAnswers.{LacksSeed}
 use Rattle.tilebench.specs.declared.grid_growth.GridGrowth.{GridGrowth}
 use Rattle.tilebench.specs.GridGrowing.{IsInStep}
@@ -20,7 +20,7 @@ full_growth sys growth legal fits closed step distinct = record {
   distinct = distinct;
   inside = (Fits-part sys growth.grid.tiles growth.sequence step.placements.whole fits).sites;
   producible = record { sequence = growth.sequence; legal = legal; same = step.placements };
-  closed = λ m t within grows. closed m t within (CanGrow-same sys growth.grid.tiles growth.sequence m t (λ n. sym (step.tiles n)) grows);
+  closed = λ m t within grows. closed m t within (IsCandidate-same sys growth.grid.tiles growth.sequence m t (λ n. sym (step.tiles n)) grows);
 }
 
 -- a producible assembly lacks no seed

@@ -11,11 +11,11 @@ use Rattle.atam.specs.Sites.{neighbor, InBox}
 use Rattle.atam.specs.Placements.{SamePlacements, tile_at}
 use Rattle.atam.specs.TileSystem.{TileSystem}
 use Rattle.atam.specs.Assembly.{Fits}
-use Rattle.atam.specs.Growth.{IsLegal, CanGrow}
+use Rattle.atam.specs.Growth.{IsLegal, IsCandidate}
 use Rattle.atam.proofs.Sequences.{IsLegal-push, Fits-push}
 use Rattle.assembly.specs.Grids.{TileGrid}
 use Rattle.assembly.proofs.Tiles.{SameTiles-put, SamePlacements-push, SamePlacements-trans}
-use Rattle.assembly.proofs.Opening.{CanGrow-same, Attaches-same, CanGrow-push}
+use Rattle.assembly.proofs.Opening.{IsCandidate-same, Attaches-same, IsCandidate-push}
 use Rattle.tilebench.specs.declared.grid_growth.GridGrowth.{GridGrowth}
 use Rattle.tilebench.specs.GridGrowing.{IsInStep, IsGrownSoFar, IsClosedBut, AddsSite, AddsNeighbors, LooksAt}
 
@@ -56,22 +56,22 @@ neighbors_listed area m up right down left a b c d e up_is right_is down_is left
 module _ (sys : TileSystem) (before : GridGrowth) (site : Site) (old : List Site) (grown : IsGrownSoFar sys before) (inside : All (InBox sys.area) old)
     (closed : IsClosedBut sys before.sequence (old ++ site ∷ [])) where
   -- where no type attaches
-  pub looked_at_none : ((t : TypeId) → ¬ CanGrow sys before.grid.tiles site t) → LooksAt sys before before old old
+  pub looked_at_none : ((t : TypeId) → ¬ IsCandidate sys before.grid.tiles site t) → LooksAt sys before before old old
   looked_at_none none = record {
     grown = grown;
     inside = inside;
     closed = λ m t in_box grows. elim (Contains-push_cases old site m (closed m t in_box grows)) [
       | inl listed ↦ listed
       | inr one ↦
-          let Grows : Site → Type 0 = λ n. CanGrow sys before.sequence n t in
-          absurd (none t (CanGrow-same sys before.sequence before.grid.tiles site t grown.step.tiles (subst Grows (sym one) grows)))
+          let Grows : Site → Type 0 = λ n. IsCandidate sys before.sequence n t in
+          absurd (none t (IsCandidate-same sys before.sequence before.grid.tiles site t grown.step.tiles (subst Grows (sym one) grows)))
     ];
     work = omega arith;
   }
 
   -- where a type attaches and is placed
   pub looked_at_some : (after : GridGrowth) (new : List Site) (area : BoxArea) (tile : TypeId) → InBox sys.area site → area ≡ sys.area →
-      CanGrow sys before.grid.tiles site tile → after.sequence ≡ before.sequence ++ record { site = site; tile = tile } ∷ [] →
+      IsCandidate sys before.grid.tiles site tile → after.sequence ≡ before.sequence ++ record { site = site; tile = tile } ∷ [] →
       after.grid.area ≡ before.grid.area → IsInStep after → AddsNeighbors area site old new → LooksAt sys before after old new
   looked_at_some after new area tile in_box same_area grows placed kept_area step listed =
       let s = before.sequence in
@@ -91,7 +91,7 @@ module _ (sys : TileSystem) (before : GridGrowth) (site : Site) (old : List Site
           step = step;
         };
         inside = near.inside inside;
-        closed = subst Closed (sym placed) (λ m t m_in_box m_grows. elim (CanGrow-push sys s p m t attaches.empty m_grows) [
+        closed = subst Closed (sym placed) (λ m t m_in_box m_grows. elim (IsCandidate-push sys s p m t attaches.empty m_grows) [
           | inl beside ↦
               let Listed : Site → Type 0 = Contains new in
               subst Listed beside.1 (near.added beside.0 (subst (InBox sys.area) (sym beside.1) m_in_box))

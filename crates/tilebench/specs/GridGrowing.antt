@@ -9,7 +9,7 @@ use Rattle.atam.specs.Sites.{neighbor, InBox}
 use Rattle.atam.specs.TileSystem.{TileSystem}
 use Rattle.atam.specs.Placements.{SamePlacements, tile_at}
 use Rattle.atam.specs.Assembly.{Fits}
-use Rattle.atam.specs.Growth.{IsLegal, CanGrow}
+use Rattle.atam.specs.Growth.{IsLegal, IsCandidate}
 use Rattle.tilebench.specs.declared.grid_growth.GridGrowth.{GridGrowth}
 
 -- the grid has the tiles of the sequence
@@ -26,11 +26,11 @@ pub record IsGrownSoFar (sys : TileSystem) (growth : GridGrowth) : Type 0 where
 
 -- no type attaches at a site of the box that isn't listed
 abbrev pub IsClosedBut : TileSystem → List Place → List Site → Type 0
-IsClosedBut sys tiles sites = (m : Site) (t : TypeId) → InBox sys.area m → CanGrow sys tiles m t → Contains sites m
+IsClosedBut sys tiles sites = (m : Site) (t : TypeId) → InBox sys.area m → IsCandidate sys tiles m t → Contains sites m
 
 -- a type that attaches at the site; none exactly where none does
 abbrev pub IsOpenType : TileSystem → List Place → Site → Option TypeId → Type 0
-IsOpenType sys tiles m found = MatchOption found ((t : TypeId) → ¬ CanGrow sys tiles m t) (CanGrow sys tiles m)
+IsOpenType sys tiles m found = MatchOption found ((t : TypeId) → ¬ IsCandidate sys tiles m t) (IsCandidate sys tiles m)
 
 -- the site is listed too, if it is in the box
 pub record AddsSite (area : BoxArea) (m : Site) (old new : List Site) : Type 0 where

@@ -17,7 +17,7 @@ use Rattle.atam.proofs.Canon.{canonical_unique, canonical_same, canonical_IsLega
 use Rattle.atam.proofs.Open.{least_open_unique}
 use Rattle.atam.proofs.Confluence.{confluence, confluence_part}
 use Rattle.atam.proofs.Extension.{deterministic_extension}
-use Rattle.atam.proofs.SameVerdict.{CanGrow-same, same_verdict}
+use Rattle.atam.proofs.SameVerdict.{IsCandidate-same, same_verdict}
 use Rattle.assembly.proofs.Tiles.{SamePlacements-trans}
 use Rattle.local_check.specs.declared.verdict.Verdict.{Verdict}
 use Rattle.local_check.specs.declared.verdict.Verdict.TheVariants.{Yes}
@@ -52,12 +52,12 @@ module _ (sys : TileSystem) (a b : List Place) (same : SamePlacements a b) where
   -- and the same least open site
   module _ (to_b : Extends a b) (to_a : Extends b a) where
     pub least_open_too : (P : Site → Type 0) (found : Option (Site × TypeId)) → IsLeastOpenAmong sys a P found → IsLeastOpenAmong sys b P found
-    least_open_too P None none = λ m t among grows. none m t among (CanGrow-same sys b a m t to_a to_b grows)
+    least_open_too P None none = λ m t among grows. none m t among (IsCandidate-same sys b a m t to_a to_b grows)
     least_open_too P (Some f) least = record {
       among = least.among;
-      grows = CanGrow-same sys a b f.0 f.1 to_b to_a least.grows;
-      least_site = λ n u among grows. least.least_site n u among (CanGrow-same sys b a n u to_a to_b grows);
-      least_type = λ u grows. least.least_type u (CanGrow-same sys b a f.0 u to_a to_b grows);
+      grows = IsCandidate-same sys a b f.0 f.1 to_b to_a least.grows;
+      least_site = λ n u among grows. least.least_site n u among (IsCandidate-same sys b a n u to_a to_b grows);
+      least_type = λ u grows. least.least_type u (IsCandidate-same sys b a f.0 u to_a to_b grows);
     }
 
 -- so they have one outcome
