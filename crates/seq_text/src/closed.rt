@@ -15,8 +15,7 @@ pub fn print_closed<K: Sink>(
     sink: &mut K,
 ) -> Result<(), Failed>
     requires { IfSome found (λ open_site. IsType sys.now open_site.1) }
-    ensures { Prints (K.written sink.old) (K.written sink.new) (K.faults sink.old) (K.faults sink.new) result
-        (closed_line sys.now found) }
+    ensures { Prints K.written K.faults sink.old sink.new result (closed_line sys.now found) }
 {
     match found {
         Some((site, tile)) => print_clipped(sys, site, tile, sink),
@@ -32,7 +31,7 @@ fn print_clipped<K: Sink>(
     sink: &mut K,
 ) -> Result<(), Failed>
     requires { IsType sys.now tile }
-    ensures { Prints (K.written sink.old) (K.written sink.new) (K.faults sink.old) (K.faults sink.new) result
+    ensures { Prints K.written K.faults sink.old sink.new result
         (closed_line sys.now (Some (site, tile))) }
 {
     let mut x = Buffer::new();

@@ -9,8 +9,7 @@ use tile_io::{Failed, Sink, print_line};
 
 /// Writes the `legal` line. It takes no memory.
 pub fn print_legality<K: Sink>(legality: &Legality, sink: &mut K) -> Result<(), Failed>
-    ensures { Prints (K.written sink.old) (K.written sink.new) (K.faults sink.old) (K.faults sink.new) result
-        (legality_line legality.now) }
+    ensures { Prints K.written K.faults sink.old sink.new result (legality_line legality.now) }
 {
     match *legality {
         Legality::Legal => print_line(sink, b"legal", &[b"yes"]),
@@ -22,8 +21,7 @@ pub fn print_legality<K: Sink>(legality: &Legality, sink: &mut K) -> Result<(), 
 
 // Writes the line of a place whose site is taken.
 fn print_taken<K: Sink>(index: u32, sink: &mut K) -> Result<(), Failed>
-    ensures { Prints (K.written sink.old) (K.written sink.new) (K.faults sink.old) (K.faults sink.new) result
-        (legality_line (SiteTaken index)) }
+    ensures { Prints K.written K.faults sink.old sink.new result (legality_line (SiteTaken index)) }
 {
     let mut number = Buffer::new();
     let index = number.format(index).as_bytes();
@@ -32,7 +30,7 @@ fn print_taken<K: Sink>(index: u32, sink: &mut K) -> Result<(), Failed>
 
 // Writes the line of a place that is held too weakly.
 fn print_weak<K: Sink>(index: u32, pull: u32, sink: &mut K) -> Result<(), Failed>
-    ensures { Prints (K.written sink.old) (K.written sink.new) (K.faults sink.old) (K.faults sink.new) result
+    ensures { Prints K.written K.faults sink.old sink.new result
         (legality_line (TooWeak index pull)) }
 {
     let mut number = Buffer::new();

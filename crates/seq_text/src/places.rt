@@ -12,8 +12,7 @@ use tile_system::{Place, System};
 /// Writes the `place` line of each tile, in order. It takes no memory.
 pub fn print_places<K: Sink>(sys: &System, places: &[Place], sink: &mut K) -> Result<(), Failed>
     requires { All (λ p. IsType sys.now p.tile) places.now }
-    ensures { Prints (K.written sink.old) (K.written sink.new) (K.faults sink.old) (K.faults sink.new) result
-        (place_lines sys.now places.now) }
+    ensures { Prints K.written K.faults sink.old sink.new result (place_lines sys.now places.now) }
 {
     let mut chunk = Chunk::new();
     put_places(sys, places, &mut chunk, sink)?;
@@ -28,8 +27,8 @@ fn put_places<K: Sink>(
     sink: &mut K,
 ) -> Result<(), Failed>
     requires { All (λ p. IsType sys.now p.tile) places.now }
-    ensures { PassesOn (K.written sink.old) (K.written sink.new) (K.faults sink.old) (K.faults sink.new)
-        chunk.old chunk.new result (place_lines sys.now places.now) }
+    ensures { PassesOn K.written K.faults sink.old sink.new chunk.old chunk.new result
+        (place_lines sys.now places.now) }
 {
     for place in places {
         put_place(sys, *place, chunk, sink)?;
@@ -45,8 +44,8 @@ fn put_place<K: Sink>(
     sink: &mut K,
 ) -> Result<(), Failed>
     requires { IsType sys.now place.tile }
-    ensures { PassesOn (K.written sink.old) (K.written sink.new) (K.faults sink.old) (K.faults sink.new)
-        chunk.old chunk.new result (place_line sys.now place) }
+    ensures { PassesOn K.written K.faults sink.old sink.new chunk.old chunk.new result
+        (place_line sys.now place) }
 {
     let mut x = Buffer::new();
     let mut y = Buffer::new();

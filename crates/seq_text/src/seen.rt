@@ -16,8 +16,7 @@ pub fn print_replies<K: Sink>(
     sink: &mut K,
 ) -> Result<(), Failed>
     requires { All (HasLine sys.now) replies.now }
-    ensures { Prints (K.written sink.old) (K.written sink.new) (K.faults sink.old) (K.faults sink.new) result
-        (seen_lines sys.now replies.now) }
+    ensures { Prints K.written K.faults sink.old sink.new result (seen_lines sys.now replies.now) }
 {
     let mut chunk = Chunk::new();
     put_replies(sys, replies, &mut chunk, sink)?;
@@ -31,8 +30,7 @@ pub fn print_seen<K: Sink>(
     sink: &mut K,
 ) -> Result<(), Failed>
     requires { HasLine sys.now answer.now }
-    ensures { Prints (K.written sink.old) (K.written sink.new) (K.faults sink.old) (K.faults sink.new) result
-        (seen_line sys.now answer.now) }
+    ensures { Prints K.written K.faults sink.old sink.new result (seen_line sys.now answer.now) }
 {
     let mut chunk = Chunk::new();
     put_seen(sys, answer, &mut chunk, sink)?;
@@ -47,8 +45,8 @@ fn put_replies<K: Sink>(
     sink: &mut K,
 ) -> Result<(), Failed>
     requires { All (HasLine sys.now) replies.now }
-    ensures { PassesOn (K.written sink.old) (K.written sink.new) (K.faults sink.old) (K.faults sink.new)
-        chunk.old chunk.new result (seen_lines sys.now replies.now) }
+    ensures { PassesOn K.written K.faults sink.old sink.new chunk.old chunk.new result
+        (seen_lines sys.now replies.now) }
 {
     for reply in replies {
         put_seen(sys, reply, chunk, sink)?;
@@ -64,8 +62,8 @@ pub fn put_seen<K: Sink>(
     sink: &mut K,
 ) -> Result<(), Failed>
     requires { HasLine sys.now answer.now }
-    ensures { PassesOn (K.written sink.old) (K.written sink.new) (K.faults sink.old) (K.faults sink.new)
-        chunk.old chunk.new result (seen_line sys.now answer.now) }
+    ensures { PassesOn K.written K.faults sink.old sink.new chunk.old chunk.new result
+        (seen_line sys.now answer.now) }
 {
     match *answer {
         Ok(seen) => put_told(sys, seen, chunk, sink),
@@ -81,8 +79,8 @@ fn put_told<K: Sink>(
     sink: &mut K,
 ) -> Result<(), Failed>
     requires { TellsTypes sys.now seen }
-    ensures { PassesOn (K.written sink.old) (K.written sink.new) (K.faults sink.old) (K.faults sink.new)
-        chunk.old chunk.new result (told_line sys.now seen) }
+    ensures { PassesOn K.written K.faults sink.old sink.new chunk.old chunk.new result
+        (told_line sys.now seen) }
 {
     match seen {
         Seen::Saw(None) => chunk.put_line(sink, b"saw", &[b"-"]),
@@ -103,8 +101,8 @@ fn put_told<K: Sink>(
 // Adds the line of a refusal.
 fn put_refusal<K: Sink>(stop: CoreStop, chunk: &mut Chunk, sink: &mut K) -> Result<(), Failed>
     requires { IsRefusal stop }
-    ensures { PassesOn (K.written sink.old) (K.written sink.new) (K.faults sink.old) (K.faults sink.new)
-        chunk.old chunk.new result (refusal_line stop) }
+    ensures { PassesOn K.written K.faults sink.old sink.new chunk.old chunk.new result
+        (refusal_line stop) }
 {
     match stop {
         CoreStop::NoSuchScout => chunk.put_line(sink, b"refused", &[b"1"]),

@@ -9,8 +9,7 @@ use tile_system::Site;
 /// Writes the `stuck` line of an assembly of which so many tiles can't be reached, the least site
 /// of theirs being this one. It takes no memory.
 pub fn print_stuck<K: Sink>(left: u32, least: Site, sink: &mut K) -> Result<(), Failed>
-    ensures { Prints (K.written sink.old) (K.written sink.new) (K.faults sink.old) (K.faults sink.new) result
-        (stuck_line left least) }
+    ensures { Prints K.written K.faults sink.old sink.new result (stuck_line left least) }
 {
     let mut number = Buffer::new();
     let left = number.format(left).as_bytes();
@@ -19,16 +18,14 @@ pub fn print_stuck<K: Sink>(left: u32, least: Site, sink: &mut K) -> Result<(), 
 
 /// Writes the `stuck` line of an assembly without the seed of this site. It takes no memory.
 pub fn print_stuck_seed<K: Sink>(site: Site, sink: &mut K) -> Result<(), Failed>
-    ensures { Prints (K.written sink.old) (K.written sink.new) (K.faults sink.old) (K.faults sink.new) result
-        (stuck_seed_line site) }
+    ensures { Prints K.written K.faults sink.old sink.new result (stuck_seed_line site) }
 {
     print_site(b"seed", site, sink)
 }
 
 // Writes the line with its second word and a site.
 fn print_site<K: Sink>(what: &[u8], site: Site, sink: &mut K) -> Result<(), Failed>
-    ensures { Prints (K.written sink.old) (K.written sink.new) (K.faults sink.old) (K.faults sink.new) result
-        (stuck_at what.now site) }
+    ensures { Prints K.written K.faults sink.old sink.new result (stuck_at what.now site) }
 {
     let mut x = Buffer::new();
     let mut y = Buffer::new();

@@ -13,7 +13,7 @@ use tile_system::{Site, System};
 /// Writes the `unique` line. It takes no memory.
 pub fn print_verdict<K: Sink>(sys: &System, verdict: &Verdict, sink: &mut K) -> Result<(), Failed>
     requires { NamesTypes sys.now verdict.now }
-    ensures { Prints (K.written sink.old) (K.written sink.new) (K.faults sink.old) (K.faults sink.new) result
+    ensures { Prints K.written K.faults sink.old sink.new result
         (verdict_line sys.now verdict.now) }
 {
     match *verdict {
@@ -34,7 +34,7 @@ fn print_failed<K: Sink>(
     what: &[u8],
     sink: &mut K,
 ) -> Result<(), Failed>
-    ensures { Prints (K.written sink.old) (K.written sink.new) (K.faults sink.old) (K.faults sink.new) result
+    ensures { Prints K.written K.faults sink.old sink.new result
         (failed_line condition.now site what.now) }
 {
     let mut x = Buffer::new();

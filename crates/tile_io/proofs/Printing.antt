@@ -1,15 +1,11 @@
 -- Prints and pieces of a chunk, one after another.
-use Rattle.std.proofs.Common.{◌≡◌, ◌≤◌, ◌<◌, ℕ, zero, suc, ◌+◌, List, [], ◌∷◌, ◌++◌, length, take, drop, flat_map, get_or, Option, Some, None, Result, Ok, Err, ◌∙◌, ap, sym, subst, append_assoc, append-nil, add-one, arith, refl}
-use Rattle.std.proofs.Math.Nat.{le_refl, le_trans}
+use Rattle.std.proofs.Common.{◌≡◌, ◌<◌, ℕ, zero, suc, ◌+◌, List, [], ◌∷◌, ◌++◌, length, take, drop, flat_map, get_or, Option, Some, None, Result, Ok, Err, ◌∙◌, ap, sym, subst, append_assoc, append-nil, add-one, arith, refl}
+use Rattle.std.proofs.Math.Nat.{le_trans}
 use Rattle.std.specs.Io.KnownBytes.{Appends}
-use Rattle.tile_io.specs.Faults.{Rose}
+use Rattle.tile_io.specs.Faults.{HasCause, next_count}
 use Rattle.tile_io.specs.Prints.{AppendsFront, Prints}
 use Rattle.tile_io.specs.Chunks.{Carries, PassesOn}
 use Rattle.tile_io.proofs.Bytes.{Appends-then, Front-after}
-
--- a count that didn't fall and then rose has risen
-Rose-later : (f g h : ℕ) → f ≤ g → Rose g h → Rose f h
-Rose-later f g h later rose = omega arith
 
 -- doing nothing appends nothing
 Appends-nothing : (a : Option (List ℕ)) → Appends a a []
@@ -19,50 +15,6 @@ Appends-nothing (Some xs) = sym (append-nil xs)
 -- a front of a text is one of a longer text
 Front-more : (a b : Option (List ℕ)) (front rest : List ℕ) → AppendsFront a b front → AppendsFront a b (front ++ rest)
 Front-more a b front rest failed = Front-after a a b [] front rest (front ++ rest) (Appends-nothing a) failed refl
-
--- nothing is printed by doing nothing
-pub Prints-nothing : {T E : Type 0} (a : Option (List ℕ)) (f : ℕ) (x : T) → Prints {T = T} {E = E} a a f f (Ok x) []
-Prints-nothing a f x = record { whole = Appends-nothing a; front = tt; later = le_refl f; failed = tt }
-
--- what was printed has this text
-pub Prints-text : {T E : Type 0} {a b : Option (List ℕ)} {f g : ℕ} {r : Result T E} {p q : List ℕ} → p ≡ q → Prints a b f g r p → Prints a b f g r q
-Prints-text {T = T} {E = E} {a = a} {b = b} {f = f} {g = g} {r = r} same printed = let Printed : List ℕ → Type 0 = λ l. Prints {T = T} {E = E} a b f g r l in subst Printed same printed
-
--- a text and then another
-pub Prints-then : {T U E F : Type 0} {a b c : Option (List ℕ)} {f g h : ℕ} {x : T} {p q : List ℕ} (r : Result U F) →
-    Prints {T = T} {E = E} a b f g (Ok x) p → Prints b c g h r q → Prints a c f h r (p ++ q)
-Prints-then {a = a} {b = b} {c = c} {p = p} {q = q} (Ok y) first second =
-    record { whole = Appends-then a b c p q first.whole second.whole; front = tt; later = le_trans first.later second.later; failed = tt }
-Prints-then {a = a} {b = b} {c = c} {f = f} {g = g} {h = h} {p = p} {q = q} (Err e) first second =
-    record {
-      whole = tt;
-      front = Front-after a b c p q [] (p ++ q) first.whole second.front (ap (λ l. p ++ l) (sym (append-nil q)));
-      later = le_trans first.later second.later;
-      failed = Rose-later f g h first.later second.failed;
-    }
-
--- a text and then another, neither failing
-pub Prints-both : {T U E F : Type 0} {a b c : Option (List ℕ)} {f g h : ℕ} {x : T} {y : U} {p q : List ℕ} →
-    Prints {T = T} {E = E} a b f g (Ok x) p → Prints {E = F} b c g h (Ok y) q → Prints {E = F} a c f h (Ok y) (p ++ q)
-Prints-both {y = y} first second = Prints-then (Ok y) first second
-
--- a text and then another that fails
-pub Prints-fails : {T U E F : Type 0} {a b c : Option (List ℕ)} {f g h : ℕ} {x : T} {e : F} {p q : List ℕ} →
-    Prints {T = T} {E = E} a b f g (Ok x) p → Prints {T = U} b c g h (Err e) q → Prints {T = U} a c f h (Err e) (p ++ q)
-Prints-fails {e = e} first second = Prints-then (Err e) first second
-
--- a text that failed, and what would have followed
-pub Prints-stopped : {T U E F : Type 0} {a b : Option (List ℕ)} {f g : ℕ} {e : E} {d : F} {p : List ℕ} (rest : List ℕ) →
-    Prints {T = T} a b f g (Err e) p → Prints {T = U} a b f g (Err d) (p ++ rest)
-Prints-stopped {a = a} {b = b} {p = p} rest printed = record { whole = tt; front = Front-more a b p rest printed.front; later = printed.later; failed = printed.failed }
-
--- a chunk that takes nothing
-pub PassesOn-nothing : {T E : Type 0} (a : Option (List ℕ)) (f : ℕ) (held : List ℕ) (x : T) → PassesOn {T = T} {E = E} a a f f held held (Ok x) []
-PassesOn-nothing a f held x = record { taken = ([], Appends-nothing a, append-nil held); front = tt; later = le_refl f; failed = tt }
-
--- what passed on has this text
-pub PassesOn-text : {T E : Type 0} {a b : Option (List ℕ)} {f g : ℕ} {i j : List ℕ} {r : Result T E} {p q : List ℕ} → p ≡ q → PassesOn a b f g i j r p → PassesOn a b f g i j r q
-PassesOn-text {T = T} {E = E} {a = a} {b = b} {f = f} {g = g} {i = i} {j = j} {r = r} same passed = let Passed : List ℕ → Type 0 = λ l. PassesOn {T = T} {E = E} a b f g i j r l in subst Passed same passed
 
 Carries-then : (a b c : Option (List ℕ)) (i j k p q : List ℕ) → Carries a b i j p → Carries b c j k q → Carries a c i k (p ++ q)
 Carries-then a b c i j k p q first second =
@@ -82,64 +34,123 @@ Front-carried a b c i j p q first failed =
     in
     Front-after a b c o (j ++ q) [] (i ++ (p ++ q)) first.1 failed all
 
--- a piece and then another
-pub PassesOn-then : {T U E F : Type 0} {a b c : Option (List ℕ)} {f g h : ℕ} {i j k : List ℕ} {x : T} {p q : List ℕ} (r : Result U F) →
-    PassesOn {T = T} {E = E} a b f g i j (Ok x) p → PassesOn b c g h j k r q → PassesOn a c f h i k r (p ++ q)
-PassesOn-then {a = a} {b = b} {c = c} {i = i} {j = j} {k = k} {p = p} {q = q} (Ok y) first second =
-    record { taken = Carries-then a b c i j k p q first.taken second.taken; front = tt; later = le_trans first.later second.later; failed = tt }
-PassesOn-then {a = a} {b = b} {c = c} {f = f} {g = g} {h = h} {i = i} {j = j} {k = k} {p = p} {q = q} (Err e) first second =
-    record {
-      taken = tt;
-      front = Front-carried a b c i j p q first.taken second.front;
-      later = le_trans first.later second.later;
-      failed = Rose-later f g h first.later second.failed;
-    }
+module _ {S : Type 0} {faults : S → ℕ} where
+  -- a call that succeeds, and then another
+  HasCause-then : {T U E F : Type 0} {a b c : S} {x : T} (r : Result U F) → HasCause {T = T} {E = E} faults a b (Ok x) → HasCause faults b c r → HasCause faults a c r
+  HasCause-then (Ok y) first second = record { stays = second.stays ∙ first.stays; failed = tt; later = le_trans first.later second.later }
+  HasCause-then (Err e) first second = record { stays = tt; failed = second.failed ∙ ap next_count first.stays; later = le_trans first.later second.later }
 
--- a piece and then another, neither failing
-pub PassesOn-both : {T U E F : Type 0} {a b c : Option (List ℕ)} {f g h : ℕ} {i j k : List ℕ} {x : T} {y : U} {p q : List ℕ} →
-    PassesOn {T = T} {E = E} a b f g i j (Ok x) p → PassesOn {E = F} b c g h j k (Ok y) q → PassesOn {E = F} a c f h i k (Ok y) (p ++ q)
-PassesOn-both {y = y} first second = PassesOn-then (Ok y) first second
+  -- a call that failed, told as another error
+  HasCause-failed : {T U E F : Type 0} {a b : S} {e : E} {d : F} → HasCause {T = T} faults a b (Err e) → HasCause {T = U} faults a b (Err d)
+  HasCause-failed cause = record { stays = tt; failed = cause.failed; later = cause.later }
 
--- a piece and then another that fails
-pub PassesOn-fails : {T U E F : Type 0} {a b c : Option (List ℕ)} {f g h : ℕ} {i j k : List ℕ} {x : T} {e : F} {p q : List ℕ} →
-    PassesOn {T = T} {E = E} a b f g i j (Ok x) p → PassesOn {T = U} b c g h j k (Err e) q → PassesOn {T = U} a c f h i k (Err e) (p ++ q)
-PassesOn-fails {e = e} first second = PassesOn-then (Err e) first second
+-- a sink, by what was written to it and the count of its faults
+module _ {S : Type 0} {written : S → Option (List ℕ)} {faults : S → ℕ} where
+  -- what was printed has this text
+  pub Prints-text : {T E : Type 0} {a b : S} {r : Result T E} {p q : List ℕ} → p ≡ q → Prints written faults a b r p → Prints written faults a b r q
+  Prints-text {T = T} {E = E} {a = a} {b = b} {r = r} same printed = let Printed : List ℕ → Type 0 = λ l. Prints {T = T} {E = E} written faults a b r l in subst Printed same printed
 
--- a piece that failed, and what would have followed
-pub PassesOn-stopped : {T U E F : Type 0} {a b : Option (List ℕ)} {f g : ℕ} {i j : List ℕ} {e : E} {d : F} {p : List ℕ} (rest : List ℕ) →
-    PassesOn {T = T} a b f g i j (Err e) p → PassesOn {T = U} a b f g i j (Err d) (p ++ rest)
-PassesOn-stopped {a = a} {b = b} {i = i} {p = p} rest passed =
-    let Appended : List ℕ → Type 0 = λ l. AppendsFront a b l in
-    record { taken = tt; front = subst Appended (append_assoc i p rest) (Front-more a b (i ++ p) rest passed.front); later = passed.later; failed = passed.failed }
+  -- a text and then another
+  pub Prints-then : {T U E F : Type 0} {a b c : S} {x : T} {p q : List ℕ} (r : Result U F) →
+      Prints {T = T} {E = E} written faults a b (Ok x) p → Prints written faults b c r q → Prints written faults a c r (p ++ q)
+  Prints-then {a = a} {b = b} {c = c} {p = p} {q = q} (Ok y) first second =
+      record { whole = Appends-then (written a) (written b) (written c) p q first.whole second.whole; front = tt; cause = HasCause-then (Ok y) first.cause second.cause }
+  Prints-then {a = a} {b = b} {c = c} {p = p} {q = q} (Err e) first second =
+      record {
+        whole = tt;
+        front = Front-after (written a) (written b) (written c) p q [] (p ++ q) first.whole second.front (ap (λ l. p ++ l) (sym (append-nil q)));
+        cause = HasCause-then (Err e) first.cause second.cause;
+      }
 
--- all that was held goes out, and then a piece that is written past the chunk
-pub PassesOn-past : {T U E F : Type 0} {a b c : Option (List ℕ)} {f g h : ℕ} {i j : List ℕ} {x : T} {p : List ℕ} (r : Result U F) → j ≡ [] →
-    Prints {T = T} {E = E} a b f g (Ok x) i → Prints b c g h r p → PassesOn a c f h i j r p
-PassesOn-past {a = a} {b = b} {c = c} {i = i} {j = j} {p = p} (Ok y) empty first second =
-    record {
-      taken = (i ++ p, Appends-then a b c i p first.whole second.whole, sym (append-nil (i ++ p)) ∙ ap (λ l. (i ++ p) ++ l) (sym empty));
-      front = tt;
-      later = le_trans first.later second.later;
-      failed = tt;
-    }
-PassesOn-past {i = i} {j = j} {p = p} (Err e) empty first second =
-    let both = Prints-then (Err e) first second in record { taken = tt; front = both.front; later = both.later; failed = both.failed }
+  -- a text and then another, neither failing
+  pub Prints-both : {T U E F : Type 0} {a b c : S} {x : T} {y : U} {p q : List ℕ} →
+      Prints {T = T} {E = E} written faults a b (Ok x) p → Prints {E = F} written faults b c (Ok y) q → Prints {E = F} written faults a c (Ok y) (p ++ q)
+  Prints-both {y = y} first second = Prints-then (Ok y) first second
 
--- A chunk that was empty at first, and whose last bytes are written.
-pub Prints-flushed : {T U E F : Type 0} {a b c : Option (List ℕ)} {f g h : ℕ} {i j : List ℕ} {x : T} {p : List ℕ} (r : Result U F) → i ≡ [] →
-    PassesOn {T = T} {E = E} a b f g i j (Ok x) p → Prints b c g h r j → Prints a c f h r p
-Prints-flushed {T = T} {E = E} {a = a} {b = b} {f = f} {g = g} {i = i} {j = j} {x = x} {p = p} r empty passed printed =
-    let all : passed.taken.0 ++ j ≡ p = sym passed.taken.2 ∙ ap (λ l. l ++ p) empty in
-    let out : Prints {T = T} {E = E} a b f g (Ok x) passed.taken.0 = record { whole = passed.taken.1; front = tt; later = passed.later; failed = tt } in
-    Prints-text all (Prints-then r out printed)
+  -- a text and then another that fails
+  pub Prints-fails : {T U E F : Type 0} {a b c : S} {x : T} {e : F} {p q : List ℕ} →
+      Prints {T = T} {E = E} written faults a b (Ok x) p → Prints {T = U} written faults b c (Err e) q → Prints {T = U} written faults a c (Err e) (p ++ q)
+  Prints-fails {e = e} first second = Prints-then (Err e) first second
 
--- A chunk that was empty at first, and failed before all of the text was taken.
-pub Prints-lost : {T U E F : Type 0} {a b : Option (List ℕ)} {f g : ℕ} {i j : List ℕ} {e : E} {d : F} {p : List ℕ} (rest : List ℕ) → i ≡ [] →
-    PassesOn {T = T} a b f g i j (Err e) p → Prints {T = U} a b f g (Err d) (p ++ rest)
-Prints-lost {a = a} {b = b} {i = i} {p = p} rest empty passed =
-    let Appended : List ℕ → Type 0 = λ l. AppendsFront a b l in
-    let front : AppendsFront a b p = subst Appended (ap (λ l. l ++ p) empty) passed.front in
-    record { whole = tt; front = Front-more a b p rest front; later = passed.later; failed = passed.failed }
+  -- a text that failed, and what would have followed
+  pub Prints-stopped : {T U E F : Type 0} {a b : S} {e : E} {d : F} {p : List ℕ} (rest : List ℕ) →
+      Prints {T = T} written faults a b (Err e) p → Prints {T = U} written faults a b (Err d) (p ++ rest)
+  Prints-stopped {a = a} {b = b} {p = p} rest printed =
+      record { whole = tt; front = Front-more (written a) (written b) p rest printed.front; cause = HasCause-failed printed.cause }
+
+  -- what passed on has this text
+  pub PassesOn-text : {T E : Type 0} {a b : S} {i j : List ℕ} {r : Result T E} {p q : List ℕ} → p ≡ q → PassesOn written faults a b i j r p → PassesOn written faults a b i j r q
+  PassesOn-text {T = T} {E = E} {a = a} {b = b} {i = i} {j = j} {r = r} same passed =
+      let Passed : List ℕ → Type 0 = λ l. PassesOn {T = T} {E = E} written faults a b i j r l in subst Passed same passed
+
+  -- a piece and then another
+  pub PassesOn-then : {T U E F : Type 0} {a b c : S} {i j k : List ℕ} {x : T} {p q : List ℕ} (r : Result U F) →
+      PassesOn {T = T} {E = E} written faults a b i j (Ok x) p → PassesOn written faults b c j k r q → PassesOn written faults a c i k r (p ++ q)
+  PassesOn-then {a = a} {b = b} {c = c} {i = i} {j = j} {k = k} {p = p} {q = q} (Ok y) first second =
+      record {
+        taken = Carries-then (written a) (written b) (written c) i j k p q first.taken second.taken;
+        front = tt;
+        dropped = tt;
+        cause = HasCause-then (Ok y) first.cause second.cause;
+      }
+  PassesOn-then {a = a} {b = b} {c = c} {i = i} {j = j} {k = k} {p = p} {q = q} (Err e) first second =
+      record {
+        taken = tt;
+        front = Front-carried (written a) (written b) (written c) i j p q first.taken second.front;
+        dropped = second.dropped;
+        cause = HasCause-then (Err e) first.cause second.cause;
+      }
+
+  -- a piece and then another, neither failing
+  pub PassesOn-both : {T U E F : Type 0} {a b c : S} {i j k : List ℕ} {x : T} {y : U} {p q : List ℕ} →
+      PassesOn {T = T} {E = E} written faults a b i j (Ok x) p → PassesOn {E = F} written faults b c j k (Ok y) q → PassesOn {E = F} written faults a c i k (Ok y) (p ++ q)
+  PassesOn-both {y = y} first second = PassesOn-then (Ok y) first second
+
+  -- a piece and then another that fails
+  pub PassesOn-fails : {T U E F : Type 0} {a b c : S} {i j k : List ℕ} {x : T} {e : F} {p q : List ℕ} →
+      PassesOn {T = T} {E = E} written faults a b i j (Ok x) p → PassesOn {T = U} written faults b c j k (Err e) q → PassesOn {T = U} written faults a c i k (Err e) (p ++ q)
+  PassesOn-fails {e = e} first second = PassesOn-then (Err e) first second
+
+  -- a piece that failed, and what would have followed
+  pub PassesOn-stopped : {T U E F : Type 0} {a b : S} {i j : List ℕ} {e : E} {d : F} {p : List ℕ} (rest : List ℕ) →
+      PassesOn {T = T} written faults a b i j (Err e) p → PassesOn {T = U} written faults a b i j (Err d) (p ++ rest)
+  PassesOn-stopped {a = a} {b = b} {i = i} {p = p} rest passed =
+      let Appended : List ℕ → Type 0 = λ l. AppendsFront (written a) (written b) l in
+      record {
+        taken = tt;
+        front = subst Appended (append_assoc i p rest) (Front-more (written a) (written b) (i ++ p) rest passed.front);
+        dropped = passed.dropped;
+        cause = HasCause-failed passed.cause;
+      }
+
+  -- all that was held goes out, and then a piece that is written past the chunk
+  pub PassesOn-past : {T U E F : Type 0} {a b c : S} {i j : List ℕ} {x : T} {p : List ℕ} (r : Result U F) → j ≡ [] →
+      Prints {T = T} {E = E} written faults a b (Ok x) i → Prints written faults b c r p → PassesOn written faults a c i j r p
+  PassesOn-past {a = a} {b = b} {c = c} {i = i} {j = j} {p = p} (Ok y) empty first second =
+      record {
+        taken = (i ++ p, Appends-then (written a) (written b) (written c) i p first.whole second.whole, sym (append-nil (i ++ p)) ∙ ap (λ l. (i ++ p) ++ l) (sym empty));
+        front = tt;
+        dropped = tt;
+        cause = HasCause-then (Ok y) first.cause second.cause;
+      }
+  PassesOn-past (Err e) empty first second =
+      let both = Prints-then (Err e) first second in record { taken = tt; front = both.front; dropped = empty; cause = both.cause }
+
+  -- A chunk that was empty at first, and whose last bytes are written.
+  pub Prints-flushed : {T U E F : Type 0} {a b c : S} {i j : List ℕ} {x : T} {p : List ℕ} (r : Result U F) → i ≡ [] →
+      PassesOn {T = T} {E = E} written faults a b i j (Ok x) p → Prints written faults b c r j → Prints written faults a c r p
+  Prints-flushed {T = T} {E = E} {a = a} {b = b} {j = j} {x = x} {p = p} r empty passed printed =
+      let all : passed.taken.0 ++ j ≡ p = sym passed.taken.2 ∙ ap (λ l. l ++ p) empty in
+      let out : Prints {T = T} {E = E} written faults a b (Ok x) passed.taken.0 = record { whole = passed.taken.1; front = tt; cause = passed.cause } in
+      Prints-text all (Prints-then r out printed)
+
+  -- A chunk that was empty at first, and failed before all of the text was taken.
+  pub Prints-lost : {T U E F : Type 0} {a b : S} {i j : List ℕ} {e : E} {d : F} {p : List ℕ} (rest : List ℕ) → i ≡ [] →
+      PassesOn {T = T} written faults a b i j (Err e) p → Prints {T = U} written faults a b (Err d) (p ++ rest)
+  Prints-lost {a = a} {b = b} {p = p} rest empty passed =
+      let Appended : List ℕ → Type 0 = λ l. AppendsFront (written a) (written b) l in
+      let front : AppendsFront (written a) (written b) p = subst Appended (ap (λ l. l ++ p) empty) passed.front in
+      record { whole = tt; front = Front-more (written a) (written b) p rest front; cause = HasCause-failed passed.cause }
 
 module _ {R : Type 0} (text : R → List ℕ) where
   -- the items' texts round one of them
@@ -161,30 +172,18 @@ module _ {R : Type 0} (text : R → List ℕ) where
   pub flat_map-next : (xs : List R) (k : ℕ) (d : R) → k < length xs → flat_map text (take k xs) ++ text (get_or xs k d) ≡ flat_map text (take (k + 1) xs)
   flat_map-next xs k d within = rw (add-one k) (flat_map-suc xs k d within)
 
-  -- a loop that prints each item's text
-  pub Prints-next : {T U E F : Type 0} {a b c : Option (List ℕ)} {f g h : ℕ} {x : T} {y : U} (xs : List R) (k : ℕ) (d : R) → k < length xs →
-      Prints {T = T} {E = E} a b f g (Ok x) (flat_map text (take k xs)) → Prints {T = U} {E = F} b c g h (Ok y) (text (get_or xs k d)) →
-      Prints {T = U} {E = F} a c f h (Ok y) (flat_map text (take (k + 1) xs))
-  Prints-next xs k d within first second = Prints-text (flat_map-next xs k d within) (Prints-both first second)
-
-  -- and stops where one fails
-  pub Prints-halted : {T U V E F G : Type 0} {a b c : Option (List ℕ)} {f g h : ℕ} {x : T} {e : F} {z : G} (xs : List R) (k : ℕ) (d : R) → k < length xs →
-      Prints {T = T} {E = E} a b f g (Ok x) (flat_map text (take k xs)) → Prints {T = U} {E = F} b c g h (Err e) (text (get_or xs k d)) →
-      Prints {T = V} {E = G} a c f h (Err z) (flat_map text xs)
-  Prints-halted xs k d within first second =
-      let all = sym (append_assoc (flat_map text (take k xs)) (text (get_or xs k d)) (flat_map text (drop (suc k) xs))) in
-      Prints-text (sym (flat_map-split xs k d within ∙ all)) (Prints-stopped (flat_map text (drop (suc k) xs)) (Prints-fails first second))
-
+-- a loop over items, each of which has a text
+module _ {R : Type 0} (text : R → List ℕ) {S : Type 0} {written : S → Option (List ℕ)} {faults : S → ℕ} where
   -- a loop that puts each item's text into a chunk
-  pub PassesOn-next : {T U E F : Type 0} {a b c : Option (List ℕ)} {f g h : ℕ} {i j l : List ℕ} {x : T} {y : U} (xs : List R) (k : ℕ) (d : R) → k < length xs →
-      PassesOn {T = T} {E = E} a b f g i j (Ok x) (flat_map text (take k xs)) → PassesOn {T = U} {E = F} b c g h j l (Ok y) (text (get_or xs k d)) →
-      PassesOn {T = U} {E = F} a c f h i l (Ok y) (flat_map text (take (k + 1) xs))
-  PassesOn-next xs k d within first second = PassesOn-text (flat_map-next xs k d within) (PassesOn-both first second)
+  pub PassesOn-next : {T U E F : Type 0} {a b c : S} {i j l : List ℕ} {x : T} {y : U} (xs : List R) (k : ℕ) (d : R) → k < length xs →
+      PassesOn {T = T} {E = E} written faults a b i j (Ok x) (flat_map text (take k xs)) → PassesOn {T = U} {E = F} written faults b c j l (Ok y) (text (get_or xs k d)) →
+      PassesOn {T = U} {E = F} written faults a c i l (Ok y) (flat_map text (take (k + 1) xs))
+  PassesOn-next xs k d within first second = PassesOn-text (flat_map-next text xs k d within) (PassesOn-both first second)
 
   -- and stops where one fails
-  pub PassesOn-halted : {T U V E F G : Type 0} {a b c : Option (List ℕ)} {f g h : ℕ} {i j l : List ℕ} {x : T} {e : F} {z : G} (xs : List R) (k : ℕ) (d : R) → k < length xs →
-      PassesOn {T = T} {E = E} a b f g i j (Ok x) (flat_map text (take k xs)) → PassesOn {T = U} {E = F} b c g h j l (Err e) (text (get_or xs k d)) →
-      PassesOn {T = V} {E = G} a c f h i l (Err z) (flat_map text xs)
+  pub PassesOn-halted : {T U V E F G : Type 0} {a b c : S} {i j l : List ℕ} {x : T} {e : F} {z : G} (xs : List R) (k : ℕ) (d : R) → k < length xs →
+      PassesOn {T = T} {E = E} written faults a b i j (Ok x) (flat_map text (take k xs)) → PassesOn {T = U} {E = F} written faults b c j l (Err e) (text (get_or xs k d)) →
+      PassesOn {T = V} {E = G} written faults a c i l (Err z) (flat_map text xs)
   PassesOn-halted xs k d within first second =
       let all = sym (append_assoc (flat_map text (take k xs)) (text (get_or xs k d)) (flat_map text (drop (suc k) xs))) in
-      PassesOn-text (sym (flat_map-split xs k d within ∙ all)) (PassesOn-stopped (flat_map text (drop (suc k) xs)) (PassesOn-fails first second))
+      PassesOn-text (sym (flat_map-split text xs k d within ∙ all)) (PassesOn-stopped (flat_map text (drop (suc k) xs)) (PassesOn-fails first second))

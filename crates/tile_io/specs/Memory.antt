@@ -1,5 +1,5 @@
 -- Sources and sinks over memory, and the calls at which they fail.
-use Rattle.std.specs.Prelude.{◌≡◌, ℕ, ◌+◌, ◌-◌, ◌^◌, ◌<◌, min, List, length, Contains}
+use Rattle.std.specs.Prelude.{◌≡◌, ℕ, ◌^◌, ◌<◌, List, length, Contains}
 
 -- a source: the bytes left, the most that a call gives, and the numbers of the calls that fail
 pub record MemoryInput : Type 0 where
@@ -17,10 +17,6 @@ pub record MemoryOutput : Type 0 where
   pub fails : List ℕ
   pub calls : ℕ
   pub faults : ℕ
-
--- one more, up to the end of the type
-abbrev pub next_count : ℕ → ℕ
-next_count count = min (count + 1) (2 ^ 64 - 1)
 
 -- a call of this number fails, where the numbers of such calls are 32 bits wide
 abbrev pub FailsAt : List ℕ → ℕ → Type 0

@@ -2,8 +2,8 @@
 use Rattle.std.specs.Prelude.{◌≡◌, ◌≤◌, ℕ, List, length, Option}
 use Rattle.std.specs.Io.KnownBytes.{Consumes}
 
-abbrev pub ConsumesExactly : Option (List ℕ) → Option (List ℕ) → ℕ → Type 0
-ConsumesExactly old new n = (taken : List ℕ) × Consumes old new taken × (length taken ≡ n)
+abbrev pub ConsumesExactly : {S : Type 0} → (S → Option (List ℕ)) → S → S → ℕ → Type 0
+ConsumesExactly left old new n = (taken : List ℕ) × Consumes (left old) (left new) taken × (length taken ≡ n)
 
-abbrev pub ConsumesAtMost : Option (List ℕ) → Option (List ℕ) → ℕ → Type 0
-ConsumesAtMost old new n = (taken : List ℕ) × Consumes old new taken × (length taken ≤ n)
+abbrev pub ConsumesAtMost : {S : Type 0} → (S → Option (List ℕ)) → S → S → ℕ → Type 0
+ConsumesAtMost left old new n = (taken : List ℕ) × Consumes (left old) (left new) taken × (length taken ≤ n)

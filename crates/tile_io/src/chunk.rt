@@ -1,5 +1,5 @@
 // Bytes held back in front of a sink, so that they go out in large pieces.
-ghost use Rattle.std.specs.Prelude.{◌≡◌, ◌≤◌, ◌+◌, [], ◌∷◌, ◌++◌, List, ℕ, length, take, map, flat_map, OnOk};
+ghost use Rattle.std.specs.Prelude.{◌≡◌, ◌≤◌, ◌+◌, [], ◌∷◌, ◌++◌, List, ℕ, length, take, map, flat_map};
 ghost use Rattle.tile_io.specs.Chunks.{PassesOn};
 ghost use Rattle.tile_io.specs.Lines.{line_of};
 ghost use Rattle.tile_io.specs.Prints.{Prints};
@@ -10,7 +10,7 @@ use std::marker::Model;
 /// How many bytes are held back at most.
 const ROOM: usize = 8192;
 
-/// The bytes that are held back, on the stack. After a failure they may be out already, so it is let go then.
+/// The bytes that are held back, on the stack. After a failure nothing is held, since it may be out already.
 #[derive(Drop)]
 pub struct Chunk {
     bytes: [u8; 8192],
@@ -37,8 +37,7 @@ impl Chunk {
 
     /// Adds a piece. What is held goes out first where the piece finds no room behind it.
     pub fn put<K: Sink>(&mut self, sink: &mut K, piece: &[u8]) -> Result<(), Failed>
-        ensures { PassesOn (K.written sink.old) (K.written sink.new)
-            (K.faults sink.old) (K.faults sink.new) self.old self.new result piece.now }
+        ensures { PassesOn K.written K.faults sink.old sink.new self.old self.new result piece.now }
     {
         if piece.len() <= ROOM - self.len {
             self.hold(piece);
@@ -62,15 +61,14 @@ impl Chunk {
         self.len = end;
     }
 
-    /// Writes what is held.
+    /// Writes what is held, and holds nothing then, also where a write fails.
     pub fn flush<K: Sink>(&mut self, sink: &mut K) -> Result<(), Failed>
-        ensures bytes { Prints (K.written sink.old) (K.written sink.new)
-            (K.faults sink.old) (K.faults sink.new) result self.old }
-        ensures empty { OnOk result (self.new ≡ []) }
+        ensures bytes { Prints K.written K.faults sink.old sink.new result self.old }
+        ensures empty { self.new ≡ [] }
     {
-        write_all(sink, &self.bytes[..self.len])?;
+        let done = write_all(sink, &self.bytes[..self.len]);
         self.len = 0;
-        Ok(())
+        done
     }
 
     /// Adds a line: words with single spaces between them, and a newline.
@@ -80,8 +78,7 @@ impl Chunk {
         first: &[u8],
         rest: &[&[u8]],
     ) -> Result<(), Failed>
-        ensures { PassesOn (K.written sink.old) (K.written sink.new)
-            (K.faults sink.old) (K.faults sink.new) self.old self.new result
+        ensures { PassesOn K.written K.faults sink.old sink.new self.old self.new result
             (line_of (first.now ∷ map (λ word. word.now) rest.now)) }
     {
         self.put(sink, first)?;
@@ -91,8 +88,7 @@ impl Chunk {
 
     // Adds each word behind a space.
     fn put_words<K: Sink>(&mut self, sink: &mut K, words: &[&[u8]]) -> Result<(), Failed>
-        ensures { PassesOn (K.written sink.old) (K.written sink.new)
-            (K.faults sink.old) (K.faults sink.new) self.old self.new result
+        ensures { PassesOn K.written K.faults sink.old sink.new self.old self.new result
             (flat_map (λ word. 32 ∷ word.now) words.now) }
     {
         for word in words {
@@ -103,19 +99,17 @@ impl Chunk {
 
     // Adds a word behind a space.
     fn put_word<K: Sink>(&mut self, sink: &mut K, word: &[u8]) -> Result<(), Failed>
-        ensures { PassesOn (K.written sink.old) (K.written sink.new)
-            (K.faults sink.old) (K.faults sink.new) self.old self.new result (32 ∷ word.now) }
+        ensures { PassesOn K.written K.faults sink.old sink.new self.old self.new result
+            (32 ∷ word.now) }
     {
         self.put(sink, b" ")?;
         self.put(sink, word)
     }
 }
 
-/// Prints a line: words with single spaces between them, and a newline. A line of up to 8192 bytes goes out in one
-/// call of a sink that takes it whole.
+/// Prints a line: words with single spaces between them, and a newline.
 pub fn print_line<K: Sink>(sink: &mut K, first: &[u8], rest: &[&[u8]]) -> Result<(), Failed>
-    ensures { Prints (K.written sink.old) (K.written sink.new)
-        (K.faults sink.old) (K.faults sink.new) result
+    ensures { Prints K.written K.faults sink.old sink.new result
         (line_of (first.now ∷ map (λ word. word.now) rest.now)) }
 {
     let mut chunk = Chunk::new();

@@ -2,8 +2,8 @@
 ghost use Rattle.std.specs.Prelude.{◌≡◌, ◌↔◌, ◌⊎◌, ◌<◌, ◌≤◌, ◌+◌, ◌-◌, ◌++◌, [], Some, List, ℕ, min, take, drop, length, vec_capacity, IfOk, IfErr, OnErr, IsErr, IsTrue};
 ghost use Rattle.std.specs.Io.{ReadsAtMost, WritesAtMost};
 ghost use Rattle.std.specs.Io.KnownBytes.{ReadConsumes, WriteAppends};
-ghost use Rattle.tile_io.specs.Faults.{HasCause, TakesSome, KeepsRest};
-ghost use Rattle.tile_io.specs.Memory.{MemoryInput, MemoryOutput, next_count, FailsAt, IsFullFor};
+ghost use Rattle.tile_io.specs.Faults.{HasCause, TakesSome, KeepsRest, next_count};
+ghost use Rattle.tile_io.specs.Memory.{MemoryInput, MemoryOutput, FailsAt, IsFullFor};
 
 use crate::{Failed, Sink, Source};
 use std::alloc::Global;
@@ -66,7 +66,7 @@ impl Source for MemorySource {
         ensures bound { ReadsAtMost result buf.new }
         ensures bytes { ReadConsumes (Some self.old.left) (Some self.new.left) result buf.new }
         ensures rest { KeepsRest (Some self.old.left) result buf.old buf.new }
-        ensures cause { HasCause self.old.faults self.new.faults result }
+        ensures cause { HasCause ⟦<MemorySource as Source>⟧.faults self.old self.new result }
         ensures fails { IsErr result ↔ FailsAt self.old.fails self.old.calls }
         ensures count { IfOk result (λ n.
             n ≡ min (min self.old.most (length buf.new)) (length self.old.left)) }
@@ -140,7 +140,8 @@ impl Model for MemorySink {
       faults = s.faults;
     } };
 
-    ghost invariant = { λ s. (length s.bytes.items ≤ s.room) × (s.room ≤ vec_capacity s.bytes) × (1 ≤ s.most) };
+    ghost invariant = { λ s. (length s.bytes.items ≤ s.room) × (s.room ≤ vec_capacity s.bytes)
+        × (1 ≤ s.most) };
 }
 
 impl MemorySink {
@@ -191,12 +192,13 @@ impl Sink for MemorySink {
     fn write(&mut self, piece: &[u8]) -> Result<usize, Failed>
         ensures bound { WritesAtMost result piece.now }
         ensures some { TakesSome result piece.now }
-        ensures bytes { WriteAppends (Some self.old.written) (Some self.new.written) result piece.now }
-        ensures cause { HasCause self.old.faults self.new.faults result }
+        ensures bytes { WriteAppends (Some self.old.written) (Some self.new.written) result
+            piece.now }
+        ensures cause { HasCause ⟦<MemorySink as Sink>⟧.faults self.old self.new result }
         ensures fails { IsErr result
             ↔ (FailsAt self.old.fails self.old.calls ⊎ IsFullFor self.old piece.now) }
-        ensures count { IfOk result (λ n.
-            n ≡ min (min self.old.most (length piece.now)) (self.old.room - length self.old.written)) }
+        ensures count { IfOk result (λ n. n ≡ min (min self.old.most (length piece.now))
+            (self.old.room - length self.old.written)) }
         ensures taken { IfOk result (λ n. self.new ≡ record self.old {
           written = self.old.written ++ take n piece.now;
           calls = next_count self.old.calls;

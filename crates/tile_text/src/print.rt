@@ -16,8 +16,7 @@ use tile_system::System;
 
 /// Prints the one text of a system. It takes no memory.
 pub fn print_system<K: Sink>(sys: &System, sink: &mut K) -> Result<(), Failed>
-    ensures printed { Prints (K.written sink.old) (K.written sink.new)
-        (K.faults sink.old) (K.faults sink.new) result (spelling sys.now) }
+    ensures printed { Prints K.written K.faults sink.old sink.new result (spelling sys.now) }
 
     // What is printed reads as this system again, up to its end, whatever follows.
     ensures reads_back { (text rest : List ℕ) (from : Mark) →
@@ -31,8 +30,8 @@ pub fn print_system<K: Sink>(sys: &System, sink: &mut K) -> Result<(), Failed>
 
 fn put_system<K: Sink>(chunk: &mut Chunk, sink: &mut K, sys: &System) -> Result<(), Failed>
     ensures valid { IsValid sys.now }
-    ensures passed { PassesOn (K.written sink.old) (K.written sink.new)
-        (K.faults sink.old) (K.faults sink.new) chunk.old chunk.new result (spelling sys.now) }
+    ensures passed { PassesOn K.written K.faults sink.old sink.new chunk.old chunk.new result
+        (spelling sys.now) }
 {
     put_head(chunk, sink, sys.tau())?;
     put_glues(chunk, sink, sys)?;
@@ -44,8 +43,7 @@ fn put_system<K: Sink>(chunk: &mut Chunk, sink: &mut K, sys: &System) -> Result<
 
 // The header and the `tau` line.
 fn put_head<K: Sink>(chunk: &mut Chunk, sink: &mut K, tau: u32) -> Result<(), Failed>
-    ensures { PassesOn (K.written sink.old) (K.written sink.new)
-        (K.faults sink.old) (K.faults sink.new) chunk.old chunk.new result
+    ensures { PassesOn K.written K.faults sink.old sink.new chunk.old chunk.new result
         (flat_map line_of (head_words tau)) }
 {
     let mut buffer = Buffer::new();
@@ -54,8 +52,7 @@ fn put_head<K: Sink>(chunk: &mut Chunk, sink: &mut K, tau: u32) -> Result<(), Fa
 }
 
 fn put_glues<K: Sink>(chunk: &mut Chunk, sink: &mut K, sys: &System) -> Result<(), Failed>
-    ensures { PassesOn (K.written sink.old) (K.written sink.new)
-        (K.faults sink.old) (K.faults sink.new) chunk.old chunk.new result
+    ensures { PassesOn K.written K.faults sink.old sink.new chunk.old chunk.new result
         (flat_map (λ glue. line_of (glue_words glue)) sys.now.glues) }
 {
     for index in 0..sys.glue_count() {
@@ -71,8 +68,7 @@ fn put_glue<K: Sink>(
     glue: GlueId,
 ) -> Result<(), Failed>
     requires { glue.0 < length sys.now.glues }
-    ensures { (d : Glue) → PassesOn (K.written sink.old) (K.written sink.new)
-        (K.faults sink.old) (K.faults sink.new) chunk.old chunk.new result
+    ensures { (d : Glue) → PassesOn K.written K.faults sink.old sink.new chunk.old chunk.new result
         (line_of (glue_words (slice_index_or sys.now.glues glue.0 d))) }
 {
     let mut buffer = Buffer::new();
@@ -81,8 +77,7 @@ fn put_glue<K: Sink>(
 }
 
 fn put_types<K: Sink>(chunk: &mut Chunk, sink: &mut K, sys: &System) -> Result<(), Failed>
-    ensures { PassesOn (K.written sink.old) (K.written sink.new)
-        (K.faults sink.old) (K.faults sink.new) chunk.old chunk.new result
+    ensures { PassesOn K.written K.faults sink.old sink.new chunk.old chunk.new result
         (flat_map (λ tile. line_of (tile_words sys.now tile)) sys.now.types) }
 {
     for index in 0..sys.type_count() {
@@ -98,8 +93,8 @@ fn put_type<K: Sink>(
     tile: TypeId,
 ) -> Result<(), Failed>
     requires { IsType sys.now tile }
-    ensures { (d : TileType) → PassesOn (K.written sink.old) (K.written sink.new)
-        (K.faults sink.old) (K.faults sink.new) chunk.old chunk.new result
+    ensures { (d : TileType) → PassesOn K.written K.faults sink.old sink.new
+        chunk.old chunk.new result
         (line_of (tile_words sys.now (slice_index_or sys.now.types tile.0 d))) }
 {
     let north = side_name(sys, tile, Side::North);
@@ -125,8 +120,7 @@ fn side_name<'a>(sys: &'a System, tile: TypeId, side: Side) -> &'a [u8]
 }
 
 fn put_box<K: Sink>(chunk: &mut Chunk, sink: &mut K, area: BoxArea) -> Result<(), Failed>
-    ensures { PassesOn (K.written sink.old) (K.written sink.new)
-        (K.faults sink.old) (K.faults sink.new) chunk.old chunk.new result
+    ensures { PassesOn K.written K.faults sink.old sink.new chunk.old chunk.new result
         (line_of (box_words area)) }
 {
     let (mut left, mut bottom) = (Buffer::new(), Buffer::new());
@@ -141,8 +135,7 @@ fn put_box<K: Sink>(chunk: &mut Chunk, sink: &mut K, area: BoxArea) -> Result<()
 }
 
 fn put_seeds<K: Sink>(chunk: &mut Chunk, sink: &mut K, sys: &System) -> Result<(), Failed>
-    ensures { PassesOn (K.written sink.old) (K.written sink.new)
-        (K.faults sink.old) (K.faults sink.new) chunk.old chunk.new result
+    ensures { PassesOn K.written K.faults sink.old sink.new chunk.old chunk.new result
         (flat_map (λ seed. line_of (seed_words sys.now seed)) sys.now.seeds) }
 {
     for seed in sys.seeds() {
@@ -158,8 +151,7 @@ fn put_seed<K: Sink>(
     seed: Place,
 ) -> Result<(), Failed>
     requires { IsType sys.now seed.tile }
-    ensures { PassesOn (K.written sink.old) (K.written sink.new)
-        (K.faults sink.old) (K.faults sink.new) chunk.old chunk.new result
+    ensures { PassesOn K.written K.faults sink.old sink.new chunk.old chunk.new result
         (line_of (seed_words sys.now seed)) }
 {
     let (mut column, mut row) = (Buffer::new(), Buffer::new());

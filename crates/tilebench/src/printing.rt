@@ -21,8 +21,7 @@ use tile_text::print_system;
 /// Writes the text of an answer.
 pub fn print_text<K: Sink>(answer: &Answer, out: &mut K) -> Result<(), Failed>
     requires { IsPrintable answer.now }
-    ensures { Prints (K.written out.old) (K.written out.new) (K.faults out.old) (K.faults out.new) result
-        (answer_text answer.now) }
+    ensures { Prints K.written K.faults out.old out.new result (answer_text answer.now) }
 {
     match answer {
         Answer::Growth(growth) => print_growth(growth, out),
@@ -39,8 +38,7 @@ pub fn print_text<K: Sink>(answer: &Answer, out: &mut K) -> Result<(), Failed>
 // Writes the text of a growth.
 fn print_growth<K: Sink>(growth: &Growth, out: &mut K) -> Result<(), Failed>
     requires { HasTypes growth.now }
-    ensures { Prints (K.written out.old) (K.written out.new) (K.faults out.old) (K.faults out.new) result
-        (growth_text growth.now) }
+    ensures { Prints K.written K.faults out.old out.new result (growth_text growth.now) }
 {
     print_places(&growth.sys, growth.order.as_slice(), out)?;
     print_closed(&growth.sys, growth.outside, out)?;
@@ -50,8 +48,7 @@ fn print_growth<K: Sink>(growth: &Growth, out: &mut K) -> Result<(), Failed>
 // Writes that a sequence is legal, and the verdict on it.
 fn print_legal<K: Sink>(sys: &System, verdict: &Verdict, out: &mut K) -> Result<(), Failed>
     requires { NamesTypes sys.now verdict.now }
-    ensures { Prints (K.written out.old) (K.written out.new) (K.faults out.old) (K.faults out.new) result
-        (legal_text sys.now verdict.now) }
+    ensures { Prints K.written K.faults out.old out.new result (legal_text sys.now verdict.now) }
 {
     print_legality(&Legality::Legal, out)?;
     print_verdict(sys, verdict, out)
@@ -60,8 +57,7 @@ fn print_legal<K: Sink>(sys: &System, verdict: &Verdict, out: &mut K) -> Result<
 // Writes the text of a schedule.
 fn print_schedule<K: Sink>(schedule: &Schedule, out: &mut K) -> Result<(), Failed>
     requires { HasLines schedule.now }
-    ensures { Prints (K.written out.old) (K.written out.new) (K.faults out.old) (K.faults out.new) result
-        (schedule_text schedule.now) }
+    ensures { Prints K.written K.faults out.old out.new result (schedule_text schedule.now) }
 {
     print_replies(&schedule.sys, &schedule.replies, out)?;
     print_places(&schedule.sys, schedule.order.as_slice(), out)

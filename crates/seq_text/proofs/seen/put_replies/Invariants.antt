@@ -7,5 +7,5 @@ use Rattle.seq_text.proofs.seen.put_replies.Given as goal
 -- the lines so far have been taken
 abbrev pub invariant-loop-reply : goal.invariant-loop-reply
 invariant-loop-reply g l =
-    PassesOn {T = Unit {0}} {E = Failed} (g.K.Sink.written l.initial.sink) (g.K.Sink.written l.sink) (g.K.Sink.faults l.initial.sink) (g.K.Sink.faults l.sink) l.initial.chunk l.chunk (Ok tt)
+    PassesOn {T = Unit {0}} {E = Failed} g.K.Sink.written g.K.Sink.faults l.initial.sink l.sink l.initial.chunk l.chunk (Ok tt)
     (seen_lines l.sys (take l.reply-index l.replies))

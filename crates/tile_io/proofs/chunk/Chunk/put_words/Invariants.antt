@@ -6,5 +6,5 @@ use Rattle.tile_io.proofs.chunk.Chunk.put_words.Given as goal
 -- the words so far have been taken
 abbrev pub invariant-loop-word : goal.invariant-loop-word
 invariant-loop-word g l =
-    PassesOn {T = Unit {0}} {E = Failed} (g.K.Sink.written l.initial.sink) (g.K.Sink.written l.sink) (g.K.Sink.faults l.initial.sink) (g.K.Sink.faults l.sink) l.initial.self l.self (Ok tt)
+    PassesOn {T = Unit {0}} {E = Failed} g.K.Sink.written g.K.Sink.faults l.initial.sink l.sink l.initial.self l.self (Ok tt)
     (flat_map (λ word. 32 ∷ word.now) (take l.word-index l.words))
