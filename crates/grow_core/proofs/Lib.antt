@@ -16,3 +16,4 @@ pub mod Acting
 pub mod Listed
 pub mod NamedState
 pub mod Runs
+pub mod ListedEvents

@@ -32,7 +32,7 @@ last_none [] (suc b) u e = absurd (none-some u e)
 last_none (x ∷ l) zero u e = e
 last_none (x ∷ l) (suc b) u e = last_none l b u e
 
-longer : (l m : List (Option ScoutState)) (b : ℕ) (u : ScoutState) → scout_at l b ≡ Some u → scout_at (l ++ m) b ≡ Some u
+pub longer : (l m : List (Option ScoutState)) (b : ℕ) (u : ScoutState) → scout_at l b ≡ Some u → scout_at (l ++ m) b ≡ Some u
 longer [] m b u e = absurd (none-some u e)
 longer (x ∷ l) m zero u e = e
 longer (x ∷ l) m (suc b) u e = longer l m b u e

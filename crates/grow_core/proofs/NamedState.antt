@@ -10,7 +10,7 @@ use Rattle.grow_core.proofs.Numbers.{least-owned}
 use Rattle.grow_core.proofs.Kept.{placed}
 use Rattle.grow_core.proofs.Start.{nobody}
 
-here : (l : List (Option ScoutState)) (a : ℕ) (o : Option ScoutState) → a < length l → scout_at (set l a o) a ≡ o
+pub here : (l : List (Option ScoutState)) (a : ℕ) (o : Option ScoutState) → a < length l → scout_at (set l a o) a ≡ o
 here [] a o within = let never : ⊥ = omega (arith, within) in absurd never
 here (x ∷ l) zero o within = refl
 here (x ∷ l) (suc a) o within = here l a o (omega (arith, within))

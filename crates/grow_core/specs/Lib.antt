@@ -4,6 +4,7 @@ pub mod Listed
 pub mod Laws
 pub mod NumberLaws
 pub mod ListedLaws
+pub mod ListedEvents
 pub mod RunLaws
 pub mod Machine
 pub mod Inner

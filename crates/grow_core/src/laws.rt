@@ -2,6 +2,7 @@
 ghost use Rattle.grow_core.specs.NumberLaws.{NameIsLeast, GivenNumberIsGreatest, TwoNumbersAreTwo, OthersAreKept, GreatestIsGiven, NumbersAreUnited, AllNumbersAreBelow64};
 ghost use Rattle.grow_core.specs.RunLaws.{RunsHaveOneOutcome, RunsHaveOneCanonicalSequence};
 ghost use Rattle.grow_core.specs.ListedLaws.{FirstScoutHasInvariant, SeeingKeepsInvariant, WinningKeepsInvariant, SplitKeepsInvariant, SplitAtEndKeepsInvariant, JoinKeepsInvariant, LeavingOneKeepsInvariant, ListedClosedIsAll, NoClaimIsLeft, ListedScoutsMakeState, ScoutsOfStateAreListed};
+ghost use Rattle.grow_core.specs.ListedEvents.{EmptyLookIsEvent, LookIsEvent, WonClaimIsEvent, LostClaimIsEvent, SplitIsEvent, JoinIsEvent};
 ghost use Rattle.grow_core.specs.Laws.{StartHasInvariant, EventsKeepInvariant, StartIsThere, EventsAreAnswered, RepliesAreUnique, RunsKeepInvariant, LeavingKeepsInvariant, RefusalsChangeNothing, SeenAndClosedIsAll, ClosedIsFinal, OwnTilesAreOfItsNumbers, ScoutsAgree};
 
 /// The invariant, which names one legal history, holds at the start, and each event keeps it.
@@ -70,4 +71,14 @@ pub fn law_listed()
     ensures last { NoClaimIsLeft }
     ensures state { ListedScoutsMakeState }
     ensures scouts { ScoutsOfStateAreListed }
+{}
+
+/// Each change of listed scouts is one event of the core.
+pub fn law_listed_events()
+    ensures empty_look { EmptyLookIsEvent }
+    ensures look { LookIsEvent }
+    ensures won_claim { WonClaimIsEvent }
+    ensures lost_claim { LostClaimIsEvent }
+    ensures split { SplitIsEvent }
+    ensures join { JoinIsEvent }
 {}

@@ -20,8 +20,8 @@ mod scouts;
 
 pub use event::{CoreStop, Event, Seen};
 pub use laws::{
-    law_answered, law_kept, law_left_out, law_listed, law_numbers, law_one_run, law_quiet,
-    law_refused, law_scouts,
+    law_answered, law_kept, law_left_out, law_listed, law_listed_events, law_numbers, law_one_run,
+    law_quiet, law_refused, law_scouts,
 };
 pub use machine::Core;
 pub use placed_tile::PlacedTile;
