@@ -15,7 +15,7 @@ use Rattle.assembly.specs.Cells.{site_at}
 use Rattle.assembly.specs.Grids.{IsGrid, is_tile, places_of}
 use Rattle.assembly.proofs.Cells.{site_at-injective, site_at-inside, cell_count-most}
 use Rattle.assembly.specs.Filling.{filled_word}
-use Rattle.assembly.proofs.Tiles.{SameTiles, SamePlacements-put, SamePlacements-merge}
+use Rattle.atam.proofs.Tiles.{SameTiles, SamePlacements-put, SamePlacements-merge}
 use Rattle.assembly.proofs.Words.{type_in, type_in-tile, length-places, All-places, places-distinct, tile_at-cell, tile_at-outside, tile_at-set_other, tile_at-merged}
 
 module _ (area : BoxArea) (words : List ℕ) (count : ℕ) (grid : IsGrid area words count) where

@@ -11,7 +11,7 @@ use Rattle.atam.specs.Placements.{HasDistinctSites, tile_at}
 use Rattle.atam.proofs.Boxes.{same_site_tells}
 use Rattle.atam.proofs.Placements.{tile_at-here, tile_at-past, tile_at-append, tile_at-append_past}
 use Rattle.assembly.specs.Grids.{is_tile, place_of, places_of}
-use Rattle.assembly.proofs.Tiles.{SameTiles}
+use Rattle.atam.proofs.Tiles.{SameTiles}
 
 -- the type in a word
 abbrev pub type_in : ℕ → Option TypeId

@@ -6,7 +6,7 @@ use Rattle.atam.specs.Placements.{SamePlacements}
 use Rattle.atam.specs.TileSystem.{TileSystem, IsType}
 use Rattle.atam.specs.Assembly.{Fits}
 use Rattle.atam.proofs.Sequences.{Fits-push}
-use Rattle.assembly.proofs.Opening.{Fits-part}
+use Rattle.atam.proofs.Opening.{Fits-part}
 
 pub Fits-put : (sys : TileSystem) (tiles : List Place) (p : Place) → Fits sys tiles → IsType sys p.tile → InBox sys.area p.site →
     (new : List Place) → SamePlacements (tiles ++ p ∷ []) new → Fits sys new

@@ -1,15 +1,14 @@
--- An order that has been begun, the sites where a tile is ready to follow, and the sites that are left.
-use Rattle.std.specs.Prelude.{◌≡◌, ◌≢◌, ◌⊎◌, ◌↔◌, ℕ, ◌≤◌, List, length, take, Option, Some, None, slice_get, Contains}
+-- The sites where a tile is ready to follow, and the sites that are left.
+use Rattle.std.specs.Prelude.{◌≡◌, ◌≢◌, ◌⊎◌, ◌↔◌, ◌≤◌, List, Option, Some, None, Contains}
 use Rattle.atam.specs.declared.site.Side.{Side}
 use Rattle.atam.specs.declared.site.Site.{Site}
 use Rattle.atam.specs.declared.place.TypeId.{TypeId}
 use Rattle.atam.specs.declared.place.Place.{Place}
 use Rattle.atam.specs.declared.area.BoxArea.{BoxArea}
 use Rattle.atam.specs.Sites.{IsBefore, InBox, neighbor}
-use Rattle.atam.specs.Placements.{HasDistinctSites, IsPartOf, tile_at}
+use Rattle.atam.specs.Placements.{HasDistinctSites, tile_at}
 use Rattle.atam.specs.TileSystem.{TileSystem}
 use Rattle.atam.specs.Assembly.{pull}
-use Rattle.atam.specs.Canonical.{IsReady}
 
 -- the places in the order in which they were listed, and the box that they lie in
 pub record Listed : Type 0 where
@@ -20,14 +19,6 @@ pub record Listed : Type 0 where
 pub record IsListing (places tiles : List Place) : Type 0 where
   pub distinct : HasDistinctSites places
   pub same : (m : Site) → tile_at places m ≡ tile_at tiles m
-
--- the canonical sequence of the tiles as far as it has come
-pub record IsBegun (sys : TileSystem) (tiles s : List Place) : Type 0 where
-  pub seeded : IsPartOf sys.seeds tiles
-  pub seeds : take (length sys.seeds) s ≡ sys.seeds
-  pub distinct : HasDistinctSites s
-  pub ready : (i : ℕ) (p : Place) → length sys.seeds ≤ i → slice_get s i ≡ Some p → IsReady sys tiles (take i s) p
-  pub least : (i : ℕ) (p q : Place) → length sys.seeds ≤ i → slice_get s i ≡ Some p → IsReady sys tiles (take i s) q → ¬ IsBefore q.site p.site
 
 -- a tile stands at the site that isn't listed, and whose type is held by the listed places
 pub record IsReadySite (sys : TileSystem) (tiles listed : List Place) (m : Site) : Type 0 where

@@ -5,8 +5,8 @@ ghost use Rattle.atam.specs.Sites.{InBox, IsNearSite};
 ghost use Rattle.atam.specs.Placements.{HasDistinctSites, IsPartOf, tile_at};
 ghost use Rattle.atam.specs.TileSystem.{IsValid};
 ghost use Rattle.atam.specs.Assembly.{Fits};
-ghost use Rattle.atam.specs.Canonical.{IsCanonical};
-ghost use Rattle.replay_order.specs.Replays.{IsBegun, IsReadySite, AreReadySites, AreReadySitesBut, AddsIfReady, AddsReadyBeside};
+ghost use Rattle.atam.specs.Canonical.{BeginsCanonical, IsCanonical};
+ghost use Rattle.replay_order.specs.Replays.{IsReadySite, AreReadySites, AreReadySitesBut, AddsIfReady, AddsReadyBeside};
 ghost use Rattle.replay_order.specs.ReplayAnswers.{HoldsSeeds, LacksSeed, IsReplayAnswer};
 
 use crate::listing::Listing;
@@ -106,7 +106,7 @@ fn list_ready(
     requires valid { IsValid sys.now }
     requires fits { Fits sys.now grid.now.tiles }
     requires distinct { HasDistinctSites grid.now.tiles }
-    requires begun { IsBegun sys.now grid.now.tiles listing.old.places }
+    requires begun { BeginsCanonical sys.now grid.now.tiles listing.old.places }
     requires ready { AreReadySites sys.now grid.now.tiles listing.old.places ready.old }
     ensures { OnOk result (IsCanonical sys.now grid.now.tiles listing.new.places) }
 {

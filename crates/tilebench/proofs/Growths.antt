@@ -4,14 +4,13 @@ use Rattle.atam.specs.declared.place.Place.{Place}
 use Rattle.atam.specs.TileSystem.{TileSystem}
 use Rattle.atam.specs.Placements.{HasDistinctSites}
 use Rattle.atam.specs.Assembly.{Fits}
-use Rattle.atam.specs.Growth.{IsLegal, IsProducible, IsClosedInBox}
+use Rattle.atam.specs.Growth.{IsLegal, IsProducible, IsClosedInBox, IsFullGrowth}
 use Rattle.atam.proofs.Canon.{producible_seeded}
 use Rattle.atam.proofs.Placements.{Contains-tile_at}
-use Rattle.assembly.proofs.Opening.{IsCandidate-same, Fits-part}
+use Rattle.atam.proofs.Opening.{IsCandidate-same, Fits-part}
 use Rattle.replay_order.specs.ReplayAnswers.{LacksSeed}
 use Rattle.tilebench.specs.declared.grid_growth.GridGrowth.{GridGrowth}
 use Rattle.tilebench.specs.GridGrowing.{IsInStep}
-use Rattle.tilebench.specs.GrowthText.{IsFullGrowth}
 
 -- a grid in step with a legal sequence that nothing extends in the box
 pub full_growth : (sys : TileSystem) (growth : GridGrowth) → IsLegal sys growth.sequence → Fits sys growth.sequence → IsClosedInBox sys growth.sequence → IsInStep growth →

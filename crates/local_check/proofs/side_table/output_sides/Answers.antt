@@ -6,7 +6,7 @@ use Rattle.atam.proofs.Sequences.{IsLegal-distinct}
 use Rattle.local_check.specs.declared.side_set.SideSet.{SideSet}
 use Rattle.local_check.specs.SideSets.{AreOutputsAt}
 use Rattle.atam.proofs.Boxes.{near_inside}
-use Rattle.assembly.proofs.Opening.{Fits-part}
+use Rattle.atam.proofs.Opening.{Fits-part}
 use Rattle.local_check.proofs.Sites.{SameTiles-from}
 use Rattle.local_check.proofs.Sides.{bound_sides-same, outputs_more, length-push}
 use Rattle.local_check.proofs.side_table.output_sides.Goals as goal

@@ -6,9 +6,8 @@ use Rattle.atam.specs.TileSystem.{IsType}
 use Rattle.atam.specs.Assembly.{Attaches, Fits}
 use Rattle.atam.specs.Growth.{IsLegal}
 use Rattle.atam.proofs.Sequences.{IsLegal-distinct, IsLegal-push, Fits-push}
-use Rattle.assembly.proofs.Tiles.{SamePlacements-push, SamePlacements-trans}
-use Rattle.assembly.proofs.Opening.{Fits-part, pull-beside}
-use Rattle.local_check.proofs.Sites.{SameTiles-from}
+use Rattle.atam.proofs.Tiles.{SamePlacements-push, SamePlacements-trans, SameTiles-from}
+use Rattle.atam.proofs.Opening.{Fits-part, pull-beside}
 use Rattle.local_check.proofs.tests.add.Goals as goal
 
 pub can_attach-requires-clause-fits : goal.can_attach-requires-clause-fits

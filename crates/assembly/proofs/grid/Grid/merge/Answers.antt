@@ -10,7 +10,7 @@ use Rattle.assembly.specs.Cells.{cell_count, site_at}
 use Rattle.assembly.specs.Grids.{is_tile, places_of}
 use Rattle.assembly.specs.Filling.{filled_word}
 use Rattle.assembly.proofs.Cells.{cell_count-most}
-use Rattle.assembly.proofs.Tiles.{SameTiles}
+use Rattle.atam.proofs.Tiles.{SameTiles}
 use Rattle.assembly.proofs.Grids.{merge_tiles, merge_placements}
 use Rattle.assembly.proofs.grid.Grid.merge.Goals as goal
 
