@@ -1,5 +1,5 @@
 pub mod Cells
-pub mod Words
+pub mod Contents
 pub mod Grids
 pub mod Filling
 pub mod Putting

@@ -26,7 +26,8 @@ use Rattle.atam.proofs.Confluence.{is_input-later}
 use Rattle.atam.proofs.Opening.{bond-beside}
 use Rattle.atam.proofs.Tiles.{SameTiles, SameTiles-from}
 use Rattle.local_check.specs.declared.side_set.SideSet.{SideSet}
-use Rattle.local_check.specs.SideSets.{has, bond_if, pull_on}
+use Rattle.local_check.specs.SideSets.{has}
+use Rattle.local_check.specs.Inner.Sides.{bond_if, pull_on}
 use Rattle.local_check.specs.Judgement.{AllExactBelow, NoRivalBelow}
 use Rattle.local_check.proofs.Sides.{apart}
 

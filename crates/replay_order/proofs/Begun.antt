@@ -12,13 +12,15 @@ use Rattle.atam.specs.Sites.{IsBefore}
 use Rattle.atam.specs.Placements.{HasDistinctSites, IsPartOf, tile_at}
 use Rattle.atam.specs.TileSystem.{TileSystem}
 use Rattle.atam.specs.Assembly.{pull}
+use Rattle.atam.specs.Growth.{IsProducible}
+use Rattle.atam.proofs.Canon.{producible_seeded}
 use Rattle.atam.specs.Canonical.{IsReady, BeginsCanonical, IsCanonical}
 use Rattle.atam.proofs.Lists.{some_or_none, push_cases, seed_from, seeds_within, Contains-slice_get}
 use Rattle.atam.proofs.Placements.{none_at, Contains-tile_at, tile_at-Contains, same_place, HasDistinctSites-push}
 use Rattle.atam.proofs.Beginnings.{begun_part, begun_push, begun_distinct, unlisted_empty}
 use Rattle.atam.proofs.Count.{count_in_part}
-use Rattle.replay_order.specs.ReplayAnswers.{HoldsSeeds}
-use Rattle.replay_order.specs.Replays.{IsReadySite, AreReadySites}
+use Rattle.replay_order.specs.ReplayAnswers.{HoldsSeeds, LacksSeed}
+use Rattle.replay_order.specs.Inner.Replays.{IsReadySite, AreReadySites}
 use Rattle.replay_order.proofs.ReadySites.{part_push}
 
 pub OnOk-map : {T E : Type 0} (P Q : Type 0) (r : Result T E) → (P → Q) → OnOk r P → OnOk r Q
@@ -74,3 +76,8 @@ module _ (sys : TileSystem) (tiles s : List Place) (begun : BeginsCanonical sys 
 -- seeds that stand there are a part
 pub seeds_part : (sys : TileSystem) (tiles : List Place) → HoldsSeeds sys tiles → IsPartOf sys.seeds tiles
 seeds_part sys tiles held p seed = tile_at-Contains tiles p.site p.tile (All-contains (λ q. tile_at tiles q.site ≡ Some q.tile) sys.seeds p held seed)
+
+-- a producible assembly lacks no seed
+pub lacks_no_seed : (sys : TileSystem) (tiles : List Place) → HasDistinctSites sys.seeds → HasDistinctSites tiles → IsProducible sys tiles → LacksSeed sys tiles → ⊥
+lacks_no_seed sys tiles seeds_distinct distinct producible lacks =
+    lacks.4 (Contains-tile_at tiles lacks.1 distinct (producible_seeded sys tiles seeds_distinct producible lacks.1 (lacks.0, lacks.2, lacks.3)))

@@ -16,7 +16,7 @@ use Rattle.atam.proofs.Canon.{canonical_part, canonical_IsLegal, producible_exac
 use Rattle.atam.proofs.Sequences.{IsLegal-distinct}
 use Rattle.atam.proofs.Opening.{Fits-part}
 use Rattle.atam.proofs.Beginnings.{unlisted_empty}
-use Rattle.replay_order.specs.Replays.{IsLeftAt, IsLeastLeft}
+use Rattle.replay_order.specs.Inner.Replays.{IsLeftAt, IsLeastLeft}
 use Rattle.replay_order.specs.ReplayAnswers.{IsWholeOrder, IsStuckAt}
 
 module _ (sys : TileSystem) (tiles s : List Place) (fits : Fits sys tiles) (distinct : HasDistinctSites tiles)

@@ -13,7 +13,8 @@ use Rattle.seq_text.specs.VerdictLines.{verdict_line}
 use Rattle.unique_law.specs.Outcomes.{Outcome, IsOutcome, IsDeterministicInSomeOrder}
 use Rattle.unique_law.proofs.OneOutcome.{canonical_too, one_full_growth, one_outcome, yes_in_some_order, grows_into_outcome}
 use Rattle.tilebench.specs.GrowthText.{IsGrowthOf, IsGrowthAnswer, is_unique}
-use Rattle.tilebench.specs.Confluence.{IsConfluent, IsDeterministicInBox}
+use Rattle.tilebench.specs.Confluence.{IsConfluent}
+use Rattle.atam.specs.Determinism.{IsDeterministicInBox}
 
 -- a verdict is a yes exactly where it is `Yes`
 unique_yes : (verdict : Verdict) → is_unique verdict ≡ true → verdict ≡ Yes

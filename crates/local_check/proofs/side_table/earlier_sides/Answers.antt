@@ -6,7 +6,7 @@ use Rattle.atam.specs.Placements.{SamePlacements}
 use Rattle.atam.specs.TileSystem.{IsType}
 use Rattle.atam.proofs.Lists.{All-slice_get}
 use Rattle.local_check.specs.declared.side_set.SideSet.{SideSet}
-use Rattle.local_check.specs.SideSets.{AreEarlierAt, bound_sides}
+use Rattle.local_check.specs.Inner.Sides.{AreEarlierAt, bound_sides}
 use Rattle.atam.proofs.Boxes.{near_inside}
 use Rattle.atam.proofs.Opening.{Fits-part}
 use Rattle.assembly.proofs.Putting.{part_take, SamePlacements-more}

@@ -1,6 +1,6 @@
 use Rattle.std.proofs.Common.{◌≡◌, ◌-◌, length}
 use Rattle.atam.specs.Canonical.{BeginsCanonical}
-use Rattle.replay_order.specs.Replays.{AreReadySites}
+use Rattle.replay_order.specs.Inner.Replays.{AreReadySites}
 use Rattle.replay_order.proofs.canonical.list_ready.Given as goal
 
 -- the order has been begun, and the sites of the set are those that are ready

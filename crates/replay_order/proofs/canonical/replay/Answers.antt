@@ -1,6 +1,6 @@
 use Rattle.std.proofs.Common.{◌≤◌, ◌-◌, ◌∙◌, sym, subst, arith, length, Some, None}
 use Rattle.atam.specs.declared.area.BoxArea.{BoxArea}
-use Rattle.replay_order.specs.Replays.{IsLeastLeft}
+use Rattle.replay_order.specs.Inner.Replays.{IsLeastLeft}
 use Rattle.replay_order.specs.ReplayAnswers.{IsWholeOrder}
 use Rattle.replay_order.proofs.Ended.{listed_count, whole_order, stuck_at}
 use Rattle.replay_order.proofs.canonical.replay.Goals as goal
