@@ -32,10 +32,10 @@ pub fn replay(alloc: Global, sys: &System, grid: &Grid) -> Result<Sequence, Repl
     ensures producible { result ≢ Err ReplayStop.NoMemory →
         IsOk result ↔ IsProducible sys.now grid.now.tiles }
 {
+    let area = grid.area();
     if !holds_seeds(sys, grid) {
         return Err(ReplayStop::NoSeedThere);
     }
-    let area = grid.area();
     let listing = canonical_listing(alloc, sys, grid)?;
     match least_left(&area, grid, &listing) {
         None => Ok(listing.into_order()),

@@ -79,4 +79,7 @@ returns-clause-placements c =
     c.args.self.now.tiles c.args.other.now.tiles (ap (λ v. v.tiles) c.self.view_is) (ap (λ v. v.tiles) c.other.view_is) c.requires.agree
 
 pub returns-clause-distinct : goal.returns-clause-distinct
-returns-clause-distinct c = places-distinct (site_at c.self.inside.area) (site_at-injective c.self.inside.area) 0 _
+returns-clause-distinct c =
+    let cells = c.self.inside.cells in
+    let new = c.fill_gaps.new.cells in
+    places-distinct (site_at c.self.inside.area) (site_at-injective c.self.inside.area) 0 (take cells.len (new ++ drop (length new) cells.items))
