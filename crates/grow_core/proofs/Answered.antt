@@ -15,14 +15,14 @@ use Rattle.atam.specs.Placements.{HasDistinctSites, IsPartOf, SamePlacements, ti
 use Rattle.atam.specs.Assembly.{pull}
 use Rattle.atam.proofs.Lists.{some_or_none}
 use Rattle.atam.proofs.Placements.{HasDistinctSites-push, same_place, tile_at-Contains, empty_in_part}
-use Rattle.grow_core.specs.declared.tile.Tile.{Tile}
+use Rattle.grow_core.specs.declared.placed_tile.PlacedTile.{PlacedTile}
 use Rattle.grow_core.specs.declared.event.Event.{Event}
 use Rattle.grow_core.specs.declared.event.Event.TheVariants.{Look, Claim, Split, Join}
 use Rattle.grow_core.specs.declared.event.Seen.{Seen}
 use Rattle.grow_core.specs.declared.event.Seen.TheVariants.{Saw, Won, Held, Divided, Joined}
 use Rattle.grow_core.specs.declared.event.CoreStop.{CoreStop}
 use Rattle.grow_core.specs.declared.event.CoreStop.TheVariants.{NoSuchScout, NotSupported, OutsideBox, NoNumberLeft}
-use Rattle.grow_core.specs.Core.{Scout, CoreState, scout_at, least, greatest, places, placed_by, IsSound}
+use Rattle.grow_core.specs.Core.{ScoutState, CoreState, scout_at, least, greatest, places, placed_by, CoreInvariant}
 use Rattle.grow_core.specs.Steps.{CoreStep, IsScoutOf, place, tile_of, kept_tiles, with_scout, with_tile, without_scout, no_such_scout, no_other_scout, same_scout, looks_outside, claims_outside, unsupported, one_number, saw_none, saw_tile, won, held, divided, joined}
 use Rattle.grow_core.proofs.Kept.{extends}
 use Rattle.grow_core.proofs.Lists.{Contains-here, Contains-there, Contains-append_right}
@@ -107,67 +107,67 @@ with_places whole seen (p ∷ ps) distinct part parts distinct_seen =
     )
 
 -- the scout that has seen them
-scout_of : (owned : ℕ) (tiles : List Place) (mine : List Tile) (a : Assembled tiles) → IsScoutOf owned tiles mine (record { owned = owned; seen = a.0; mine = mine })
+scout_of : (owned : ℕ) (tiles : List Place) (mine : List PlacedTile) (a : Assembled tiles) → IsScoutOf owned tiles mine (record { owned = owned; seen = a.0; mine = mine })
 scout_of owned tiles mine a = record { owned = refl; seen = a.1; distinct = a.2; mine = refl }
 
 abbrev Replied : TileSystem → CoreState → Event → Type 0
 Replied sys s event = (reply : Result Seen CoreStop) × (t : CoreState) × CoreStep sys s event reply t
 
-module _ (sys : TileSystem) (s : CoreState) (sound : IsSound sys s) where
-  abbrev same_seen : (a : ℕ) (v : Scout) → scout_at s.scouts a ≡ Some v → Assembled v.seen
-  same_seen a v here = (v.seen, record { part = λ q c. c; whole = λ q c. c }, (sound.consistent.knows a v here).distinct)
+module _ (sys : TileSystem) (s : CoreState) (holds : CoreInvariant sys s) where
+  abbrev same_seen : (a : ℕ) (v : ScoutState) → scout_at s.scouts a ≡ Some v → Assembled v.seen
+  same_seen a v here = (v.seen, record { part = λ q c. c; whole = λ q c. c }, (holds.growth.each a v here).distinct)
 
-  more_seen : (a : ℕ) (v : Scout) (m : Site) (t : TypeId) → scout_at s.scouts a ≡ Some v → tile_at (places s.tiles) m ≡ Some t → Assembled (v.seen ++ place m t ∷ [])
+  more_seen : (a : ℕ) (v : ScoutState) (m : Site) (t : TypeId) → scout_at s.scouts a ≡ Some v → tile_at (places s.tiles) m ≡ Some t → Assembled (v.seen ++ place m t ∷ [])
   more_seen a v m t here found =
-      let knows = sound.consistent.knows a v here in
-      with_place (places s.tiles) v.seen (place m t) sound.consistent.ground.distinct knows.part (tile_at-Contains (places s.tiles) m t found) knows.distinct
+      let knows = holds.growth.each a v here in
+      with_place (places s.tiles) v.seen (place m t) holds.growth.history.distinct knows.part (tile_at-Contains (places s.tiles) m t found) knows.distinct
 
-  both_seen : (a b : ℕ) (v w : Scout) → scout_at s.scouts a ≡ Some v → scout_at s.scouts b ≡ Some w → Assembled (v.seen ++ w.seen)
+  both_seen : (a b : ℕ) (v w : ScoutState) → scout_at s.scouts a ≡ Some v → scout_at s.scouts b ≡ Some w → Assembled (v.seen ++ w.seen)
   both_seen a b v w at_a at_b =
-      let knows_v = sound.consistent.knows a v at_a in
-      let knows_w = sound.consistent.knows b w at_b in
-      with_places (places s.tiles) v.seen w.seen sound.consistent.ground.distinct knows_v.part knows_w.part knows_v.distinct
+      let knows_v = holds.growth.each a v at_a in
+      let knows_w = holds.growth.each b w at_b in
+      with_places (places s.tiles) v.seen w.seen holds.growth.history.distinct knows_v.part knows_w.part knows_v.distinct
 
-  new_seen : (a : ℕ) (v : Scout) (m : Site) (t : TypeId) → scout_at s.scouts a ≡ Some v → tile_at (places s.tiles) m ≡ None → Assembled (v.seen ++ place m t ∷ [])
+  new_seen : (a : ℕ) (v : ScoutState) (m : Site) (t : TypeId) → scout_at s.scouts a ≡ Some v → tile_at (places s.tiles) m ≡ None → Assembled (v.seen ++ place m t ∷ [])
   new_seen a v m t here empty =
-      let knows = sound.consistent.knows a v here in (
+      let knows = holds.growth.each a v here in (
         v.seen ++ place m t ∷ [],
         record { part = λ q c. c; whole = λ q c. c },
-        HasDistinctSites-push v.seen (place m t) knows.distinct (empty_in_part v.seen (places s.tiles) m (extends sys s.tiles v sound.consistent.ground knows) empty),
+        HasDistinctSites-push v.seen (place m t) knows.distinct (empty_in_part v.seen (places s.tiles) m (extends sys s.tiles v holds.growth.history knows) empty),
       )
 
-  look : (who : ℕ) (site : Site) (v : Scout) → scout_at s.scouts who ≡ Some v → Replied sys s (Look who site)
+  look : (who : ℕ) (site : Site) (v : ScoutState) → scout_at s.scouts who ≡ Some v → Replied sys s (Look who site)
   look who site v here = elim (in_or_out sys.area site) [
     | inr outside ↦ (Err OutsideBox, s, looks_outside who site v here outside)
     | inl inside ↦ elim (some_or_none (tile_at (places s.tiles) site)) [
       | inl empty ↦ (Ok (Saw None), s, saw_none who site v here inside empty)
       | inr found ↦
           let seen = more_seen who v site found.0 here found.1 in
-          let w : Scout = record { owned = v.owned; seen = seen.0; mine = v.mine } in
+          let w : ScoutState = record { owned = v.owned; seen = seen.0; mine = v.mine } in
           (Ok (Saw (Some found.0)), with_scout s who w, saw_tile who site found.0 v w here inside found.1 (scout_of v.owned (v.seen ++ place site found.0 ∷ []) v.mine seen))
     ]
   ]
 
-  supported_claim : (who : ℕ) (site : Site) (tile : TypeId) (v : Scout) → scout_at s.scouts who ≡ Some v → InBox sys.area site → sys.tau ≤ pull sys v.seen site tile → Replied sys s (Claim who site tile)
+  supported_claim : (who : ℕ) (site : Site) (tile : TypeId) (v : ScoutState) → scout_at s.scouts who ≡ Some v → InBox sys.area site → sys.tau ≤ pull sys v.seen site tile → Replied sys s (Claim who site tile)
   supported_claim who site tile v here inside supported = elim (some_or_none (tile_at (places s.tiles) site)) [
     | inl empty ↦
         let seen = new_seen who v site tile here empty in
-        let fresh : Tile = tile_of (place site tile) (least v.owned) in
-        let w : Scout = record { owned = v.owned; seen = seen.0; mine = v.mine ++ fresh ∷ [] } in (
+        let fresh : PlacedTile = tile_of (place site tile) (least v.owned) in
+        let w : ScoutState = record { owned = v.owned; seen = seen.0; mine = v.mine ++ fresh ∷ [] } in (
           Ok Won,
           with_scout (with_tile s fresh) who w,
           won who site tile v w here inside supported empty (scout_of v.owned (v.seen ++ place site tile ∷ []) (v.mine ++ fresh ∷ []) seen),
         )
     | inr found ↦
         let seen = more_seen who v site found.0 here found.1 in
-        let w : Scout = record { owned = v.owned; seen = seen.0; mine = v.mine } in (
+        let w : ScoutState = record { owned = v.owned; seen = seen.0; mine = v.mine } in (
           Ok (Held found.0),
           with_scout s who w,
           held who site tile found.0 v w here inside supported found.1 (scout_of v.owned (v.seen ++ place site found.0 ∷ []) v.mine seen),
         )
   ]
 
-  claim : (who : ℕ) (site : Site) (tile : TypeId) (v : Scout) → scout_at s.scouts who ≡ Some v → Replied sys s (Claim who site tile)
+  claim : (who : ℕ) (site : Site) (tile : TypeId) (v : ScoutState) → scout_at s.scouts who ≡ Some v → Replied sys s (Claim who site tile)
   claim who site tile v here = elim (in_or_out sys.area site) [
     | inr outside ↦ (Err OutsideBox, s, claims_outside who site tile v here outside)
     | inl inside ↦ dite (dec_lt (pull sys v.seen site tile) sys.tau)
@@ -175,18 +175,18 @@ module _ (sys : TileSystem) (s : CoreState) (sound : IsSound sys s) where
         (λ f. supported_claim who site tile v here inside (omega (arith, f)))
   ]
 
-  split : (who : ℕ) (v : Scout) → scout_at s.scouts who ≡ Some v → Replied sys s (Split who)
+  split : (who : ℕ) (v : ScoutState) → scout_at s.scouts who ≡ Some v → Replied sys s (Split who)
   split who v here = dite (ℕ_discrete (least v.owned) (greatest v.owned))
       (λ one. (Err NoNumberLeft, s, one_number who v here (λ two. two one)))
       (λ two.
-      let w : Scout = record { owned = v.owned - 2 ^ greatest v.owned; seen = v.seen; mine = kept_tiles (greatest v.owned) v.mine } in
-      let x : Scout = record { owned = 2 ^ greatest v.owned; seen = v.seen; mine = placed_by (greatest v.owned) v.mine } in (
+      let w : ScoutState = record { owned = v.owned - 2 ^ greatest v.owned; seen = v.seen; mine = kept_tiles (greatest v.owned) v.mine } in
+      let x : ScoutState = record { owned = 2 ^ greatest v.owned; seen = v.seen; mine = placed_by (greatest v.owned) v.mine } in (
         Ok (Divided (greatest v.owned)),
         with_scout (with_scout s who w) (greatest v.owned) x,
         divided who v w x here two (scout_of w.owned v.seen w.mine (same_seen who v here)) (scout_of x.owned v.seen x.mine (same_seen who v here)),
       ))
 
-  join : (into from : ℕ) (v : Scout) → scout_at s.scouts into ≡ Some v → Replied sys s (Join into from)
+  join : (into from : ℕ) (v : ScoutState) → scout_at s.scouts into ≡ Some v → Replied sys s (Join into from)
   join into from v here = dite (ℕ_discrete into from)
       (λ same. (Err NoSuchScout, s, same_scout into from same))
       (λ differ. elim (some_or_none (scout_at s.scouts from)) [
@@ -194,7 +194,7 @@ module _ (sys : TileSystem) (s : CoreState) (sound : IsSound sys s) where
         | inr other ↦
             let w = other.0 in
             let seen = both_seen into from v w here other.1 in
-            let x : Scout = record { owned = bit_or v.owned w.owned; seen = seen.0; mine = v.mine ++ w.mine } in (
+            let x : ScoutState = record { owned = bit_or v.owned w.owned; seen = seen.0; mine = v.mine ++ w.mine } in (
               Ok (Joined (min into from)),
               with_scout (without_scout (without_scout s into) from) (min into from) x,
               joined into from v w x here other.1 differ (scout_of x.owned (v.seen ++ w.seen) x.mine seen),

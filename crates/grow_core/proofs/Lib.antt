@@ -13,3 +13,6 @@ pub mod Assembled
 pub mod Dividing
 pub mod Tables
 pub mod Acting
+pub mod Listed
+pub mod NamedState
+pub mod Runs

@@ -48,7 +48,7 @@ all_pairs_append R (x ∷ xs) ys one other cross =
     (λ y z c e. cross y z (Contains-there x y xs c) e))
 
 -- the image of what a list contains
-Contains-map : {X Y : Type 0} (f : X → Y) (xs : List X) (x : X) → Contains xs x → Contains (map f xs) (f x)
+pub Contains-map : {X Y : Type 0} (f : X → Y) (xs : List X) (x : X) → Contains xs x → Contains (map f xs) (f x)
 Contains-map f [] x c = absurd (Contains-nil x c)
 Contains-map f (y ∷ xs) x c = elim (Contains-append_cases (y ∷ []) xs x c) [
   | inl head ↦ elim (Contains-push_cases [] y x head) [

@@ -7,7 +7,7 @@ use Rattle.std.proofs.lemmas.Nat.Bits.{bit_at-lt, bit_at_above, bit_at_cat_low, 
 use Rattle.std.proofs.lemmas.Bool.{false≢true}
 use mathlib.Core.Logic.{dite}
 use native.Mathlib.Decide.{ℕ_discrete, dec_lt}
-use Rattle.grow_core.specs.declared.tile.Tile.{Tile}
+use Rattle.grow_core.specs.declared.placed_tile.PlacedTile.{PlacedTile}
 use Rattle.grow_core.specs.Core.{Owns, least, greatest, placed_by}
 use Rattle.grow_core.proofs.Lists.{Contains-here, Contains-there}
 
@@ -45,6 +45,13 @@ module _ (owned : ℕ) (is_top : IsTop owned) where
   greatest-owned = let z : g - g ≡ 0 = omega arith in
       subst (λ n. bit_at n g ≡ 1) (sym whole) (bit_at_cat_high 1 g left g left_small (omega arith) ∙ ap (bit_at 1) z)
 
+  -- it is the greatest
+  pub most : (n : ℕ) → Owns owned n → n ≤ g
+  most n own = dite (dec_lt g n)
+      (λ l. let above : owned < 2 ^ suc g = subst (λ x. owned < x) (sym (pow-suc 2 g)) (let b = is_top.high in omega arith) in
+      let zero_bit = bit_at_above owned (suc g) n above (omega (arith, l)) in absurd (omega (arith, own, zero_bit)))
+      (λ f. omega (arith, f))
+
   pub left-owned : (n : ℕ) → Owns left n → Owns owned n
   left-owned n own = dite (dec_lt n g)
       (λ l. subst (λ x. bit_at x n ≡ 1) (sym whole) (bit_at_cat_low 1 g left n l ∙ own))
@@ -75,13 +82,13 @@ pub owns-none : (n : ℕ) → Owns 0 n → ⊥
 owns-none n own = let z = bit_at-zero n in omega (arith, own, z)
 
 -- the tiles of a number, among those of that number, and among those of others
-pub by_itself : (n : ℕ) (xs : List Tile) → placed_by n (placed_by n xs) ≡ placed_by n xs
+pub by_itself : (n : ℕ) (xs : List PlacedTile) → placed_by n (placed_by n xs) ≡ placed_by n xs
 by_itself n [] = refl
 by_itself n (x ∷ xs) = dite (ℕ_discrete x.placer n)
     (λ e. rw (eq-eqb x.placer n e) (rw (eq-eqb x.placer n e) (ap (λ l. x ∷ l) (by_itself n xs))))
     (λ f. rw (ne_eqb x.placer n f) (by_itself n xs))
 
-pub by_other : (n k : ℕ) (xs : List Tile) → n ≢ k → placed_by n (filter (λ t. not (t.placer == k)) xs) ≡ placed_by n xs
+pub by_other : (n k : ℕ) (xs : List PlacedTile) → n ≢ k → placed_by n (filter (λ t. not (t.placer == k)) xs) ≡ placed_by n xs
 by_other n k [] other = refl
 by_other n k (x ∷ xs) other = dite (ℕ_discrete x.placer k)
     (λ e. rw (eq-eqb x.placer k e, ne_eqb x.placer n (λ f. other (sym f ∙ e))) (by_other n k xs other))
@@ -89,7 +96,7 @@ by_other n k (x ∷ xs) other = dite (ℕ_discrete x.placer k)
     (λ e. rw (ne_eqb x.placer k f, eq-eqb x.placer n e) (ap (λ l. x ∷ l) (by_other n k xs other)))
     (λ h. rw (ne_eqb x.placer k f, ne_eqb x.placer n h) (by_other n k xs other)))
 
-pub by_none : (n : ℕ) (xs : List Tile) → ((t : Tile) → Contains xs t → t.placer ≢ n) → placed_by n xs ≡ []
+pub by_none : (n : ℕ) (xs : List PlacedTile) → ((t : PlacedTile) → Contains xs t → t.placer ≢ n) → placed_by n xs ≡ []
 by_none n [] none = refl
 by_none n (x ∷ xs) none = rw (ne_eqb x.placer n (none x (Contains-here x xs))) (by_none n xs (λ t c. none t (Contains-there x t xs c)))
 
@@ -113,6 +120,11 @@ least-owned owned some_number small = let t = bit_at-trailing_zeros w64 owned so
 
 pub below-least : (owned : ℕ) → 0 < owned → owned < 2 ^ 64 → (n : ℕ) → n < least owned → bit_at owned n ≡ 0
 below-least owned some_number small = (bit_at-trailing_zeros w64 owned some_number small).2
+
+pub least-most : (owned : ℕ) → 0 < owned → owned < 2 ^ 64 → (n : ℕ) → Owns owned n → least owned ≤ n
+least-most owned some_number small n own = dite (dec_lt n (least owned))
+    (λ l. let none = below-least owned some_number small n l in absurd (omega (arith, own, none)))
+    (λ f. omega (arith, f))
 
 -- a number that is owned, with none below it, is the least
 pub least-is : (owned n : ℕ) → owned < 2 ^ 64 → Owns owned n → ((k : ℕ) → k < n → bit_at owned k ≡ 0) → least owned ≡ n

@@ -7,17 +7,17 @@ use Rattle.atam.specs.declared.place.Place.{Place}
 use Rattle.atam.specs.TileSystem.{TileSystem}
 use Rattle.atam.specs.Placements.{HasDistinctSites}
 use Rattle.atam.proofs.Lists.{Contains-slice_get}
-use Rattle.grow_core.specs.declared.tile.Tile.{Tile}
-use Rattle.grow_core.specs.Core.{Scout, Owns, places, Knows}
+use Rattle.grow_core.specs.declared.placed_tile.PlacedTile.{PlacedTile}
+use Rattle.grow_core.specs.Core.{ScoutState, Owns, places, ScoutInvariant}
 use Rattle.grow_core.proofs.Lists.{filter-from, filter-has}
 
-place_at : (log : List Tile) (i : ℕ) (t : Tile) → slice_get log i ≡ Some t → slice_get (places log) i ≡ Some t.place
+place_at : (log : List PlacedTile) (i : ℕ) (t : PlacedTile) → slice_get log i ≡ Some t → slice_get (places log) i ≡ Some t.place
 place_at [] i t e = absurd (none-some t e)
-place_at (x ∷ log) zero t e = ap (λ (y : Tile). Some y.place) (same_Some x t e)
+place_at (x ∷ log) zero t e = ap (λ (y : PlacedTile). Some y.place) (same_Some x t e)
 place_at (x ∷ log) (suc i) t e = place_at log i t e
 
 -- two of the tiles at one site are one
-pub same_tile : (log : List Tile) (t u : Tile) → HasDistinctSites (places log) → Contains log t → Contains log u → t.place.site ≡ u.place.site → t ≡ u
+pub same_tile : (log : List PlacedTile) (t u : PlacedTile) → HasDistinctSites (places log) → Contains log t → Contains log u → t.place.site ≡ u.place.site → t ≡ u
 same_tile log t u distinct in_t in_u one =
     let a = Contains-slice_get log t in_t in
     let b = Contains-slice_get log u in_u in
@@ -31,14 +31,14 @@ same_tile log t u distinct in_t in_u one =
     (λ l. absurd (distinct b.0 a.0 t.place l (slice_get_within (places log) a.0 t.place p) (site_u ∙ (sym one ∙ sym site_t))))
     (λ h. let e : a.0 ≡ b.0 = omega (arith, f, h) in same_Some t u (sym a.2 ∙ (ap (slice_get log) e ∙ b.2))))
 
-module _ (sys : TileSystem) (log : List Tile) (v : Scout) (knows : Knows sys log v) where
+module _ (sys : TileSystem) (log : List PlacedTile) (v : ScoutState) (knows : ScoutInvariant sys log v) where
   -- a tile of one of its numbers is its own
-  pub own_tile : (t : Tile) → Contains log t → Owns v.owned t.placer → Contains v.mine t
-  own_tile t c own = filter-from (λ (x : Tile). x.placer == t.placer) v.mine t
-      (subst (λ l. Contains l t) (knows.history t.placer own) (filter-has (λ (x : Tile). x.placer == t.placer) log t c (eq-eqb t.placer t.placer refl)))
+  pub own_tile : (t : PlacedTile) → Contains log t → Owns v.owned t.placer → Contains v.mine t
+  own_tile t c own = filter-from (λ (x : PlacedTile). x.placer == t.placer) v.mine t
+      (subst (λ l. Contains l t) (knows.in_order t.placer own) (filter-has (λ (x : PlacedTile). x.placer == t.placer) log t c (eq-eqb t.placer t.placer refl)))
 
   -- what is its own is one of the tiles
-  pub mine_tile : (t : Tile) → Contains v.mine t → Contains log t
+  pub mine_tile : (t : PlacedTile) → Contains v.mine t → Contains log t
   mine_tile t c = let own = knows.mine_owned t c in
-      filter-from (λ (x : Tile). x.placer == t.placer) log t
-      (subst (λ l. Contains l t) (sym (knows.history t.placer own)) (filter-has (λ (x : Tile). x.placer == t.placer) v.mine t c (eq-eqb t.placer t.placer refl)))
+      filter-from (λ (x : PlacedTile). x.placer == t.placer) log t
+      (subst (λ l. Contains l t) (sym (knows.in_order t.placer own)) (filter-has (λ (x : PlacedTile). x.placer == t.placer) v.mine t c (eq-eqb t.placer t.placer refl)))

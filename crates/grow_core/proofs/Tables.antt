@@ -19,49 +19,50 @@ use Rattle.assembly.specs.Cells.{cell_count, site_at}
 use Rattle.assembly.specs.Grids.{TileGrid}
 use Rattle.assembly.proofs.Cells.{site_at-injective}
 use Rattle.atam.proofs.Tiles.{SameTiles-put}
-use Rattle.grow_core.specs.declared.tile.Tile.{Tile}
+use Rattle.grow_core.specs.declared.placed_tile.PlacedTile.{PlacedTile}
 use Rattle.grow_core.specs.Core.{places}
 use Rattle.grow_core.specs.Steps.{tile_of}
-use Rattle.grow_core.specs.Machine.{placer_at, IsTable}
+use Rattle.grow_core.specs.Machine.{placer_at}
+use Rattle.grow_core.specs.Inner.Tables.{IsTable}
 
 -- the places of tiles that one number placed
 pub places-tile_of : (n : ℕ) (ps : List Place) → places (map (λ p. tile_of p n) ps) ≡ ps
 places-tile_of n [] = refl
 places-tile_of n (p ∷ ps) = ap (λ l. p ∷ l) (places-tile_of n ps)
 
-pub places-push : (tiles : List Tile) (t : Tile) → places (tiles ++ t ∷ []) ≡ places tiles ++ t.place ∷ []
-places-push tiles t = map-append (λ (u : Tile). u.place) tiles (t ∷ [])
+pub places-push : (tiles : List PlacedTile) (t : PlacedTile) → places (tiles ++ t ∷ []) ≡ places tiles ++ t.place ∷ []
+places-push tiles t = map-append (λ (u : PlacedTile). u.place) tiles (t ∷ [])
 
 -- where there is no tile nobody placed one
-pub placer_at-none : (tiles : List Tile) (m : Site) → tile_at (places tiles) m ≡ None → placer_at tiles m ≡ None
+pub placer_at-none : (tiles : List PlacedTile) (m : Site) → tile_at (places tiles) m ≡ None → placer_at tiles m ≡ None
 placer_at-none [] m e = refl
 placer_at-none (x ∷ tiles) m e = elim (same_site_tells x.place.site m) [
   | inl t ↦ absurd (none-some x.place.tile (sym (rw t.0 at e)))
   | inr f ↦ rw f.0 (placer_at-none tiles m (rw f.0 at e))
 ]
 
-pub placer_at-some : (tiles : List Tile) (m : Site) (u : TypeId) → tile_at (places tiles) m ≡ Some u → (n : ℕ) × (placer_at tiles m ≡ Some n)
+pub placer_at-some : (tiles : List PlacedTile) (m : Site) (u : TypeId) → tile_at (places tiles) m ≡ Some u → (n : ℕ) × (placer_at tiles m ≡ Some n)
 placer_at-some [] m u e = absurd (none-some u e)
 placer_at-some (x ∷ tiles) m u e = elim (same_site_tells x.place.site m) [
   | inl t ↦ (x.placer, rw t.0 refl)
   | inr f ↦ let rest = placer_at-some tiles m u (rw f.0 at e) in (rest.0, rw f.0 rest.1)
 ]
 
-placer_at-push_other : (tiles : List Tile) (t : Tile) (m : Site) → t.place.site ≢ m → placer_at (tiles ++ t ∷ []) m ≡ placer_at tiles m
+placer_at-push_other : (tiles : List PlacedTile) (t : PlacedTile) (m : Site) → t.place.site ≢ m → placer_at (tiles ++ t ∷ []) m ≡ placer_at tiles m
 placer_at-push_other [] t m other = elim (same_site_tells t.place.site m) [ inl one ↦ absurd (other one.1) | inr f ↦ rw f.0 refl ]
 placer_at-push_other (x ∷ tiles) t m other = elim (same_site_tells x.place.site m) [
   | inl one ↦ rw one.0 refl
   | inr f ↦ rw f.0 (placer_at-push_other tiles t m other)
 ]
 
-placer_at-push_here : (tiles : List Tile) (t : Tile) (m : Site) → placer_at tiles m ≡ None → t.place.site ≡ m → placer_at (tiles ++ t ∷ []) m ≡ Some t.placer
+placer_at-push_here : (tiles : List PlacedTile) (t : PlacedTile) (m : Site) → placer_at tiles m ≡ None → t.place.site ≡ m → placer_at (tiles ++ t ∷ []) m ≡ Some t.placer
 placer_at-push_here [] t m none here = elim (same_site_tells t.place.site m) [ inl one ↦ rw one.0 refl | inr f ↦ absurd (f.1 here) ]
 placer_at-push_here (x ∷ tiles) t m none here = elim (same_site_tells x.place.site m) [
   | inl one ↦ absurd (none-some x.placer (sym (rw one.0 at none)))
   | inr f ↦ rw f.0 (placer_at-push_here tiles t m (rw f.0 at none) here)
 ]
 
-module _ (tiles : List Tile) (grid : TileGrid) (placers : List ℕ) (room : ℕ) (table : IsTable tiles grid placers room) where
+module _ (tiles : List PlacedTile) (grid : TileGrid) (placers : List ℕ) (room : ℕ) (table : IsTable tiles grid placers room) where
   -- a tile stands in the box
   pub table_inside : (m : Site) (u : TypeId) → tile_at (places tiles) m ≡ Some u → InBox grid.area m
   table_inside m u there = All-contains (λ (p : Place). InBox grid.area p.site) (places tiles) (record { site = m; tile = u }) table.inside (tile_at-Contains (places tiles) m u there)
@@ -73,7 +74,7 @@ module _ (tiles : List Tile) (grid : TileGrid) (placers : List ℕ) (room : ℕ)
       let number = is ∙ (get_or_default placers i n 0 (rw table.cells within) ∙ table.numbers i placed.0 within (ap (placer_at tiles) at_i ∙ placed.1)) in
       ap Some number ∙ sym placed.1
 
-  module _ (new : TileGrid) (t : Tile) (i : ℕ) (inside : InBox grid.area t.place.site) (empty : tile_at (places tiles) t.place.site ≡ None) (same_area : new.area ≡ grid.area)
+  module _ (new : TileGrid) (t : PlacedTile) (i : ℕ) (inside : InBox grid.area t.place.site) (empty : tile_at (places tiles) t.place.site ≡ None) (same_area : new.area ≡ grid.area)
       (here : tile_at new.tiles t.place.site ≡ Some t.place.tile) (others : (m : Site) → m ≢ t.place.site → tile_at new.tiles m ≡ tile_at grid.tiles m)
       (at_i : site_at grid.area i ≡ t.place.site) (within : i < cell_count grid.area) where
     all_inside : All (λ (p : Place). InBox grid.area p.site) (places (tiles ++ t ∷ []))
@@ -87,7 +88,7 @@ module _ (tiles : List Tile) (grid : TileGrid) (placers : List ℕ) (room : ℕ)
     put_room =
         let most = count_in_box grid.area (places (tiles ++ t ∷ [])) all_distinct all_inside in
         let enough = table.enough in
-        let count : length (places (tiles ++ t ∷ [])) ≡ length tiles + 1 = length-map (tiles ++ t ∷ []) (λ (u : Tile). u.place) ∙ length-append tiles (t ∷ []) in
+        let count : length (places (tiles ++ t ∷ [])) ≡ length tiles + 1 = length-map (tiles ++ t ∷ []) (λ (u : PlacedTile). u.place) ∙ length-append tiles (t ∷ []) in
         omega (arith, most, enough, count)
 
     number_at : (k n : ℕ) → k < cell_count grid.area → placer_at (tiles ++ t ∷ []) (site_at grid.area k) ≡ Some n → get_or (set placers i t.placer) k 0 ≡ n
@@ -111,7 +112,7 @@ module _ (tiles : List Tile) (grid : TileGrid) (placers : List ℕ) (room : ℕ)
     }
 
 -- the next seed finds its site empty
-pub next_empty : (tiles : List Tile) (seeds : List Place) (i n : ℕ) (e : Place) → HasDistinctSites seeds → i < length seeds → tiles ≡ map (λ p. tile_of p n) (take i seeds) →
+pub next_empty : (tiles : List PlacedTile) (seeds : List Place) (i n : ℕ) (e : Place) → HasDistinctSites seeds → i < length seeds → tiles ≡ map (λ p. tile_of p n) (take i seeds) →
     tile_at (places tiles) (get_or seeds i e).site ≡ None
 next_empty tiles seeds i n e distinct within are =
     let same : places tiles ≡ take i seeds = ap places are ∙ places-tile_of n (take i seeds) in

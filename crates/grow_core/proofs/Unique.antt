@@ -10,12 +10,12 @@ use Rattle.grow_core.specs.declared.event.CoreStop.TheVariants.{NotSupported, No
 use Rattle.atam.specs.declared.site.Site.{Site}
 use Rattle.atam.specs.declared.place.TypeId.{TypeId}
 use Rattle.atam.specs.Assembly.{pull}
-use Rattle.grow_core.specs.Core.{Scout, CoreState, greatest, OwnsTwoOrMore}
+use Rattle.grow_core.specs.Core.{ScoutState, CoreState, greatest, OwnsTwoOrMore}
 use Rattle.grow_core.specs.Steps.{CoreStep, Supports, no_such_scout, no_other_scout, same_scout, looks_outside, claims_outside, unsupported, one_number, no_memory, saw_none, saw_tile, won, held, divided, joined}
 
-too_weak : (sys : TileSystem) (v w : Scout) (site : Site) (tile : TypeId) → v ≡ w → pull sys v.seen site tile < sys.tau → Supports sys w site tile → ⊥
+too_weak : (sys : TileSystem) (v w : ScoutState) (site : Site) (tile : TypeId) → v ≡ w → pull sys v.seen site tile < sys.tau → Supports sys w site tile → ⊥
 too_weak sys v w site tile same weak enough =
-    let p : pull sys v.seen site tile ≡ pull sys w.seen site tile = ap (λ (z : Scout). pull sys z.seen site tile) same in
+    let p : pull sys v.seen site tile ≡ pull sys w.seen site tile = ap (λ (z : ScoutState). pull sys z.seen site tile) same in
     omega (arith, p, weak, enough)
 
 pub one_reply : (sys : TileSystem) (s t u : CoreState) (event : Event) (one two : Result Seen CoreStop) → CoreStep sys s event one t → CoreStep sys s event two u
@@ -75,7 +75,7 @@ one_reply sys s t u event one two (unsupported who1 site1 tile1 v1 here1 inside1
 one_reply sys s t u event one two (unsupported who1 site1 tile1 v1 here1 inside1 weak1) (claims_outside who2 site2 tile2 v2 here2 outside2) memory1 memory2 =
     absurd (outside2 inside1)
 one_reply sys s t u event one two (unsupported who1 site1 tile1 v1 here1 inside1 weak1) (unsupported who2 site2 tile2 v2 here2 inside2 weak2) memory1 memory2 =
-    ap (λ (z : Scout). Err (NotSupported (pull sys z.seen site1 tile1))) (same_Some v1 v2 (sym here1 ∙ here2))
+    ap (λ (z : ScoutState). Err (NotSupported (pull sys z.seen site1 tile1))) (same_Some v1 v2 (sym here1 ∙ here2))
 one_reply sys s t u event one two (unsupported who1 site1 tile1 v1 here1 inside1 weak1) (won who2 site2 tile2 v2 w2 here2 inside2 supported2 empty2 is2) memory1 memory2 =
     absurd (too_weak sys v1 v2 site1 tile1 (same_Some v1 v2 (sym here1 ∙ here2)) weak1 supported2)
 one_reply sys s t u event one two (unsupported who1 site1 tile1 v1 here1 inside1 weak1) (held who2 site2 tile2 there2 v2 w2 here2 inside2 supported2 found2 is2) memory1 memory2 =
@@ -113,7 +113,7 @@ one_reply sys s t u event one two (one_number who1 v1 here1 one1) (one_number wh
 one_reply sys s t u event one two (one_number who1 v1 here1 one1) (no_memory who2 v2 here2 two2) memory1 memory2 =
     absurd (memory2 refl)
 one_reply sys s t u event one two (one_number who1 v1 here1 one1) (divided who2 v2 w2 x2 here2 two2 rest2 new2) memory1 memory2 =
-    absurd (one1 (subst (λ (z : Scout). OwnsTwoOrMore z.owned) (sym (same_Some v1 v2 (sym here1 ∙ here2))) two2))
+    absurd (one1 (subst (λ (z : ScoutState). OwnsTwoOrMore z.owned) (sym (same_Some v1 v2 (sym here1 ∙ here2))) two2))
 one_reply sys s t u event one two (no_memory who1 v1 here1 two1) (no_such_scout e2 nobody2) memory1 memory2 =
     absurd (memory1 refl)
 one_reply sys s t u event one two (no_memory who1 v1 here1 two1) (one_number who2 v2 here2 one2) memory1 memory2 =
@@ -125,11 +125,11 @@ one_reply sys s t u event one two (no_memory who1 v1 here1 two1) (divided who2 v
 one_reply sys s t u event one two (divided who1 v1 w1 x1 here1 two1 rest1 new1) (no_such_scout e2 nobody2) memory1 memory2 =
     absurd (none-some v1 (sym nobody2 ∙ here1))
 one_reply sys s t u event one two (divided who1 v1 w1 x1 here1 two1 rest1 new1) (one_number who2 v2 here2 one2) memory1 memory2 =
-    absurd (one2 (subst (λ (z : Scout). OwnsTwoOrMore z.owned) (same_Some v1 v2 (sym here1 ∙ here2)) two1))
+    absurd (one2 (subst (λ (z : ScoutState). OwnsTwoOrMore z.owned) (same_Some v1 v2 (sym here1 ∙ here2)) two1))
 one_reply sys s t u event one two (divided who1 v1 w1 x1 here1 two1 rest1 new1) (no_memory who2 v2 here2 two2) memory1 memory2 =
     absurd (memory2 refl)
 one_reply sys s t u event one two (divided who1 v1 w1 x1 here1 two1 rest1 new1) (divided who2 v2 w2 x2 here2 two2 rest2 new2) memory1 memory2 =
-    ap (λ (z : Scout). Ok (Divided (greatest z.owned))) (same_Some v1 v2 (sym here1 ∙ here2))
+    ap (λ (z : ScoutState). Ok (Divided (greatest z.owned))) (same_Some v1 v2 (sym here1 ∙ here2))
 one_reply sys s t u event one two (no_such_scout e1 nobody1) (no_other_scout into2 from2 nobody2) memory1 memory2 =
     refl
 one_reply sys s t u event one two (no_such_scout e1 nobody1) (same_scout into2 from2 same2) memory1 memory2 =

@@ -1,4 +1,9 @@
 pub mod Core
 pub mod Steps
+pub mod Listed
 pub mod Laws
+pub mod NumberLaws
+pub mod ListedLaws
+pub mod RunLaws
 pub mod Machine
+pub mod Inner

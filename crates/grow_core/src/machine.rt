@@ -5,12 +5,12 @@ ghost use Rattle.atam.specs.TileSystem.{IsValid};
 ghost use Rattle.atam.specs.Placements.{SamePlacements, HasDistinctSites};
 ghost use Rattle.atam.specs.Assembly.{Fits};
 ghost use Rattle.atam.specs.Assembly as model;
-ghost use Rattle.grow_core.specs.Core.{IsSound, scout_at, places};
+ghost use Rattle.grow_core.specs.Core.{CoreInvariant, scout_at, places};
 ghost use Rattle.grow_core.specs.Steps.{CoreStep, IsStart};
 ghost use Rattle.grow_core.specs.Machine.{placer_at};
 ghost use Rattle.grow_core.specs.declared.event.Event.TheVariants.{Look, Claim, Split, Join};
 
-use crate::{CoreStop, Event, Ground, Seat, Seats, Seen, Tile};
+use crate::{CoreStop, Event, PlacedTile, PlacedTiles, Scout, Scouts, Seen};
 use assembly::Grid;
 use attach_rule::pull;
 use std::alloc::Global;
@@ -25,8 +25,8 @@ use tile_system::{NoMemory, Place, Site, System, TypeId};
 #[derive(Drop)]
 pub struct Core {
     alloc: Global,
-    ground: Ground,
-    seats: Seats,
+    tiles: PlacedTiles,
+    scouts: Scouts,
 }
 
 impl Model for Core {
@@ -36,11 +36,11 @@ impl Model for Core {
     ghost Value = { BoxedCore };
 
     ghost view = { λ c. record {
-      area = c.ground.area;
-      state = record { tiles = c.ground.tiles; scouts = c.seats.scouts };
+      area = c.tiles.area;
+      state = record { tiles = c.tiles.tiles; scouts = c.scouts.scouts };
     } };
 
-    ghost invariant = { λ c. c.seats.area ≡ c.ground.area };
+    ghost invariant = { λ c. c.scouts.area ≡ c.tiles.area };
 }
 
 impl Core {
@@ -48,15 +48,15 @@ impl Core {
     pub fn make(alloc: Global, sys: &System) -> Result<Core, NoMemory>
         ensures area { IfOk result (λ core. core.area ≡ sys.now.area) }
         ensures start { IfOk result (λ core. IsStart sys.now core.state) }
-        ensures sound { IfOk result (λ core. IsSound sys.now core.state) }
+        ensures invariant { IfOk result (λ core. CoreInvariant sys.now core.state) }
     {
-        let ground = Ground::make(alloc, sys)?;
-        let first = Seat::make(alloc, u64::MAX, ground.grid().copy()?)?;
-        let seats = Seats::make(alloc, first)?;
+        let tiles = PlacedTiles::make(alloc, sys)?;
+        let first = Scout::make(alloc, u64::MAX, tiles.grid().copy()?)?;
+        let scouts = Scouts::make(alloc, first)?;
         Ok(Core {
             alloc,
-            ground,
-            seats,
+            tiles,
+            scouts,
         })
     }
 
@@ -64,63 +64,63 @@ impl Core {
     /// a split takes memory; where there is none, nothing changes.
     pub fn step(&mut self, sys: &System, event: Event) -> Result<Seen, CoreStop>
         requires area { self.old.area ≡ sys.now.area }
-        requires sound { IsSound sys.now self.old.state }
+        requires invariant { CoreInvariant sys.now self.old.state }
         ensures area { self.new.area ≡ self.old.area }
         ensures step { CoreStep sys.now self.old.state event result self.new.state }
-        ensures sound { IsSound sys.now self.new.state }
+        ensures invariant { CoreInvariant sys.now self.new.state }
     {
         match event {
             Event::Look { who, site } => self.look(sys, who, site),
             Event::Claim { who, site, tile } => self.claim(sys, who, site, tile),
-            Event::Split { who } => self.seats.split(self.alloc, who),
-            Event::Join { into, from } => self.seats.join(into, from),
+            Event::Split { who } => self.scouts.split(self.alloc, who),
+            Event::Join { into, from } => self.scouts.join(into, from),
         }
     }
 
     fn look(&mut self, sys: &System, who: u32, site: Site) -> Result<Seen, CoreStop>
         requires area { self.old.area ≡ sys.now.area }
-        requires sound { IsSound sys.now self.old.state }
+        requires invariant { CoreInvariant sys.now self.old.state }
         ensures area { self.new.area ≡ self.old.area }
         ensures step { CoreStep sys.now self.old.state (Look who site) result self.new.state }
     {
-        if self.seats.get(who).is_none() {
+        if self.scouts.get(who).is_none() {
             return Err(CoreStop::NoSuchScout);
         }
         if !sys.area().holds(site) {
             return Err(CoreStop::OutsideBox);
         }
-        let there = self.ground.at(site);
+        let there = self.tiles.at(site);
         if let Some(tile) = there {
-            self.seats.see(who, Place { site, tile });
+            self.scouts.see(who, Place { site, tile });
         }
         Ok(Seen::Saw(there))
     }
 
     fn claim(&mut self, sys: &System, who: u32, site: Site, tile: TypeId) -> Result<Seen, CoreStop>
         requires area { self.old.area ≡ sys.now.area }
-        requires sound { IsSound sys.now self.old.state }
+        requires invariant { CoreInvariant sys.now self.old.state }
         ensures valid { IsValid sys.now }
         ensures area { self.new.area ≡ self.old.area }
         ensures step { CoreStep sys.now self.old.state (Claim who site tile) result self.new.state }
     {
         let area = sys.area();
-        let Some(seat) = self.seats.get(who) else {
+        let Some(scout) = self.scouts.get(who) else {
             return Err(CoreStop::NoSuchScout);
         };
         if !area.holds(site) {
             return Err(CoreStop::OutsideBox);
         }
-        let pull = pull_of(sys, seat.seen(), site, tile);
+        let pull = pull_of(sys, scout.seen(), site, tile);
         if pull < sys.tau() {
             return Err(CoreStop::NotSupported { pull });
         }
-        if let Some(there) = self.ground.at(site) {
-            self.seats.see(who, Place { site, tile: there });
+        if let Some(there) = self.tiles.at(site) {
+            self.scouts.see(who, Place { site, tile: there });
             return Ok(Seen::Held(there));
         }
         let place = Place { site, tile };
-        self.ground.put(Tile { place, placer: who });
-        self.seats.win(who, place);
+        self.tiles.put(PlacedTile { place, placer: who });
+        self.scouts.win(who, place);
         Ok(Seen::Won)
     }
 
@@ -130,7 +130,7 @@ impl Core {
         ensures tiles { SamePlacements (places self.now.state.tiles) result.now.tiles }
         ensures distinct { HasDistinctSites result.now.tiles }
     {
-        self.ground.grid()
+        self.tiles.grid()
     }
 
     /// What the scout of a name has seen.
@@ -139,21 +139,21 @@ impl Core {
             ≡ option_map (λ v. v.seen) (scout_at self.now.state.scouts who) }
         ensures area { IfSome result (λ seen. seen.now.area ≡ self.now.area) }
     {
-        self.seats.get(who).map(|seat| seat.seen())
+        self.scouts.get(who).map(|scout| scout.seen())
     }
 
     /// The numbers of the scout of a name: bit i is set for number i.
     pub fn owned_by(&self, who: u32) -> Option<u64>
         ensures { result ≡ option_map (λ v. v.owned) (scout_at self.now.state.scouts who) }
     {
-        self.seats.get(who).map(|seat| seat.owned())
+        self.scouts.get(who).map(|scout| scout.owned())
     }
 
     /// The number that placed the tile at a site; 65535 for a seed.
     pub fn placer_at(&self, site: Site) -> Option<u32>
         ensures { result ≡ placer_at self.now.state.tiles site }
     {
-        self.ground.placer_at(site)
+        self.tiles.placer_at(site)
     }
 }
 

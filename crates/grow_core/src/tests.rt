@@ -1,6 +1,6 @@
 // Scouts on two small systems, event by event.
 ghost use Rattle.std.specs.Prelude.{◌≡◌};
-ghost use Rattle.grow_core.specs.Core.{IsSound};
+ghost use Rattle.grow_core.specs.Core.{CoreInvariant};
 
 use super::*;
 use std::alloc::Global;
@@ -100,9 +100,9 @@ fn two_rows(alloc: Global) -> Result<System, BuildStop> {
 // The index of the first event whose reply is another one.
 fn first_unlike(core: &mut Core, sys: &System, script: &[(Event, Reply)]) -> Option<usize>
     requires area { core.old.area ≡ sys.now.area }
-    requires sound { IsSound sys.now core.old.state }
+    requires invariant { CoreInvariant sys.now core.old.state }
     ensures area { core.new.area ≡ sys.now.area }
-    ensures sound { IsSound sys.now core.new.state }
+    ensures invariant { CoreInvariant sys.now core.new.state }
 {
     for index in 0..script.len() {
         let (event, reply) = script[index];
@@ -178,9 +178,9 @@ fn one_scout_looks_claims_and_joins(rt: HostRuntime) -> Result<(), Fail> {
 // Splits scout 0 down to its last number, as far as the replies are right.
 fn split_all(core: &mut Core, sys: &System) -> u32
     requires area { core.old.area ≡ sys.now.area }
-    requires sound { IsSound sys.now core.old.state }
+    requires invariant { CoreInvariant sys.now core.old.state }
     ensures area { core.new.area ≡ sys.now.area }
-    ensures sound { IsSound sys.now core.new.state }
+    ensures invariant { CoreInvariant sys.now core.new.state }
 {
     for given in 0..63 {
         if core.step(sys, Event::Split { who: 0 }) != Ok(Seen::Divided(63 - given)) {

@@ -2,11 +2,11 @@
 ghost use Rattle.std.specs.Prelude.{◌≡◌, ◌<◌, ◌≤◌, Some, length, slice_get, bytes_eq};
 ghost use Rattle.tile_io.specs.Lines.{words_of};
 
-use crate::words;
+use crate::{LONGEST_LINE, words};
 
 /// The number of words of a line.
 pub fn word_count(line: &[u8]) -> usize
-    requires { length line.now ≤ 256 }
+    requires { length line.now ≤ LONGEST_LINE }
     ensures { result ≡ length (words_of line.now) }
 {
     words(line).count()

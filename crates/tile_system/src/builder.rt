@@ -1,10 +1,10 @@
 // A system is built up, item by item.
-ghost use Rattle.std.specs.Prelude.{◌≡◌, ◌<◌, ◌≤ℤ◌, ◌+ℤ◌, pos, negsuc, nat_le, false, [], ◌∷◌, length, None, Some, option_map, IsTrue, ◌↔◌, OnOk, OnErr, IfOk, IfErr};
+ghost use Rattle.std.specs.Prelude.{◌≡◌, ◌<◌, ◌≤◌, ◌≤ℤ◌, ◌+ℤ◌, pos, negsuc, nat_le, false, [], ◌∷◌, length, None, Some, option_map, IsTrue, ◌↔◌, OnOk, OnErr, IfOk, IfErr};
 ghost use Rattle.std.specs.Option.{option_map_or, option_to_list};
 ghost use Rattle.std.specs.List.{list_any};
 ghost use Rattle.atam.specs.Sites.{HasCorners, IsBox};
 ghost use Rattle.atam.specs.TileSystem.{IsValid};
-ghost use Rattle.tile_system.specs.Draft.{with_glue, with_type, system_of};
+ghost use Rattle.tile_system.specs.Draft.{IsNewGlue, IsNewType, IsComplete, with_glue, with_type, system_of};
 ghost use Rattle.tile_system.specs.Names.{glue_named, type_named};
 ghost use Rattle.tile_system.specs.Refusals.{refusal_of, StopsUnless, LacksFirst, make_refusal, glue_refusal, tile_refusal, is_unknown};
 
@@ -88,9 +88,8 @@ impl SystemBuilder {
         ensures unchanged { OnErr result (self.new ≡ self.old) }
     {
         self.check_glue(name, strength)?;
-        let id = GlueId(self.glue_count());
-        self.push_glue(name, strength)?;
-        Ok(id)
+        let glue = self.push_glue(name, strength)?;
+        Ok(glue)
     }
 
     /// Adds a tile type, with its sides in the order north, east, south, west.
@@ -101,9 +100,8 @@ impl SystemBuilder {
         ensures unchanged { OnErr result (self.new ≡ self.old) }
     {
         self.check_tile(name, &sides)?;
-        let id = TypeId(self.type_count());
-        self.push_type(name, sides)?;
-        Ok(id)
+        let tile = self.push_type(name, sides)?;
+        Ok(tile)
     }
 
     /// Gives the box, in place of an earlier one.
@@ -115,7 +113,7 @@ impl SystemBuilder {
         if !is_box(area) {
             return Err(BuildStop::OutOfRange);
         }
-        self.area = Some(area);
+        self.set_area(area);
         Ok(())
     }
 
@@ -128,8 +126,7 @@ impl SystemBuilder {
         if place.tile.0 >= self.type_count() {
             return Err(BuildStop::UnknownType);
         }
-        self.seeds.clear();
-        self.seeds.push_reserved(place);
+        self.set_seed(place);
         Ok(())
     }
 
@@ -150,9 +147,74 @@ impl SystemBuilder {
         if !area.holds(self.seeds[0].site) {
             return Err((BuildStop::SeedOutside, self));
         }
-        Ok(System::new(
+        Ok(self.build())
+    }
+
+    /// Adds a glue that may be added.
+    ///
+    /// This and the next five methods take what was checked before, for whoever builds a system from a text.
+    pub fn push_glue(&mut self, name: &[u8], strength: u32) -> Result<GlueId, NoMemory>
+        requires { IsNewGlue self.old name.now strength }
+        ensures id { IfOk result (λ glue. glue.0 ≡ length self.old.glues) }
+        ensures ok { OnOk result (self.new ≡ with_glue self.old name.now strength) }
+        ensures unchanged { OnErr result (self.new ≡ self.old) }
+    {
+        let id = GlueId(self.glue_count());
+        let name = name.to_vec(self.alloc)?;
+        self.glues.push(self.alloc, GlueEntry::new(name, strength))?;
+        Ok(id)
+    }
+
+    /// Adds a tile type that may be added, with its sides in the order north, east, south, west.
+    pub fn push_type(&mut self, name: &[u8], sides: [Option<GlueId>; 4]) -> Result<TypeId, NoMemory>
+        requires { IsNewType self.old name.now sides }
+        ensures id { IfOk result (λ tile. tile.0 ≡ length self.old.types) }
+        ensures ok { OnOk result (self.new ≡ with_type self.old name.now sides) }
+        ensures unchanged { OnErr result (self.new ≡ self.old) }
+    {
+        let id = TypeId(self.type_count());
+        let name = name.to_vec(self.alloc)?;
+        self.types.push(self.alloc, TypeEntry::new(name, sides))?;
+        Ok(id)
+    }
+
+    /// Gives the temperature, in place of the earlier one.
+    pub fn set_tau(&mut self, tau: u32)
+        requires some { 1 ≤ tau }
+        requires most { tau ≤ 1000 }
+        ensures { self.new ≡ record self.old { tau = tau } }
+    {
+        self.tau = tau;
+    }
+
+    /// Gives the box, in place of an earlier one.
+    pub fn set_area(&mut self, area: BoxArea)
+        requires { IsBox area }
+        ensures { self.new ≡ record self.old { area = Some area } }
+    {
+        self.area = Some(area);
+    }
+
+    /// Gives the seed, in place of an earlier one.
+    pub fn set_seed(&mut self, place: Place)
+        requires { place.tile.0 < length self.old.types }
+        ensures { self.new ≡ record self.old { seeds = place ∷ [] } }
+    {
+        self.seeds.clear();
+        self.seeds.push_reserved(place);
+    }
+
+    /// The system of a draft that lacks nothing.
+    pub fn build(self) -> System
+        requires { IsComplete self }
+        ensures area { self.area ≡ Some result.area }
+        ensures ok { result ≡ system_of self result.area }
+        ensures valid { IsValid result }
+    {
+        let area = self.area.unwrap();
+        System::new(
             self.alloc, self.glues, self.types, self.tau, self.seeds, area,
-        ))
+        )
     }
 
     /// How many glues there are so far.
@@ -245,26 +307,6 @@ impl SystemBuilder {
     {
         let count = self.glue_count();
         sides.iter().any(|side| is_past(count, *side))
-    }
-
-    fn push_glue(&mut self, name: &[u8], strength: u32) -> Result<(), NoMemory>
-        requires { glue_refusal self.old name.now strength ≡ None }
-        ensures ok { OnOk result (self.new ≡ with_glue self.old name.now strength) }
-        ensures unchanged { OnErr result (self.new ≡ self.old) }
-    {
-        let name = name.to_vec(self.alloc)?;
-        self.glues.push(self.alloc, GlueEntry::new(name, strength))?;
-        Ok(())
-    }
-
-    fn push_type(&mut self, name: &[u8], sides: [Option<GlueId>; 4]) -> Result<(), NoMemory>
-        requires { tile_refusal self.old name.now sides ≡ None }
-        ensures ok { OnOk result (self.new ≡ with_type self.old name.now sides) }
-        ensures unchanged { OnErr result (self.new ≡ self.old) }
-    {
-        let name = name.to_vec(self.alloc)?;
-        self.types.push(self.alloc, TypeEntry::new(name, sides))?;
-        Ok(())
     }
 }
 

@@ -10,12 +10,12 @@ use Rattle.atam.specs.TileSystem.{TileSystem, IsType}
 use Rattle.atam.specs.Assembly.{Fits}
 use Rattle.atam.specs.Placements.{tile_at}
 use Rattle.atam.proofs.Placements.{tile_at-Contains}
-use Rattle.grow_core.specs.declared.tile.Tile.{Tile}
+use Rattle.grow_core.specs.declared.placed_tile.PlacedTile.{PlacedTile}
 use Rattle.grow_core.specs.declared.event.Event.{Event}
 use Rattle.grow_core.specs.declared.event.Seen.{Seen}
 use Rattle.grow_core.specs.declared.event.CoreStop.{CoreStop}
 use Rattle.grow_core.specs.declared.event.CoreStop.TheVariants.{NoMemory}
-use Rattle.grow_core.specs.Core.{CoreState, places, IsSound}
+use Rattle.grow_core.specs.Core.{CoreState, places, CoreInvariant}
 use Rattle.grow_core.specs.Steps.{place, CoreStep, CoreRun, no_such_scout, no_other_scout, same_scout, looks_outside, claims_outside, unsupported, one_number, no_memory, saw_none, saw_tile, won, held, divided, joined, stopped, stepped}
 use Rattle.seq_text.specs.SeenLines.{HasLine}
 use Rattle.tilebench.specs.ScheduleAnswer.{IsRunOf}
@@ -40,12 +40,12 @@ pub run_none : (sys : TileSystem) (s : CoreState) → IsRunOf sys s [] [] s
 run_none sys s = record { answered = []; events_are = refl; replies_are = refl; run = stopped s }
 
 -- what stands at a site of the core is of a type of the system
-type_there : (sys : TileSystem) (s : CoreState) (m : Site) (t : TypeId) → IsSound sys s → tile_at (places s.tiles) m ≡ Some t → IsType sys t
+type_there : (sys : TileSystem) (s : CoreState) (m : Site) (t : TypeId) → CoreInvariant sys s → tile_at (places s.tiles) m ≡ Some t → IsType sys t
 type_there sys s m t sound there =
-    All-contains (λ p. IsType sys p.tile) (places s.tiles) (place m t) sound.consistent.ground.legal.types (tile_at-Contains (places s.tiles) m t there)
+    All-contains (λ p. IsType sys p.tile) (places s.tiles) (place m t) sound.growth.history.legal.types (tile_at-Contains (places s.tiles) m t there)
 
 -- so each reply has a line, but for want of memory
-pub has_line : (sys : TileSystem) (s t : CoreState) (event : Event) (reply : Result Seen CoreStop) → IsSound sys s → CoreStep sys s event reply t →
+pub has_line : (sys : TileSystem) (s t : CoreState) (event : Event) (reply : Result Seen CoreStop) → CoreInvariant sys s → CoreStep sys s event reply t →
     (reply ≡ Err NoMemory → ⊥) → HasLine sys reply
 has_line sys s t event reply sound (no_such_scout e nobody) other = tt
 has_line sys s t event reply sound (no_other_scout into from nobody) other = tt
@@ -75,8 +75,8 @@ pub told_more : (sys : TileSystem) (replies : List (Result Seen CoreStop)) (repl
 told_more sys replies reply all one = All-push (HasLine sys) replies reply all one
 
 -- the tiles of a core fit its system
-pub core_fits : (sys : TileSystem) (s : CoreState) → IsSound sys s → Fits sys (places s.tiles)
+pub core_fits : (sys : TileSystem) (s : CoreState) → CoreInvariant sys s → Fits sys (places s.tiles)
 core_fits sys s sound = record {
-  types = sound.consistent.ground.legal.types;
-  sites = All-map (λ (q : Place). InBox sys.area q.site) (λ (t : Tile). t.place) s.tiles sound.consistent.ground.inside;
+  types = sound.growth.history.legal.types;
+  sites = All-map (λ (q : Place). InBox sys.area q.site) (λ (t : PlacedTile). t.place) s.tiles sound.growth.history.inside;
 }

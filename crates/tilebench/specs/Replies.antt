@@ -3,7 +3,7 @@ use Rattle.std.specs.Prelude.{◌≡◌, ◌⊎◌, ◌<◌, ◌≤◌, ℕ, Boo
 use Rattle.std.specs.Io.KnownBytes.{Appends, Consumes, IsAtEnd}
 use Rattle.tile_io.specs.declared.fault.Cause.TheVariants.{TooLong}
 use Rattle.tile_io.specs.declared.fault.TextFault.{TextFault}
-use Rattle.tile_io.specs.declared.whole.TheConstants.{MOST_INPUT}
+use Rattle.tile_io.specs.declared.limits.TheConstants.{MOST_INPUT}
 use Rattle.tile_io.specs.Prints.{AppendsFront}
 use Rattle.atam.specs.declared.place.Place.{Place}
 use Rattle.atam.specs.TileSystem.{TileSystem}

@@ -2,7 +2,7 @@
 use Rattle.std.specs.Prelude.{◌≤◌, ℕ, List, ◌⊎◌, length, Option, Result, Ok, Err}
 use Rattle.std.specs.Io.KnownBytes.{Consumes, IsAtEnd}
 use Rattle.tile_io.specs.declared.fault.TextFault.{TextFault}
-use Rattle.tile_io.specs.declared.whole.TheConstants.{MOST_INPUT}
+use Rattle.tile_io.specs.declared.limits.TheConstants.{MOST_INPUT}
 use Rattle.tile_io.specs.Faults.{Rose}
 use Rattle.atam.specs.TileSystem.{TileSystem}
 use Rattle.command_line.specs.declared.command.CommandName.{CommandName}

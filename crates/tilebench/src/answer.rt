@@ -1,7 +1,7 @@
 // From words and a source to an answer, all of it in memory before anything is written.
 ghost use Rattle.std.specs.Prelude.{◌≡◌, ◌≤◌, Err, length, map, string_bytes};
 ghost use Rattle.local_check.specs.declared.verdict.Verdict.{Verdict};
-ghost use Rattle.tile_io.specs.declared.whole.TheConstants.{MOST_INPUT};
+ghost use Rattle.tile_io.specs.declared.limits.TheConstants.{MOST_INPUT};
 ghost use Rattle.command_line.specs.declared.command.CommandName.TheVariants as names;
 ghost use Rattle.command_line.specs.Commands.{name_of};
 ghost use Rattle.tilebench.specs.declared.stop.Stop.TheVariants as stops;

@@ -1,7 +1,7 @@
 // The texts that a command reads.
 ghost use Rattle.std.specs.Prelude.{◌≡◌, ◌≤◌, ◌<◌, ◌^◌, length, IfOk};
 ghost use Rattle.atam.specs.Assembly.{Fits};
-ghost use Rattle.tile_io.specs.declared.whole.TheConstants.{MOST_INPUT};
+ghost use Rattle.tile_io.specs.declared.limits.TheConstants.{MOST_INPUT};
 ghost use Rattle.tilebench.specs.Stops.{ReadsAlone, ReadsWithSequence, ReadsWithGrid, ReadsWithEvents};
 
 use crate::stop::Stop;

@@ -1,6 +1,6 @@
 // A schedule of several scouts, run on the growth core.
 ghost use Rattle.std.specs.Prelude.{◌≡◌, IfOk, All};
-ghost use Rattle.grow_core.specs.Core.{IsSound};
+ghost use Rattle.grow_core.specs.Core.{CoreInvariant};
 ghost use Rattle.grow_core.specs.Steps.{CoreStep};
 ghost use Rattle.seq_text.specs.SeenLines.{HasLine};
 ghost use Rattle.tilebench.specs.AnswerText.{IsScheduled};
@@ -51,9 +51,9 @@ fn replies_of(
     events: &[Event],
 ) -> Result<Vec<Result<Seen, CoreStop>>, NoMemory>
     requires area { core.old.area ≡ sys.now.area }
-    requires sound { IsSound sys.now core.old.state }
+    requires invariant { CoreInvariant sys.now core.old.state }
     ensures area { core.new.area ≡ sys.now.area }
-    ensures sound { IsSound sys.now core.new.state }
+    ensures invariant { CoreInvariant sys.now core.new.state }
     ensures run { IfOk result (λ replies. IsRunOf sys.now core.old.state events.now replies.items core.new.state) }
     ensures told { IfOk result (λ replies. All (HasLine sys.now) replies.items) }
 {
@@ -68,9 +68,9 @@ fn replies_of(
 #[tactic(auto, using(crate::proofs::Scheduling::has_line))]
 fn reply_to(sys: &System, core: &mut Core, event: Event) -> Result<Result<Seen, CoreStop>, NoMemory>
     requires area { core.old.area ≡ sys.now.area }
-    requires sound { IsSound sys.now core.old.state }
+    requires invariant { CoreInvariant sys.now core.old.state }
     ensures area { core.new.area ≡ sys.now.area }
-    ensures sound { IsSound sys.now core.new.state }
+    ensures invariant { CoreInvariant sys.now core.new.state }
     ensures step { IfOk result (λ reply. CoreStep sys.now core.old.state event reply core.new.state) }
     ensures told { IfOk result (HasLine sys.now) }
 {

@@ -7,7 +7,7 @@ pub returns-clause-start : goal.returns-clause-start
 returns-clause-start c = start-there
 
 pub returns-clause-events : goal.returns-clause-events
-returns-clause-events c sys s event sound = answered sys s sound event
+returns-clause-events c sys s event holds = answered sys s holds event
 
 pub returns-clause-unique : goal.returns-clause-unique
 returns-clause-unique c = one_reply

@@ -1,5 +1,5 @@
-use Rattle.grow_core.proofs.Stepped.{left-sound}
+use Rattle.grow_core.proofs.Stepped.{left-invariant}
 use Rattle.grow_core.proofs.laws.law_left_out.Goals as goal
 
 pub returns : goal.returns
-returns c = left-sound
+returns c = left-invariant

@@ -14,7 +14,7 @@ loop-event-init c =
     let Told : List (Result Seen CoreStop) → Type 0 = λ replies. All (HasLine sys) replies in
     record {
       area = c.requires.area;
-      sound = c.requires.sound;
+      holds = c.requires.invariant;
       run = subst Ran (sym c.in_ok-replies.ensures.items) (run_none sys start);
       told = subst Told (sym c.in_ok-replies.ensures.items) (λ k d within. absurd (omega (arith, within)));
     }
@@ -32,7 +32,7 @@ loop-event-preserved c =
     let Told : List (Result Seen CoreStop) → Type 0 = λ replies. All (HasLine sys) replies in
     record {
       area = c.in_ok-reply_to.ensures.area;
-      sound = c.in_ok-reply_to.ensures.sound;
+      holds = c.in_ok-reply_to.ensures.invariant;
       run = subst Ran (sym c.in_ok-push.ensures.items) (run_next sys start c.loop-event.core.state end c.args.events.now index within before reply _ c.loop-event.invariant.run c.in_ok-reply_to.ensures.step);
       told = subst Told (sym c.in_ok-push.ensures.items) (told_more sys before reply c.loop-event.invariant.told c.in_ok-reply_to.ensures.told);
     }

@@ -1,5 +1,5 @@
 use Rattle.std.proofs.Common.{◌≡◌, All, take}
-use Rattle.grow_core.specs.Core.{IsSound}
+use Rattle.grow_core.specs.Core.{CoreInvariant}
 use Rattle.seq_text.specs.SeenLines.{HasLine}
 use Rattle.tilebench.specs.ScheduleAnswer.{IsRunOf}
 use Rattle.tilebench.proofs.schedule.replies_of.Given as goal
@@ -8,7 +8,7 @@ use Rattle.tilebench.proofs.schedule.replies_of.Given as goal
 abbrev pub invariant-loop-event : goal.invariant-loop-event
 invariant-loop-event l = record {
   area : l.core.area ≡ l.sys.area;
-  sound : IsSound l.sys l.core.state;
+  holds : CoreInvariant l.sys l.core.state;
   run : IsRunOf l.sys l.initial.core.state (take l.event-index l.events) l.replies.items l.core.state;
   told : All (HasLine l.sys) l.replies.items;
 }

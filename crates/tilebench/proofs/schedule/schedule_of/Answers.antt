@@ -9,7 +9,7 @@ use Rattle.tilebench.proofs.schedule.schedule_of.Goals as goal
 pub canonical_order-requires-clause-fits : goal.canonical_order-requires-clause-fits
 canonical_order-requires-clause-fits c =
     let end = c.replies_of.new.core.state in
-    Fits-part c.args.sys c.grid.result.now.tiles (places end.tiles) c.grid.ensures.tiles.whole (core_fits c.args.sys end c.in_ok-replies.ensures.sound)
+    Fits-part c.args.sys c.grid.result.now.tiles (places end.tiles) c.grid.ensures.tiles.whole (core_fits c.args.sys end c.in_ok-replies.ensures.invariant)
 
 pub returns : goal.returns
 returns c =

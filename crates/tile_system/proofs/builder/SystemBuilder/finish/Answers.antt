@@ -1,8 +1,8 @@
--- the seed is outside, or the draft is a valid system
-use Rattle.std.proofs.Common.{◌≡◌, ◌<◌, Some, length, get_or, rules}
+-- the seed is outside, or the draft lacks nothing
+use Rattle.std.proofs.Common.{◌≡◌, ◌<◌, ◌≤◌, Some, length, get_or, subst, rules}
 use Rattle.atam.specs.Sites.{InBox}
 use Rattle.tile_system.specs.Draft.{Draft}
-use Rattle.tile_system.proofs.Drafts.{IsValid-system_of, seed_outside, sole_seed}
+use Rattle.tile_system.proofs.Drafts.{seed_outside, sole_seed}
 use Rattle.tile_system.proofs.builder.SystemBuilder.finish.Goals as goal
 
 pub returns-then-not-holds-clause-refusal : goal.returns-then-not-holds-clause-refusal
@@ -16,15 +16,11 @@ returns-then-not-holds-clause-refusal c =
     let outside : ¬ InBox area seed.site = search rules in
     seed_outside c.args.self.area seeds area seed boxed some first outside
 
-pub new-requires : goal.new-requires
-new-requires c =
-    let inside = c.self.inside in
-    let area = c.in-Some.area in
+pub build-requires : goal.build-requires
+build-requires c =
     let seed = c.index.result.now in
-    let seeds = inside.seeds.items in
-    let draft : Draft = record { glues = inside.glues; types = inside.types; tau = inside.tau; area = inside.area; seeds = seeds } in
-    let valid = c.self.invariant.0 in
-    let boxed : inside.area ≡ Some area = search rules in
+    let seeds = c.args.self.seeds in
     let some : 0 < length seeds = search rules in
-    let within : InBox area seed.site = search rules in
-    IsValid-system_of draft area seed valid boxed (sole_seed seeds seed valid.seed_count some c.index.ensures) within
+    let first : seed ≡ get_or seeds 0 seed = search rules in
+    let few : length seeds ≤ 1 = (let Few : Draft → Type 0 = λ d. length d.seeds ≤ 1 in subst Few c.self.view_is c.self.invariant.0.seed_count) in
+    record { area = c.in-Some.area; seed = seed; area_is = search rules; seed_is = sole_seed seeds seed few some first; inside = search rules }

@@ -1,0 +1,146 @@
+"""Reads system texts and growth texts for the tools beside it. docs/FORMATS.md says what stands in them.
+
+It is a plain reader, and no judge: what it takes, the program may still refuse.
+"""
+import os
+import signal
+import sys
+
+# A tool ends quietly where whoever reads its output has enough of it.
+signal.signal(signal.SIGPIPE, signal.SIG_DFL)
+
+SIDES = ("north", "east", "south", "west")
+STEPS = ((0, 1), (1, 0), (0, -1), (-1, 0))
+PROGRAM = os.path.join(os.path.dirname(os.path.dirname(os.path.realpath(__file__))), "tilebench")
+
+
+class Unreadable(Exception):
+    """A text that is not as it must be: the number of the line, and why."""
+
+    def __init__(self, line, why):
+        super().__init__(f"line {line}: {why}")
+        self.line = line
+
+
+def opposite(side):
+    return (side + 2) % 4
+
+
+def neighbour(site, side):
+    return site[0] + STEPS[side][0], site[1] + STEPS[side][1]
+
+
+class System:
+    """A tile system: the strength of each glue, the four glues (or None) of each type, by name and in their order."""
+
+    def __init__(self):
+        self.tau, self.glues, self.types, self.box, self.seed = 0, {}, {}, None, None
+        # how many lines its text has
+        self.lines = 0
+
+    def bonds(self, tiles, site, name):
+        """The strength with which each side of the type is held at the site by the tiles (names by site)."""
+        found = []
+        for side in range(4):
+            beside = tiles.get(neighbour(site, side))
+            glue = self.types[name][side]
+            held = beside is not None and glue is not None and self.types[beside][opposite(side)] == glue
+            found.append(self.glues[glue] if held else 0)
+        return found
+
+    def attaching(self, tiles, site):
+        """The types that attach at an empty site."""
+        return [] if site in tiles else [it for it in self.types if sum(self.bonds(tiles, site, it)) >= self.tau]
+
+    def in_box(self, site):
+        x0, y0, x1, y1 = self.box
+        return x0 <= site[0] <= x1 and y0 <= site[1] <= y1
+
+
+def lines_of(text, first=1):
+    """The words of each line that is neither empty nor a remark, with its number."""
+    for number, line in enumerate(text.split("\n"), first):
+        words = [it for it in line.split(" ") if it]
+        if words and not words[0].startswith("#"):
+            yield number, words
+
+
+def integer(number, word):
+    try:
+        return int(word)
+    except ValueError:
+        raise Unreadable(number, f"{word} is no number") from None
+
+
+def system_of(text):
+    """The system that a text begins with, and the words of each line behind it."""
+    system, rest = System(), lines_of(text)
+    number, words = next(rest, (1, []))
+    if words != ["tiles", "1"]:
+        raise Unreadable(number, "a system text begins with the line: tiles 1")
+    for number, words in rest:
+        try:
+            if words[0] == "tau":
+                system.tau = integer(number, words[1])
+            elif words[0] == "glue":
+                system.glues[words[1]] = integer(number, words[2])
+            elif words[0] == "tile":
+                system.types[words[1]] = [None if it == "-" else it for it in words[2:6]]
+                unknown = [it for it in words[2:6] if it != "-" and it not in system.glues]
+                if unknown or len(words) != 6:
+                    raise Unreadable(number, f"no glue {unknown[0]}" if unknown else "a tile has a name and four sides")
+            elif words[0] == "box":
+                system.box = tuple(integer(number, it) for it in words[1:5])
+            elif words[0] == "seed":
+                system.seed = (integer(number, words[1]), integer(number, words[2])), words[3]
+            elif words[0] == "end":
+                system.lines = number
+                break
+            else:
+                raise Unreadable(number, f"{words[0]} is no keyword of a system text")
+        except (IndexError, ValueError):
+            raise Unreadable(number, f"too few words behind {words[0]}") from None
+    if not system.lines or system.box is None or system.seed is None or system.seed[1] not in system.types:
+        raise Unreadable(system.lines or number, "the system has no whole box, seed and end")
+    return system, list(rest)
+
+
+class Growth:
+    """What a growth text says: its places in their order, and the words of its closed and unique lines, if it has them."""
+
+    def __init__(self):
+        self.places, self.closed, self.unique = [], None, None
+
+    def tiles(self):
+        return dict(self.places)
+
+
+def growth_of(system, rows):
+    """The growth that rows of words say, behind their system."""
+    growth = Growth()
+    for number, words in rows:
+        if words[0] == "place" and len(words) == 4:
+            if words[3] not in system.types:
+                raise Unreadable(number, f"no type {words[3]}")
+            growth.places.append(((integer(number, words[1]), integer(number, words[2])), words[3]))
+        elif words[0] in ("closed", "unique") and len(words) > 1:
+            setattr(growth, words[0], words[1:])
+        else:
+            raise Unreadable(number, f"{' '.join(words)[:40]} is no line of a growth text")
+    return growth
+
+
+def read(path):
+    """The text of a file, or of standard input for -."""
+    if path == "-":
+        return sys.stdin.buffer.read().decode(errors="replace")
+    with open(path, "rb") as it:
+        return it.read().decode(errors="replace")
+
+
+def read_both(system_path, growth_path=None):
+    """A system and a growth: of two files, or of one that has both."""
+    system, rest = system_of(read(system_path))
+    if growth_path is not None:
+        rest = list(lines_of(read(growth_path)))
+    return system, growth_of(system, rest)
