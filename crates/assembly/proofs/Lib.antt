@@ -1,7 +1,5 @@
 pub mod Cells
-pub mod Tiles
-pub mod Words
-pub mod Opening
+pub mod Contents
 pub mod Grids
 pub mod Filling
 pub mod Putting

@@ -9,7 +9,7 @@ use Rattle.atam.specs.declared.place.Place.{Place}
 use Rattle.atam.specs.Placements.{HasDistinctSites, IsPartOf, SamePlacements, tile_at}
 use Rattle.atam.proofs.Lists.{some_or_none, take_step, slice_get-take, slice_get-Contains, Contains-slice_get}
 use Rattle.atam.proofs.Placements.{none_at, tile_at-Contains, distinct-empty}
-use Rattle.assembly.proofs.Tiles.{SamePlacements-push, SamePlacements-trans}
+use Rattle.atam.proofs.Tiles.{SamePlacements-push, SamePlacements-trans}
 
 -- one place more
 pub take_more : (s : List Place) (n : ℕ) (p : Place) → slice_get s n ≡ Some p → take (n + 1) s ≡ take n s ++ p ∷ []

@@ -1,3 +1,3 @@
 pub mod Cells
 pub mod Grids
-pub mod Filling
+pub mod Inner

@@ -1,11 +1,12 @@
-// An assembly in a box, as a flat array of words.
+// An assembly in a box, as a flat array of cells.
 ghost use Rattle.std.specs.Prelude.{ℕ, ◌≡◌, ◌≢◌, ◌<◌, ◌+◌, ◌^◌, slice_index, count_by, [], ◌∷◌, ◌++◌, length, Some, None, All, IfOk};
+ghost use Rattle.atam.specs.declared.limits.TheConstants.{MOST_TYPES};
 ghost use Rattle.atam.specs.declared.site.Site.{Site};
 ghost use Rattle.atam.specs.declared.place.TypeId.{TypeId};
 ghost use Rattle.atam.specs.Sites.{InBox, IsBox};
 ghost use Rattle.atam.specs.Placements.{tile_at, HasDistinctSites, SamePlacements};
-ghost use Rattle.assembly.specs.Grids.{is_tile};
-ghost use Rattle.assembly.specs.Filling.{filled_word};
+ghost use Rattle.assembly.specs.Inner.GridCells.{is_tile};
+ghost use Rattle.assembly.specs.Inner.Filling.{filled_cell};
 
 use crate::site_index;
 use std::alloc::Global;
@@ -16,19 +17,20 @@ use tile_system::{BoxArea, NoMemory, Place, Placed, Site, TypeId};
 #[derive(Drop)]
 pub struct Grid {
     area: BoxArea,
-    words: Vec<u16>,
+    cells: Vec<u16>,
     count: u32,
 }
 
 impl Model for Grid {
     ghost use Rattle.assembly.specs.Cells.{site_at};
-    ghost use Rattle.assembly.specs.Grids.{TileGrid, IsGrid, places_of};
+    ghost use Rattle.assembly.specs.Grids.{TileGrid, places_of};
+    ghost use Rattle.assembly.specs.Inner.GridCells.{IsGrid};
 
     ghost Value = { TileGrid };
 
-    ghost view = { λ g. record { area = g.area; tiles = places_of (site_at g.area) 0 g.words.items } };
+    ghost view = { λ g. record { area = g.area; tiles = places_of (site_at g.area) 0 g.cells.items } };
 
-    ghost invariant = { λ g. IsGrid g.area g.words.items g.count };
+    ghost invariant = { λ g. IsGrid g.area g.cells.items g.count };
 }
 
 impl Grid {
@@ -38,10 +40,10 @@ impl Grid {
         ensures area { IfOk result (λ grid. grid.area ≡ area) }
         ensures empty { IfOk result (λ grid. grid.tiles ≡ []) }
     {
-        let cells = area.width() as usize * area.height() as usize;
+        let sites = area.width() as usize * area.height() as usize;
         Ok(Grid {
             area,
-            words: Vec::from_elem(alloc, 0, cells)?,
+            cells: Vec::from_elem(alloc, 0, sites)?,
             count: 0,
         })
     }
@@ -65,16 +67,17 @@ impl Grid {
     pub fn put(&mut self, place: Place)
         requires inside { InBox self.old.area place.site }
         requires empty { tile_at self.old.tiles place.site ≡ None }
-        requires small { place.tile.0 < 16384 }
+        requires small { place.tile.0 < MOST_TYPES }
         ensures area { self.new.area ≡ self.old.area }
         ensures here { tile_at self.new.tiles place.site ≡ Some place.tile }
         ensures others { (m : Site) → m ≢ place.site →
             tile_at self.new.tiles m ≡ tile_at self.old.tiles m }
         ensures placements { SamePlacements (self.old.tiles ++ place ∷ []) self.new.tiles }
         ensures count { length self.new.tiles ≡ length self.old.tiles + 1 }
+        ensures distinct { HasDistinctSites self.new.tiles }
     {
         let index = site_index(&self.area, place.site);
-        self.words[index] = place.tile.0 as u16 + 1;
+        self.cells[index] = place.tile.0 as u16 + 1;
         self.count += 1;
     }
 
@@ -84,7 +87,7 @@ impl Grid {
     {
         Ok(Grid {
             area: self.area,
-            words: Vec::from_slice(*self.words.allocator(), self.words.as_slice())?,
+            cells: Vec::from_slice(*self.cells.allocator(), self.cells.as_slice())?,
             count: self.count,
         })
     }
@@ -98,8 +101,9 @@ impl Grid {
         ensures tiles { (m : Site) →
             tile_at self.new.tiles m ≡ tile_at (self.old.tiles ++ other.now.tiles) m }
         ensures placements { SamePlacements (self.old.tiles ++ other.now.tiles) self.new.tiles }
+        ensures distinct { HasDistinctSites self.new.tiles }
     {
-        self.count += fill_gaps(self.words.as_mut_slice(), other.words.as_slice());
+        self.count += fill_gaps(self.cells.as_mut_slice(), other.cells.as_slice());
     }
 
     /// Takes all tiles out.
@@ -107,7 +111,7 @@ impl Grid {
         ensures area { self.new.area ≡ self.old.area }
         ensures empty { self.new.tiles ≡ [] }
     {
-        self.words.as_mut_slice().fill(0);
+        self.cells.as_mut_slice().fill(0);
         self.count = 0;
     }
 }
@@ -119,25 +123,25 @@ impl Placed for Grid {
         if !self.area.holds(site) {
             return None;
         }
-        match self.words[site_index(&self.area, site)] {
+        match self.cells[site_index(&self.area, site)] {
             0 => None,
-            word => Some(TypeId(word as u32 - 1)),
+            cell => Some(TypeId(cell as u32 - 1)),
         }
     }
 }
 
-// Copies the words of tiles to where there are none, and counts them.
-fn fill_gaps(words: &mut [u16], other: &[u16]) -> u32
-    requires equal { length words.old ≡ length other.now }
-    requires short { length words.old < 2 ^ 32 }
-    ensures filled { (k : ℕ) → k < length words.old →
-        slice_index words.new k ≡ filled_word words.old other.now k }
-    ensures count { count_by is_tile words.new ≡ count_by is_tile words.old + result }
+// Copies the cells of tiles to where there are none, and counts them.
+fn fill_gaps(cells: &mut [u16], other: &[u16]) -> u32
+    requires equal { length cells.old ≡ length other.now }
+    requires short { length cells.old < 2 ^ 32 }
+    ensures filled { (k : ℕ) → k < length cells.old →
+        slice_index cells.new k ≡ filled_cell cells.old other.now k }
+    ensures count { count_by is_tile cells.new ≡ count_by is_tile cells.old + result }
 {
     let mut filled = 0;
-    for index in 0..words.len() {
-        if words[index] == 0 && other[index] != 0 {
-            words[index] = other[index];
+    for index in 0..cells.len() {
+        if cells[index] == 0 && other[index] != 0 {
+            cells[index] = other[index];
             filled += 1;
         }
     }

@@ -10,6 +10,3 @@ pub use cell::{site_index, site_of_index};
 pub use grid::Grid;
 pub use seeding::put_seeds;
 pub use sequence::Sequence;
-
-#[cfg(test)]
-mod tests;

@@ -9,7 +9,7 @@ use Rattle.atam.specs.declared.site.Site.{Site}
 use Rattle.atam.specs.declared.area.BoxArea.{BoxArea}
 use Rattle.atam.specs.declared.site.Side.{Side}
 use Rattle.atam.specs.declared.site.Side.TheVariants.{North, East, South, West}
-use Rattle.atam.specs.Sites.{neighbor, same_site, InBox, IsBox, IsNearSite, widened, site_in, width_of, height_of}
+use Rattle.atam.specs.Sites.{neighbor, same_site, InBox, IsBox, IsNearSite, site_in, width_of, height_of}
 
 -- a site is its coordinates
 pub same_coordinates : (a b : Site) → a.y ≡ b.y → a.x ≡ b.x → a ≡ b
@@ -44,6 +44,10 @@ same_site_tells a b =
 
 pub same_site-refl : (m : Site) → same_site m m ≡ true
 same_site-refl m = elim (same_site_tells m m) [ inl same ↦ same.0 | inr differ ↦ absurd (differ.1 refl) ]
+
+-- the box with one more site on each side
+abbrev pub widened : BoxArea → BoxArea
+widened area = record { x0 = area.x0 -ℤ pos 1; y0 = area.y0 -ℤ pos 1; x1 = area.x1 +ℤ pos 1; y1 = area.y1 +ℤ pos 1 }
 
 -- a site beside one of the box is in the widened box
 pub beside_box : (area : BoxArea) (m : Site) (d : Side) → InBox area (neighbor m d) → InBox (widened area) m

@@ -1,5 +1,5 @@
 -- An assembly has at most one canonical sequence; it is legal, and lists every legal sequence over tiles of the assembly.
-use Rattle.std.proofs.Common.{◌≡◌, ◌<◌, ◌≤◌, ◌+◌, ◌↔◌, ℕ, zero, suc, List, [], ◌∷◌, ◌++◌, length, take, get_or, Some, None, slice_get, Contains, All, refl, sym, ◌∙◌, ap, subst, inl, inr, arith}
+use Rattle.std.proofs.Common.{◌≢◌, ◌≡◌, ◌<◌, ◌≤◌, ◌+◌, ◌↔◌, ℕ, zero, suc, List, [], ◌∷◌, ◌++◌, length, take, get_or, Some, None, slice_get, Contains, All, refl, sym, ◌∙◌, ap, subst, inl, inr, arith}
 use Rattle.std.proofs.lemmas.Int.{ints, by_lt_z}
 use Rattle.std.proofs.lemmas.Bool.{cases_lt}
 use Rattle.std.proofs.lemmas.Option.{none-some, slice_get-get_or}
@@ -13,12 +13,13 @@ use Rattle.atam.specs.Placements.{HasDistinctSites, IsPartOf, SamePlacements, ti
 use Rattle.atam.specs.TileSystem.{TileSystem, IsType}
 use Rattle.atam.specs.Assembly.{pull}
 use Rattle.atam.specs.Growth.{IsLegal, IsProducible}
-use Rattle.atam.specs.Canonical.{IsReady, IsCanonical}
+use Rattle.atam.specs.Canonical.{IsReady, IsCanonical, LeavesNothing}
 use Rattle.atam.proofs.Boxes.{same_coordinates}
 use Rattle.atam.proofs.Lists.{some_or_none, take_step, take_end, seeds_taken, seed_from, seed_index, slice_get-Contains, Contains-slice_get}
 use Rattle.atam.proofs.Bonds.{pull-mono}
-use Rattle.atam.proofs.Placements.{Extends, Contains-tile_at, tile_at-Contains, tile_at-index, tile_at-place, same_place}
+use Rattle.atam.proofs.Placements.{none_at, Extends, Contains-tile_at, tile_at-Contains, distinct-empty, tile_at-index, tile_at-place, same_place}
 use Rattle.atam.proofs.Sequences.{IsLegal-distinct, IsLegal-tile_at, IsLegal-seeded}
+use Rattle.atam.proofs.Beginnings.{listed_placed, begun_part, begun_distinct}
 
 -- of two sites one is before the other, or they are one
 pub same_or_before : (a b : Site) → ¬ IsBefore a b → ¬ IsBefore b a → a ≡ b
@@ -46,24 +47,24 @@ module _ (sys : TileSystem) (tiles : List Place) (distinct : HasDistinctSites ti
             | inl no_t ↦ (take_end s n no_s).0 ∙ sym (take_end s n no_s).1 ∙ earlier ∙ (take_end t n no_t).1 ∙ sym (take_end t n no_t).0
             | inr in_t ↦
                 let Ready : List Place → Type 0 = λ l. IsReady sys tiles l in_t.0 in
-                let ready : Ready (take n t) = canonical_t.ready n in_t.0 later in_t.1 in
+                let ready : Ready (take n t) = canonical_t.begins.ready n in_t.0 later in_t.1 in
                 absurd (canonical_s.whole in_t.0 (subst Ready (sym earlier ∙ (take_end s n no_s).1) ready))
           ]
           | inr in_s ↦ elim (some_or_none (slice_get t n)) [
             | inl no_t ↦
                 let Ready : List Place → Type 0 = λ l. IsReady sys tiles l in_s.0 in
-                let ready : Ready (take n s) = canonical_s.ready n in_s.0 later in_s.1 in
+                let ready : Ready (take n s) = canonical_s.begins.ready n in_s.0 later in_s.1 in
                 absurd (canonical_t.whole in_s.0 (subst Ready (earlier ∙ (take_end t n no_t).1) ready))
             | inr in_t ↦
                 let p = in_s.0 in
                 let q = in_t.0 in
-                let ready_p = canonical_s.ready n p later in_s.1 in
-                let ready_q = canonical_t.ready n q later in_t.1 in
+                let ready_p = canonical_s.begins.ready n p later in_s.1 in
+                let ready_q = canonical_t.begins.ready n q later in_t.1 in
                 let ReadyP : List Place → Type 0 = λ l. IsReady sys tiles l p in
                 let ReadyQ : List Place → Type 0 = λ l. IsReady sys tiles l q in
                 let p_in_t : ReadyP (take n t) = subst ReadyP earlier ready_p in
                 let q_in_s : ReadyQ (take n s) = subst ReadyQ (sym earlier) ready_q in
-                let one : p ≡ q = same_least (take n s) p q ready_p q_in_s (canonical_t.least n q p later in_t.1 p_in_t) (canonical_s.least n p q later in_s.1 q_in_s) in
+                let one : p ≡ q = same_least (take n s) p q ready_p q_in_s (canonical_t.begins.least n q p later in_t.1 p_in_t) (canonical_s.begins.least n p q later in_s.1 q_in_s) in
                 take_step s n p in_s.1 ∙ ap (λ l. l ++ p ∷ []) earlier ∙ ap (λ r. take n t ++ r ∷ []) one ∙ sym (take_step t n q in_t.1)
           ]
         ]
@@ -71,7 +72,7 @@ module _ (sys : TileSystem) (tiles : List Place) (distinct : HasDistinctSites ti
     same_take : (n : ℕ) → take n s ≡ take n t
     same_take zero = refl
     same_take (suc n) = elim (cases_lt n (length sys.seeds)) [
-      | inl seed ↦ seeds_taken sys.seeds s canonical_s.seeds (suc n) (omega (arith, seed)) ∙ sym (seeds_taken sys.seeds t canonical_t.seeds (suc n) (omega (arith, seed)))
+      | inl seed ↦ seeds_taken sys.seeds s canonical_s.begins.seeds (suc n) (omega (arith, seed)) ∙ sym (seeds_taken sys.seeds t canonical_t.begins.seeds (suc n) (omega (arith, seed)))
       | inr later ↦ same_next n later (same_take n)
     ]
 
@@ -83,36 +84,18 @@ module _ (sys : TileSystem) (tiles : List Place) (distinct : HasDistinctSites ti
 -- the canonical sequence of an assembly that holds the seeds
 module _ (sys : TileSystem) (tiles s : List Place) (distinct : HasDistinctSites tiles) (kinds : All (λ p. IsType sys p.tile) tiles)
     (seeds_distinct : HasDistinctSites sys.seeds) (canonical : IsCanonical sys tiles s) where
-  listed_placed : (i : ℕ) (p : Place) → slice_get s i ≡ Some p → Contains tiles p
-  listed_placed i p there = elim (cases_lt i (length sys.seeds)) [
-    | inl seed ↦ canonical.seeded p (seed_from sys.seeds s canonical.seeds i p seed there)
-    | inr later ↦ (canonical.ready i p later there).placed
-  ]
-
   -- what is listed stands in the assembly
   pub canonical_part : IsPartOf s tiles
-  canonical_part p listed = let at = Contains-slice_get s p listed in listed_placed at.0 p at.2
+  canonical_part = begun_part sys tiles s canonical.begins
 
   -- it is legal
   pub canonical_IsLegal : IsLegal sys s
   canonical_IsLegal = record {
-    seeds = canonical.seeds;
-    types = λ k d within. All-contains (λ p. IsType sys p.tile) tiles (get_or s k d) kinds (listed_placed k (get_or s k d) (slice_get-get_or s k d within));
+    seeds = canonical.begins.seeds;
+    types = λ k d within. All-contains (λ p. IsType sys p.tile) tiles (get_or s k d) kinds (listed_placed sys tiles s canonical.begins k (get_or s k d) (slice_get-get_or s k d within));
     each = λ i p later there.
-        let ready = canonical.ready i p later there in
-        let empty : tile_at (take i s) p.site ≡ None = elim (some_or_none (tile_at (take i s) p.site)) [
-          | inl none ↦ none
-          | inr some ↦
-              let q = tile_at-index s i p.site some.0 some.1 in
-              let listed : Contains (take i s) (record { site = p.site; tile = some.0 }) = tile_at-Contains (take i s) p.site some.0 some.1 in
-              let same : q.1 ≡ record { site = p.site; tile = some.0 } = λ x. record { site = q.4 x; tile = q.5 x } in
-              let one : record { site = p.site; tile = some.0 } ≡ p =
-              sym same ∙ same_place tiles q.1 p distinct (listed_placed q.0 q.1 q.3) ready.placed q.4
-              in
-              absurd (ready.unlisted (subst (Contains (take i s)) one listed))
-        ]
-        in
-        record { empty = empty; held = ready.held };
+        let ready = canonical.begins.ready i p later there in
+        record { empty = distinct-empty s i p (begun_distinct sys tiles s canonical.begins distinct seeds_distinct) there; held = ready.held };
   }
 
   -- and it lists every legal sequence over tiles of the assembly
@@ -121,7 +104,7 @@ module _ (sys : TileSystem) (tiles s : List Place) (distinct : HasDistinctSites 
     listed_below zero i p below there = let never : ⊥ = omega (arith, below) in absurd never
     listed_below (suc n) i p below there = elim (cases_lt i (length sys.seeds)) [
       | inl seed ↦
-          let at = seed_index sys.seeds s canonical.seeds p (seed_from sys.seeds b legal.seeds i p seed there) in
+          let at = seed_index sys.seeds s canonical.begins.seeds p (seed_from sys.seeds b legal.seeds i p seed there) in
           IsLegal-tile_at sys s seeds_distinct canonical_IsLegal at.0 p at.2
       | inr later ↦
           let attaches = legal.each i p later there in
@@ -140,7 +123,7 @@ module _ (sys : TileSystem) (tiles s : List Place) (distinct : HasDistinctSites 
                 absurd (canonical.whole p (record { placed = placed; unlisted = unlisted; held = held }))
             | inr some ↦
                 let q = tile_at-place s p.site some.0 some.1 in
-                let one : q.1 ≡ p = same_place tiles q.1 p distinct (listed_placed q.0 q.1 q.2) placed q.3 in
+                let one : q.1 ≡ p = same_place tiles q.1 p distinct (listed_placed sys tiles s canonical.begins q.0 q.1 q.2) placed q.3 in
                 some.1 ∙ ap (λ u. Some u) (sym q.4 ∙ ap (λ r. r.tile) one)
           ]
     ]
@@ -178,3 +161,16 @@ canonical_same sys tiles s seeds_distinct distinct producible canonical =
       part = canonical_part sys tiles s distinct kinds seeds_distinct canonical;
       whole = (producible_exactly sys tiles s distinct kinds seeds_distinct canonical).0 producible;
     }
+
+-- and a sequence that leaves nothing over lists all
+pub listed_all : (sys : TileSystem) (tiles s : List Place) → HasDistinctSites tiles → IsCanonical sys tiles s → LeavesNothing tiles s → IsPartOf tiles s
+listed_all sys tiles s distinct canonical nothing p placed = elim (some_or_none (tile_at s p.site)) [
+  | inl empty ↦ absurd (nothing p (record { placed = placed; unlisted = λ listed. not_at_empty s p empty listed }))
+  | inr some ↦
+      let q : Place = record { site = p.site; tile = some.0 } in
+      let listed : Contains s q = tile_at-Contains s p.site some.0 some.1 in
+      subst (Contains s) (same_place tiles q p distinct (begun_part sys tiles s canonical.begins q listed) placed refl) listed
+]
+  where
+    not_at_empty : (s : List Place) (p : Place) → tile_at s p.site ≡ None → ¬ Contains s p
+    not_at_empty s p empty listed = All-contains (λ q. q.site ≢ p.site) s p (none_at s p.site empty) listed refl

@@ -1,22 +1,24 @@
 -- Each assembly with distinct sites that holds the seeds has a canonical sequence.
-use Rattle.std.proofs.Common.{◌≡◌, ◌⊎◌, ◌<◌, ◌≤◌, ◌+◌, ℕ, zero, suc, Bool, true, false, ◌&&◌, nat_le, List, [], ◌∷◌, ◌++◌, length, length-append, take, Some, None, slice_get, Contains, refl, sym, ◌∙◌, ap, subst, inl, inr, arith, true≢false}
+use Rattle.std.proofs.Common.{◌≡◌, ◌↔◌, All, ◌⊎◌, ◌<◌, ◌≤◌, ◌+◌, ℕ, zero, suc, Bool, true, false, ◌&&◌, nat_le, List, [], ◌∷◌, ◌++◌, length, length-append, Some, slice_get, Contains, refl, sym, ◌∙◌, ap, subst, inl, inr, arith, true≢false}
 use Rattle.std.specs.Option.{is_none}
-use Rattle.std.proofs.Math.Seq.{take-length}
 use Rattle.std.proofs.lemmas.Int.{ints, by_lt_z}
 use Rattle.std.proofs.lemmas.Bool.{cases_Bool}
 use Rattle.std.proofs.lemmas.Bool.Decides.{nat_tests}
-use Rattle.std.proofs.lemmas.Option.{same_Some, none-some, slice_get_within}
-use Rattle.std.proofs.lemmas.List.{take-append-le}
+use Rattle.std.proofs.lemmas.Option.{same_Some, none-some}
 use Rattle.atam.specs.declared.site.Site.{Site}
 use Rattle.atam.specs.declared.place.Place.{Place}
 use Rattle.atam.specs.Sites.{IsBefore}
 use Rattle.atam.specs.Placements.{HasDistinctSites, IsPartOf, tile_at}
 use Rattle.atam.specs.TileSystem.{TileSystem}
 use Rattle.atam.specs.Assembly.{pull}
-use Rattle.atam.specs.Canonical.{IsReady, IsCanonical}
-use Rattle.atam.proofs.Lists.{some_or_none, push_cases, seed_index, seeds_within, slice_get-Contains, Contains-slice_get, Contains-push}
-use Rattle.atam.proofs.Placements.{Contains-tile_at, tile_at-Contains, same_place, HasDistinctSites-push}
+use Rattle.atam.specs.Canonical.{IsReady, BeginsCanonical, IsCanonical, LeavesNothing}
+use Rattle.atam.proofs.Lists.{some_or_none, slice_get-Contains, Contains-slice_get}
+use Rattle.atam.proofs.Placements.{Contains-tile_at}
 use Rattle.atam.proofs.Count.{count_in_part}
+use Rattle.atam.proofs.Beginnings.{begun_seeds, begun_part, begun_push, begun_distinct, unlisted_empty}
+use Rattle.atam.proofs.Canon.{producible_seeded, producible_exactly, canonical_same, listed_all}
+use Rattle.atam.specs.TileSystem.{IsType}
+use Rattle.atam.specs.Growth.{IsProducible}
 
 -- one site is before another, or it isn't
 pub before_or_not : (a b : Site) → IsBefore a b ⊎ (¬ IsBefore a b)
@@ -120,34 +122,16 @@ least_passing test (x ∷ xs) = elim (cases_Bool (test x)) [
   ]
 ]
 
-module _ (sys : TileSystem) (tiles : List Place) (distinct : HasDistinctSites tiles) where
-  -- a canonical sequence as far as it has come
-  record IsBegun (s : List Place) : Type 0 where
-    seeds : take (length sys.seeds) s ≡ sys.seeds
-    part : IsPartOf s tiles
-    distinct_sites : HasDistinctSites s
-    ready : (i : ℕ) (p : Place) → length sys.seeds ≤ i → slice_get s i ≡ Some p → IsReady sys tiles (take i s) p
-    least : (i : ℕ) (p q : Place) → length sys.seeds ≤ i → slice_get s i ≡ Some p → IsReady sys tiles (take i s) q → ¬ IsBefore q.site p.site
-
-  module _ (s : List Place) (begun : IsBegun s) where
+module _ (sys : TileSystem) (tiles : List Place) (distinct : HasDistinctSites tiles) (seeds_distinct : HasDistinctSites sys.seeds) where
+  module _ (s : List Place) (begun : BeginsCanonical sys tiles s) where
     is_ready : Place → Bool
     is_ready p = is_none (tile_at s p.site) && nat_le sys.tau (pull sys s p.site p.tile)
-
-    -- the site of a place that isn't listed is empty
-    unlisted_empty : (p : Place) → Contains tiles p → ¬ Contains s p → tile_at s p.site ≡ None
-    unlisted_empty p placed unlisted = elim (some_or_none (tile_at s p.site)) [
-      | inl empty ↦ empty
-      | inr some ↦
-          let q : Place = record { site = p.site; tile = some.0 } in
-          let listed : Contains s q = tile_at-Contains s p.site some.0 some.1 in
-          absurd (unlisted (subst (Contains s) (same_place tiles q p distinct (begun.part q listed) placed refl) listed))
-    ]
 
     ready_passes : (p : Place) → IsReady sys tiles s p → is_ready p ≡ true
     unfolding is_ready
     ready_passes p ready =
         let held : nat_le sys.tau (pull sys s p.site p.tile) ≡ true = grind (arith, nat_tests, ready.held) in
-        rw (unlisted_empty p ready.placed ready.unlisted, held) refl
+        rw (unlisted_empty sys tiles s begun distinct p ready.placed ready.unlisted, held) refl
 
     passes_ready : (p : Place) → Contains tiles p → is_ready p ≡ true → IsReady sys tiles s p
     unfolding is_ready
@@ -157,50 +141,33 @@ module _ (sys : TileSystem) (tiles : List Place) (distinct : HasDistinctSites ti
           let test : nat_le sys.tau (pull sys s p.site p.tile) ≡ true = rw empty at passes in
           record {
             placed = placed;
-            unlisted = λ listed. none-some p.tile (sym empty ∙ Contains-tile_at s p begun.distinct_sites listed);
+            unlisted = λ listed. none-some p.tile (sym empty ∙ Contains-tile_at s p (begun_distinct sys tiles s begun distinct seeds_distinct) listed);
             held = grind (arith, nat_tests, test);
           }
     ]
 
     -- the ready place with the least site follows
-    one_more : (p : Place) → IsLeastPassing is_ready tiles p → IsBegun (s ++ p ∷ [])
+    one_more : (p : Place) → IsLeastPassing is_ready tiles p → BeginsCanonical sys tiles (s ++ p ∷ [])
     one_more p next =
-        let ready_p = passes_ready p next.there next.passes in
-        record {
-          seeds = take-append-le (length sys.seeds) s (p ∷ []) (seeds_within sys.seeds s begun.seeds) ∙ begun.seeds;
-          part = λ q contains. elim (Contains-push s p q contains) [ inl old ↦ begun.part q old | inr new ↦ subst (Contains tiles) new next.there ];
-          distinct_sites = HasDistinctSites-push s p begun.distinct_sites (unlisted_empty p next.there ready_p.unlisted);
-          ready = λ i q later there. elim (push_cases s p i q there) [
-            | inl old ↦ subst (λ l. IsReady sys tiles l q) (sym old.1) (begun.ready i q later old.0)
-            | inr new ↦ subst (λ l. IsReady sys tiles l q) (sym new.1) (subst (IsReady sys tiles s) new.0 ready_p)
-          ];
-          least = λ i q r later there ready_r. elim (push_cases s p i q there) [
-            | inl old ↦ begun.least i q r later old.0 (subst (λ l. IsReady sys tiles l r) old.1 ready_r)
-            | inr new ↦
-                let ready_s : IsReady sys tiles s r = subst (λ l. IsReady sys tiles l r) new.1 ready_r in
-                subst (λ q. ¬ IsBefore r.site q.site) new.0 (next.least r ready_s.placed (ready_passes r ready_s))
-          ];
-        }
+        begun_push sys tiles s begun p (passes_ready p next.there next.passes)
+        (λ r ready_r. next.least r ready_r.placed (ready_passes r ready_r))
 
   -- none is ready, or one follows
-  next_step : (s : List Place) → IsBegun s → IsCanonical sys tiles s ⊎ ((d : List Place) × IsBegun d × (length d ≡ length s + 1))
+  next_step : (s : List Place) → BeginsCanonical sys tiles s → IsCanonical sys tiles s ⊎ ((d : List Place) × BeginsCanonical sys tiles d × (length d ≡ length s + 1))
   next_step s begun = elim (least_passing (is_ready s begun) tiles) [
     | inl none ↦ inl (record {
-      seeded = λ p seed. let at = seed_index sys.seeds s begun.seeds p seed in begun.part p (slice_get-Contains s at.0 p at.2);
-      seeds = begun.seeds;
-      ready = begun.ready;
-      least = begun.least;
+      begins = begun;
       whole = λ q ready. true≢false (sym (ready_passes s begun q ready) ∙ none q ready.placed);
     })
     | inr next ↦ inr (s ++ next.0 ∷ [], one_more s begun next.0 next.1, simp length-append (omega arith))
   ]
 
   -- places follow as long as there are any
-  completed : (fuel : ℕ) (s : List Place) → IsBegun s → length tiles ≤ fuel + length s → (c : List Place) × IsCanonical sys tiles c
+  completed : (fuel : ℕ) (s : List Place) → BeginsCanonical sys tiles s → length tiles ≤ fuel + length s → (c : List Place) × IsCanonical sys tiles c
   completed zero s begun enough = elim (next_step s begun) [
     | inl whole ↦ (s, whole)
     | inr next ↦
-        let few = count_in_part next.0 tiles next.1.distinct_sites distinct next.1.part in
+        let few = count_in_part next.0 tiles (begun_distinct sys tiles next.0 next.1 distinct seeds_distinct) distinct (begun_part sys tiles next.0 next.1) in
         let never : ⊥ = omega (arith, enough, next.2, few) in
         absurd never
   ]
@@ -209,17 +176,18 @@ module _ (sys : TileSystem) (tiles : List Place) (distinct : HasDistinctSites ti
     | inr next ↦ completed less next.0 next.1 (omega (arith, enough, next.2))
   ]
 
-  pub canonical_exists : HasDistinctSites sys.seeds → IsPartOf sys.seeds tiles → (c : List Place) × IsCanonical sys tiles c
-  canonical_exists seeds_distinct seeded =
-      let never : (i : ℕ) (p : Place) → length sys.seeds ≤ i → slice_get sys.seeds i ≡ Some p → ⊥ = λ i p later there.
-      let within = slice_get_within sys.seeds i p there in
-      let no : ⊥ = omega (arith, later, within) in
-      no
-      in
-      completed (length tiles) sys.seeds (record {
-        seeds = take-length sys.seeds;
-        part = seeded;
-        distinct_sites = seeds_distinct;
-        ready = λ i p later there. absurd (never i p later there);
-        least = λ i p q later there ready. absurd (never i p later there);
-      }) (omega arith)
+  pub canonical_exists : IsPartOf sys.seeds tiles → (c : List Place) × IsCanonical sys tiles c
+  canonical_exists seeded = completed (length tiles) sys.seeds (begun_seeds sys tiles seeded) (omega arith)
+
+-- so tiles of the system are producible exactly where they hold the seeds and their canonical sequence leaves nothing over
+pub producible_where_nothing_left : (sys : TileSystem) (tiles : List Place) → HasDistinctSites sys.seeds → HasDistinctSites tiles → All (λ p. IsType sys p.tile) tiles →
+    IsProducible sys tiles ↔ (IsPartOf sys.seeds tiles × ((s : List Place) → IsCanonical sys tiles s → LeavesNothing tiles s))
+producible_where_nothing_left sys tiles seeds_distinct distinct kinds = (
+  λ producible. (
+    producible_seeded sys tiles seeds_distinct producible,
+    λ s canonical p left. left.unlisted ((canonical_same sys tiles s seeds_distinct distinct producible canonical).whole p left.placed),
+  ),
+  λ both.
+      let some = canonical_exists sys tiles distinct seeds_distinct both.0 in
+      (producible_exactly sys tiles some.0 distinct kinds seeds_distinct some.1).1 (listed_all sys tiles some.0 distinct some.1 (both.1 some.0 some.1)),
+)

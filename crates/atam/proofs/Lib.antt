@@ -2,9 +2,12 @@ pub mod Lists
 pub mod Boxes
 pub mod Placements
 pub mod Systems
+pub mod Tiles
 pub mod Bonds
+pub mod Opening
 pub mod Sequences
 pub mod Closure
+pub mod Beginnings
 pub mod Canon
 pub mod Count
 pub mod Existence

@@ -1,13 +1,13 @@
 -- Laws of the model, over every system and all lists of placements.
-use Rattle.std.specs.Prelude.{◌≡◌, ◌≤◌, List, Option, None, Contains}
+use Rattle.std.specs.Prelude.{◌≡◌, ◌≤◌, ◌↔◌, List, Option, None, All, Contains}
 use Rattle.atam.specs.declared.site.Site.{Site}
 use Rattle.atam.specs.declared.place.TypeId.{TypeId}
 use Rattle.atam.specs.declared.place.Place.{Place}
-use Rattle.atam.specs.TileSystem.{TileSystem}
+use Rattle.atam.specs.TileSystem.{TileSystem, IsType}
 use Rattle.atam.specs.Placements.{HasDistinctSites, IsPartOf, SamePlacements, tile_at}
 use Rattle.atam.specs.Assembly.{pull, Attaches}
-use Rattle.atam.specs.Growth.{IsProducible, IsLeastOpen, IsLeastOpenOutside}
-use Rattle.atam.specs.Canonical.{IsCanonical}
+use Rattle.atam.specs.Growth.{IsLegal, IsProducible, IsLeastOpen, IsLeastOpenOutside}
+use Rattle.atam.specs.Canonical.{IsCanonical, LeavesNothing}
 
 -- pulls never fall as tiles are added
 abbrev pub PullsNeverFall : Type 0
@@ -35,6 +35,17 @@ HasCanonicalSequence = (sys : TileSystem) (tiles : List Place) → HasDistinctSi
 abbrev pub HasOneCanonicalSequence : Type 0
 HasOneCanonicalSequence = (sys : TileSystem) (tiles s t : List Place) → HasDistinctSites tiles →
     IsCanonical sys tiles s → IsCanonical sys tiles t → s ≡ t
+
+-- that of a producible assembly is legal, and has exactly the assembly's placements
+abbrev pub ProducesInCanonicalOrder : Type 0
+ProducesInCanonicalOrder = (sys : TileSystem) (tiles s : List Place) → HasDistinctSites sys.seeds → HasDistinctSites tiles →
+    IsProducible sys tiles → IsCanonical sys tiles s → IsLegal sys s × SamePlacements s tiles
+
+-- and tiles of the system are producible exactly where they hold the seeds and their canonical sequence leaves nothing over
+abbrev pub IsProducibleWhereNothingIsLeft : Type 0
+IsProducibleWhereNothingIsLeft = (sys : TileSystem) (tiles : List Place) → HasDistinctSites sys.seeds → HasDistinctSites tiles →
+    All (λ p. IsType sys p.tile) tiles →
+    IsProducible sys tiles ↔ (IsPartOf sys.seeds tiles × ((s : List Place) → IsCanonical sys tiles s → LeavesNothing tiles s))
 
 -- there is one least open site, or none, over the plane and over the sites outside the box
 abbrev pub HasOneLeastOpenSite : Type 0

@@ -2,6 +2,7 @@
 use Rattle.std.specs.Prelude.{◌≡◌, ◌≢◌, ℕ, ◌<◌, ◌≤◌, Bool, IsTrue, false, ◌&&◌, ◌||◌, nat_le, ◌==◌, if◌then◌else◌, List, [], length, slice_get, Option, IfSome, All, AllPairs, option_and_then, option_map, find}
 use Rattle.std.specs.List.{list_all}
 use Rattle.std.specs.Option.{option_map_or, unwrap_or}
+use Rattle.atam.specs.declared.limits.TheConstants.{MOST_GLUES, MOST_PAIRS, MOST_TYPES, MOST_SEEDS, MOST_STRENGTH, MOST_TAU, LONGEST_NAME}
 use Rattle.atam.specs.declared.site.Side.{Side}
 use Rattle.atam.specs.declared.site.Side.TheVariants.{North, East, South, West}
 use Rattle.atam.specs.declared.place.GlueId.{GlueId}
@@ -76,9 +77,9 @@ glue_name sys g = option_map_or (λ h. h.name) (slice_get sys.glues g.0) []
 abbrev pub is_name_byte : ℕ → Bool
 is_name_byte b = (nat_le 65 b && nat_le b 90) || (nat_le 97 b && nat_le b 122) || (nat_le 48 b && nat_le b 57) || b == 95 || b == 58 || b == 46
 
--- 1 to 40 of these bytes
+-- some of these bytes, and not too many
 unfoldable pub is_name : List ℕ → Bool
-is_name name = nat_le 1 (length name) && nat_le (length name) 40 && list_all is_name_byte name
+is_name name = nat_le 1 (length name) && nat_le (length name) LONGEST_NAME && list_all is_name_byte name
 
 abbrev pub IsName : List ℕ → Type 0
 IsName name = IsTrue (is_name name)
@@ -88,27 +89,27 @@ pub record IsPair (sys : TileSystem) (p : GluePair) : Type 0 where
   pub first : p.first.0 < length sys.glues
   pub second : p.second.0 < length sys.glues
   pub unlike : p.first.0 ≢ p.second.0
-  pub strength : p.strength ≤ 250
+  pub strength : p.strength ≤ MOST_STRENGTH
 
 -- names are distinct in each list, indices are in range, and each limit holds
 pub record IsValid (sys : TileSystem) : Type 0 where
-  pub glue_count : length sys.glues ≤ 8192
+  pub glue_count : length sys.glues ≤ MOST_GLUES
   pub glue_names : All (λ g. IsName g.name) sys.glues
   pub distinct_glues : AllPairs (λ g h. g.name ≢ h.name) sys.glues
-  pub strengths : All (λ g. g.strength ≤ 250) sys.glues
-  pub pair_count : length sys.pairs ≤ 65536
+  pub strengths : All (λ g. g.strength ≤ MOST_STRENGTH) sys.glues
+  pub pair_count : length sys.pairs ≤ MOST_PAIRS
   pub pairs : All (IsPair sys) sys.pairs
   pub distinct_pairs : AllPairs (λ p q. is_pair_of q p.first p.second ≡ false) sys.pairs
   pub some_type : 1 ≤ length sys.types
-  pub type_count : length sys.types ≤ 16384
+  pub type_count : length sys.types ≤ MOST_TYPES
   pub type_names : All (λ t. IsName t.name) sys.types
   pub distinct_types : AllPairs (λ t u. t.name ≢ u.name) sys.types
   pub sides : All (λ t. (d : Side) → IfSome (side_of t d) (λ g. g.0 < length sys.glues)) sys.types
   pub some_tau : 1 ≤ sys.tau
-  pub tau : sys.tau ≤ 1000
+  pub tau : sys.tau ≤ MOST_TAU
   pub box : IsBox sys.area
   pub some_seed : 1 ≤ length sys.seeds
-  pub seed_count : length sys.seeds ≤ 4096
+  pub seed_count : length sys.seeds ≤ MOST_SEEDS
   pub seed_types : All (λ p. IsType sys p.tile) sys.seeds
   pub seed_sites : All (λ p. InBox sys.area p.site) sys.seeds
   pub distinct_seeds : HasDistinctSites sys.seeds

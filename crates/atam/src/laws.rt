@@ -1,5 +1,5 @@
 // Laws of the model, each as the contract of a function that does nothing.
-ghost use Rattle.atam.specs.Laws.{PullsNeverFall, AttachmentLasts, ClosedPartIsWhole, HasCanonicalSequence, HasOneCanonicalSequence, HasOneLeastOpenSite, HasOneLeastOpenSiteOutside};
+ghost use Rattle.atam.specs.Laws.{PullsNeverFall, AttachmentLasts, ClosedPartIsWhole, HasCanonicalSequence, HasOneCanonicalSequence, ProducesInCanonicalOrder, IsProducibleWhereNothingIsLeft, HasOneLeastOpenSite, HasOneLeastOpenSiteOutside};
 
 /// Attachment is monotone.
 pub fn law_monotone()
@@ -12,10 +12,13 @@ pub fn law_closure()
     ensures { ClosedPartIsWhole }
 {}
 
-/// Each assembly that holds the seeds has exactly one canonical sequence.
+/// Each assembly that holds the seeds has exactly one canonical sequence, and is producible exactly
+/// where this lists all of it.
 pub fn law_canonical()
     ensures exists { HasCanonicalSequence }
     ensures unique { HasOneCanonicalSequence }
+    ensures legal { ProducesInCanonicalOrder }
+    ensures producible { IsProducibleWhereNothingIsLeft }
 {}
 
 /// The least open site is unique.

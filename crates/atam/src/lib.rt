@@ -4,10 +4,15 @@
 
 mod area;
 mod laws;
+mod limits;
 mod place;
 mod site;
 
 pub use area::BoxArea;
 pub use laws::{law_canonical, law_closure, law_least_open, law_monotone};
+pub use limits::{
+    GREATEST_CORNER, LEAST_CORNER, LONGEST_NAME, LONGEST_SIDE, MOST_GLUES, MOST_PAIRS, MOST_SEEDS,
+    MOST_STRENGTH, MOST_TAU, MOST_TYPES,
+};
 pub use place::{GlueId, GluePair, Place, TypeId};
 pub use site::{Side, Site};

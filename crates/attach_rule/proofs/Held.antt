@@ -13,29 +13,29 @@ use Rattle.atam.specs.Assembly.{interaction, bond, pull}
 use Rattle.atam.specs.Growth.{IsCandidate}
 use Rattle.atam.proofs.Bonds.{interaction-none}
 use Rattle.attach_rule.specs.declared.facing.FacingGlues.{FacingGlues}
-use Rattle.attach_rule.specs.Facing.{AreNone, FacesSite, strength_of_hold}
+use Rattle.attach_rule.specs.Facing.{AreNone, FacesSite, facing_pull}
 
-pub strength_of_hold-pull : (sys : TileSystem) (tiles : List Place) (m : Site) (glues : FacingGlues) (t : TypeId) → FacesSite sys tiles m glues →
-    strength_of_hold sys glues t ≡ pull sys tiles m t
+pub facing_pull-pull : (sys : TileSystem) (tiles : List Place) (m : Site) (glues : FacingGlues) (t : TypeId) → FacesSite sys tiles m glues →
+    facing_pull sys glues t ≡ pull sys tiles m t
 unfolding pull bond
-strength_of_hold-pull sys tiles m glues t faces =
+facing_pull-pull sys tiles m glues t faces =
     λ k. interaction sys (side_glue sys t North) (faces.north k) + interaction sys (side_glue sys t East) (faces.east k)
     + interaction sys (side_glue sys t South) (faces.south k) + interaction sys (side_glue sys t West) (faces.west k)
 
-module _ (sys : TileSystem) (tiles : List Place) (m : Site) (glues : FacingGlues) (faces : FacesSite sys tiles m glues) (t : TypeId) (strength : ℕ) (is : strength ≡ strength_of_hold sys glues t) where
+module _ (sys : TileSystem) (tiles : List Place) (m : Site) (glues : FacingGlues) (faces : FacesSite sys tiles m glues) (t : TypeId) (strength : ℕ) (is : strength ≡ facing_pull sys glues t) where
   -- so a type that they hold attaches where the site is empty
   pub grows_held : IsType sys t → tile_at tiles m ≡ None → sys.tau ≤ strength → IsCandidate sys tiles m t
   grows_held kind empty held =
       let Held : ℕ → Type 0 = λ n. sys.tau ≤ n in
       record {
         kind = kind;
-        attaches = record { empty = empty; held = subst Held (strength_of_hold-pull sys tiles m glues t faces) (subst Held is held) };
+        attaches = record { empty = empty; held = subst Held (facing_pull-pull sys tiles m glues t faces) (subst Held is held) };
       }
 
   -- and one that they don't hold doesn't
   pub fails_unheld : strength < sys.tau → ¬ IsCandidate sys tiles m t
   fails_unheld weak grows =
-      let same = strength_of_hold-pull sys tiles m glues t faces in
+      let same = facing_pull-pull sys tiles m glues t faces in
       let never : ⊥ = omega (arith, weak, grows.attaches.held, same, is) in
       never
 
@@ -50,7 +50,7 @@ none_unfaced sys tiles m glues faces none some_tau t grows =
       arith,
       some_tau,
       grows.attaches.held,
-      strength_of_hold-pull sys tiles m glues t faces,
+      facing_pull-pull sys tiles m glues t faces,
       at North glues.north none.north,
       at East glues.east none.east,
       at South glues.south none.south,

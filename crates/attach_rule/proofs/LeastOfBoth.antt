@@ -8,7 +8,7 @@ use Rattle.atam.specs.TileSystem.{TileSystem}
 use Rattle.atam.specs.Growth.{IsLeastOpen, IsLeastOpenAmong, IsLeastOpenOutside}
 use Rattle.atam.proofs.Canon.{same_or_before}
 use Rattle.atam.proofs.Existence.{before_or_not, before_trans}
-use Rattle.attach_rule.specs.OpenSites.{Precedes}
+use Rattle.attach_rule.specs.Inner.OpenSites.{Precedes}
 
 module _ (sys : TileSystem) (tiles : List Place) where
   pub least_outside : (f g : Option (Site × TypeId)) → IsLeastOpenAmong sys tiles (InBox sys.area) f → IsLeastOpenOutside sys tiles g → Precedes g f → IsLeastOpen sys tiles g

@@ -15,7 +15,7 @@ use Rattle.atam.specs.Growth.{IsCandidate, IsLeastOpenAmong, IsLeastOpenOutside}
 use Rattle.atam.proofs.Lists.{All-slice_get}
 use Rattle.atam.proofs.Bonds.{beside_a_tile}
 use Rattle.atam.proofs.Placements.{tile_at-place}
-use Rattle.attach_rule.specs.Searches.{row_at, IsAtEnds}
+use Rattle.attach_rule.specs.Inner.Searches.{row_at, IsAtEnds}
 use Rattle.attach_rule.proofs.Searched.{less_or_not, none_in_parts, least_in_parts, last_part}
 
 -- a site that isn't in the box, beside one that is

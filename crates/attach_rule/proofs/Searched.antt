@@ -9,7 +9,7 @@ use Rattle.atam.specs.Sites.{IsBefore, InBox}
 use Rattle.atam.specs.TileSystem.{TileSystem}
 use Rattle.atam.specs.Growth.{IsCandidate, IsLeastOpenAmong}
 use Rattle.atam.proofs.Boxes.{same_coordinates}
-use Rattle.attach_rule.specs.Searches.{row_at, IsAtEnds}
+use Rattle.attach_rule.specs.Inner.Searches.{row_at, IsAtEnds}
 
 not_both : (m n : Site) → IsBefore m n → ¬ IsBefore n m
 not_both m n (inl less) (inl more) = omega (arith, ints, less, more)

@@ -23,8 +23,8 @@ pub record AreNone (glues : FacingGlues) : Type 0 where
   pub south : glues.south ≡ None
   pub west : glues.west ≡ None
 
--- the strength with which a tile of the type is held by these glues
-abbrev pub strength_of_hold : TileSystem → FacingGlues → TypeId → ℕ
-strength_of_hold sys glues t =
+-- the pull on a type at a site that these glues face
+abbrev pub facing_pull : TileSystem → FacingGlues → TypeId → ℕ
+facing_pull sys glues t =
     interaction sys (side_glue sys t North) glues.north + interaction sys (side_glue sys t East) glues.east
     + interaction sys (side_glue sys t South) glues.south + interaction sys (side_glue sys t West) glues.west

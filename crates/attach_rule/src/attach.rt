@@ -1,19 +1,20 @@
 // Pull and attachment over any assembly.
-ghost use Rattle.std.specs.Prelude.{◌≡◌, ◌≤◌, ◌≤ℤ◌, ◌↔◌, ◌<◌, IsTrue, IfSome, length};
+ghost use Rattle.std.specs.Prelude.{◌≡◌, ◌≤◌, ◌*◌, ◌↔◌, ◌<◌, IsTrue, IfSome, length};
+ghost use Rattle.atam.specs.declared.limits.TheConstants.{MOST_STRENGTH};
 ghost use Rattle.atam.specs.TileSystem.{IsType};
 ghost use Rattle.atam.specs.Sites.{IsNearSite};
 ghost use Rattle.atam.specs.Assembly.{Attaches, Fits};
 ghost use Rattle.atam.specs.Assembly as model;
 ghost use Rattle.attach_rule.specs.Searches.{IsFirstType};
 
-use crate::facing::{glues_facing, hold};
+use crate::facing::{facing_pull, glues_facing};
 use tile_system::{GlueId, Placed, Side, Site, System, TypeId};
 
 // The strength with which two sides interact.
 pub(crate) fn interaction(sys: &System, own: Option<GlueId>, other: Option<GlueId>) -> u32
     requires { IfSome own (λ g. g.0 < length sys.now.glues) }
     ensures value { result ≡ model.interaction sys.now own other }
-    ensures bound { result ≤ 250 }
+    ensures bound { result ≤ MOST_STRENGTH }
 {
     match (own, other) {
         (Some(glue), Some(beside)) => sys.between(glue, beside),
@@ -37,7 +38,7 @@ pub fn bond<P: Placed>(sys: &System, placed: &P, site: Site, tile: TypeId, side:
     requires near { IsNearSite site }
     requires fits { Fits sys.now (P.placements placed.now) }
     ensures value { result ≡ model.bond sys.now (P.placements placed.now) site tile side }
-    ensures bound { result ≤ 250 }
+    ensures bound { result ≤ MOST_STRENGTH }
 {
     let own = sys.side(tile, side);
     let other = glue_at(sys, placed, site.step(side), side.opposite());
@@ -51,7 +52,7 @@ pub fn pull<P: Placed>(sys: &System, placed: &P, site: Site, tile: TypeId) -> u3
     requires near { IsNearSite site }
     requires fits { Fits sys.now (P.placements placed.now) }
     ensures value { result ≡ model.pull sys.now (P.placements placed.now) site tile }
-    ensures bound { result ≤ 1000 }
+    ensures bound { result ≤ 4 * MOST_STRENGTH }
 {
     bond(sys, placed, site, tile, Side::North)
         + bond(sys, placed, site, tile, Side::East)
@@ -84,7 +85,7 @@ pub fn first_type<P: Placed>(sys: &System, placed: &P, site: Site) -> Option<Typ
         return None;
     }
     for index in 0..sys.type_count() {
-        if hold(sys, &glues, TypeId(index)) >= tau {
+        if facing_pull(sys, &glues, TypeId(index)) >= tau {
             return Some(TypeId(index));
         }
     }

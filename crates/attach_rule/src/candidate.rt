@@ -5,7 +5,7 @@ ghost use Rattle.atam.specs.Assembly.{Fits};
 ghost use Rattle.attach_rule.specs.Candidates.{AreCandidates};
 
 use crate::TypeList;
-use crate::facing::{glues_facing, hold};
+use crate::facing::{facing_pull, glues_facing};
 use tile_system::{Placed, Site, System, TypeId};
 
 /// Lists all types that attach at the site. It takes no memory, and tries no type where no glue
@@ -27,7 +27,7 @@ pub fn candidates<P: Placed>(sys: &System, placed: &P, site: Site, into: &mut Ty
         return;
     }
     for index in 0..sys.type_count() {
-        if hold(sys, &glues, TypeId(index)) >= tau {
+        if facing_pull(sys, &glues, TypeId(index)) >= tau {
             into.push(TypeId(index));
         }
     }

@@ -3,7 +3,7 @@ ghost use Rattle.std.specs.Prelude.{◌≡◌, ◌≤ℤ◌, ◌+ℤ◌, ◌-ℤ
 ghost use Rattle.atam.specs.Sites.{IsNearSite, HasCorners, InBox};
 ghost use Rattle.atam.specs.Assembly.{Fits};
 ghost use Rattle.atam.specs.Growth.{IsClosedInBox, IsLeastOpenAmong};
-ghost use Rattle.attach_rule.specs.Searches.{row_at};
+ghost use Rattle.attach_rule.specs.Inner.Searches.{row_at};
 
 use crate::first_type;
 use tile_system::{BoxArea, Placed, Site, System, TypeId};

@@ -11,10 +11,8 @@ mod type_list;
 
 pub use attach::{bond, can_attach, first_type, pull};
 pub use candidate::candidates;
+pub use facing::{FacingGlues, facing_pull, glues_facing};
 pub use inside::{closed_in_box, least_open_inside};
 pub use outside::least_open_outside;
 pub use plane::least_open;
 pub use type_list::TypeList;
-
-#[cfg(test)]
-mod tests;

@@ -3,7 +3,7 @@ ghost use Rattle.std.specs.Prelude.{◌≤ℤ◌};
 ghost use Rattle.atam.specs.Sites.{HasCorners};
 ghost use Rattle.atam.specs.Assembly.{Fits};
 ghost use Rattle.atam.specs.Growth.{IsLeastOpenAmong, IsLeastOpenOutside};
-ghost use Rattle.attach_rule.specs.Searches.{row_at, IsAtEnds};
+ghost use Rattle.attach_rule.specs.Inner.Searches.{row_at, IsAtEnds};
 
 use crate::inside::{least_in_row, open_at};
 use tile_system::{BoxArea, Placed, Site, System, TypeId};

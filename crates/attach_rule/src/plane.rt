@@ -2,7 +2,7 @@
 ghost use Rattle.std.specs.Prelude.{◌↔◌, IsTrue};
 ghost use Rattle.atam.specs.Assembly.{Fits};
 ghost use Rattle.atam.specs.Growth.{IsLeastOpen};
-ghost use Rattle.attach_rule.specs.OpenSites.{Precedes};
+ghost use Rattle.attach_rule.specs.Inner.OpenSites.{Precedes};
 
 use crate::{least_open_inside, least_open_outside};
 use tile_system::{Placed, Site, System, TypeId};

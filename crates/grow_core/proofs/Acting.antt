@@ -13,7 +13,7 @@ use Rattle.atam.specs.Assembly.{Fits}
 use Rattle.atam.proofs.Count.{count_in_box}
 use Rattle.atam.proofs.Placements.{Extends, Extends-IsPartOf, HasDistinctSites-push, tile_at-Contains, empty_in_part}
 use Rattle.assembly.specs.Cells.{cell_count}
-use Rattle.assembly.proofs.Opening.{Fits-part}
+use Rattle.atam.proofs.Opening.{Fits-part}
 use Rattle.grow_core.specs.declared.placed_tile.PlacedTile.{PlacedTile}
 use Rattle.grow_core.specs.declared.event.Event.TheVariants.{Look, Claim}
 use Rattle.grow_core.specs.declared.event.Seen.TheVariants.{Saw, Won, Held}

@@ -10,7 +10,7 @@ use Rattle.atam.specs.Placements.{SamePlacements, HasDistinctSites, tile_at}
 use Rattle.atam.specs.Assembly.{pull}
 use Rattle.atam.proofs.Bonds.{pull-mono}
 use Rattle.atam.proofs.Placements.{same_tiles}
-use Rattle.assembly.proofs.Tiles.{SamePlacements-trans}
+use Rattle.atam.proofs.Tiles.{SamePlacements-trans}
 use Rattle.grow_core.specs.declared.placed_tile.PlacedTile.{PlacedTile}
 use Rattle.grow_core.specs.declared.event.Event.{Event}
 use Rattle.grow_core.specs.declared.event.Event.TheVariants.{Look, Claim, Split, Join}

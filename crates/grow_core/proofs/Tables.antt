@@ -18,7 +18,7 @@ use Rattle.atam.proofs.Placements.{HasDistinctSites-push, tile_at-Contains, dist
 use Rattle.assembly.specs.Cells.{cell_count, site_at}
 use Rattle.assembly.specs.Grids.{TileGrid}
 use Rattle.assembly.proofs.Cells.{site_at-injective}
-use Rattle.assembly.proofs.Tiles.{SameTiles-put}
+use Rattle.atam.proofs.Tiles.{SameTiles-put}
 use Rattle.grow_core.specs.declared.placed_tile.PlacedTile.{PlacedTile}
 use Rattle.grow_core.specs.Core.{places}
 use Rattle.grow_core.specs.Steps.{tile_of}

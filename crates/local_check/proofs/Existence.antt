@@ -8,12 +8,12 @@ use Rattle.atam.specs.declared.place.Place.{Place}
 use Rattle.atam.specs.TileSystem.{TileSystem}
 use Rattle.atam.specs.Assembly.{pull}
 use Rattle.atam.specs.Growth.{IsLegal, IsLeastOpenAmong}
-use Rattle.atam.specs.Determinism.{without_outputs, IsExact, IsRival}
+use Rattle.atam.specs.Determinism.{without_outputs, IsExact, IsRival, HasExactInputs, HasNoRivals}
 use Rattle.atam.proofs.Lists.{some_or_none}
 use Rattle.atam.proofs.Deciding.{least_number, grows_or_not, least_open_exists}
 use Rattle.local_check.specs.declared.verdict.Verdict.{Verdict}
 use Rattle.local_check.specs.declared.verdict.Verdict.TheVariants.{Yes, NotExact, Rival, NotTerminal}
-use Rattle.local_check.specs.Judgement.{AllExactBelow, NoRivalBelow, IsVerdict}
+use Rattle.local_check.specs.Judgement.{IsVerdict}
 
 module _ (sys : TileSystem) (s : List Place) where
   -- place i breaks condition 1
@@ -87,14 +87,14 @@ module _ (sys : TileSystem) (s : List Place) where
   ]
 
   -- once conditions 1 and 2 hold
-  by_terminal : IsLegal sys s → ((n : ℕ) → AllExactBelow sys s n) → ((n : ℕ) → NoRivalBelow sys s n) → (found : Option (Site × TypeId)) →
+  by_terminal : IsLegal sys s → HasExactInputs sys s → HasNoRivals sys s → (found : Option (Site × TypeId)) →
       IsLeastOpenAmong sys s (λ m. Unit {0}) found → (v : Verdict) × IsVerdict sys s v
   by_terminal legal exact no_rival None none = (
     Yes,
     record {
       legal = legal;
-      exact = λ i p later there. exact (suc i) i p later (omega arith) there;
-      no_rival = λ i p t later there. no_rival (suc i) i p t later (omega arith) there;
+      exact = exact;
+      no_rival = no_rival;
       terminal = λ m t. none m t tt;
     },
   )
@@ -117,7 +117,7 @@ module _ (sys : TileSystem) (s : List Place) where
           },
         )
     | inl all_exact ↦
-        let exact : (n : ℕ) → AllExactBelow sys s n = λ n i p later below there. exact_from i p (all_exact i (slice_get_within s i p there)) later there in
+        let exact : HasExactInputs sys s = λ i p later there. exact_from i p (all_exact i (slice_get_within s i p there)) later there in
         elim (least_number IsRivaledAt rivaled_or_not (length s)) [
           | inr found ↦
               let h = found.2 in (
@@ -136,7 +136,7 @@ module _ (sys : TileSystem) (s : List Place) where
                 ),
               )
           | inl no_rivals ↦
-              let no_rival : (n : ℕ) → NoRivalBelow sys s n = λ n i p t later below there. no_rival_from i p t (no_rivals i (slice_get_within s i p there)) later there in
+              let no_rival : HasNoRivals sys s = λ i p t later there. no_rival_from i p t (no_rivals i (slice_get_within s i p there)) later there in
               let open_site = least_open_exists sys s some_tau (λ m. Unit {0}) (λ m. inl tt) in
               by_terminal legal exact no_rival open_site.0 open_site.1
         ]

@@ -15,20 +15,20 @@ use Rattle.atam.specs.Sites.{neighbor, directions, same_site}
 use Rattle.atam.specs.Placements.{HasDistinctSites, SamePlacements, tile_at}
 use Rattle.atam.specs.TileSystem.{TileSystem, IsType}
 use Rattle.atam.specs.Assembly.{bond, pull}
-use Rattle.atam.specs.Growth.{IsLegal, IsCandidate, IsLeastOpen}
-use Rattle.atam.specs.Determinism.{is_input, is_output, without_outputs, IsExact, IsRival}
+use Rattle.atam.specs.Growth.{IsLegal, IsCandidate}
+use Rattle.atam.specs.Determinism.{is_input, is_output, without_outputs, IsExact, IsRival, HasExactInputs, HasNoRivals}
 use Rattle.atam.proofs.Boxes.{same_site_tells, same_site-refl}
 use Rattle.atam.proofs.Lists.{some_or_none}
 use Rattle.atam.proofs.Bonds.{bond_is, bond-none}
 use Rattle.atam.proofs.Placements.{Extends, Extends-take, tile_at-filter, tile_at-filtered}
 use Rattle.atam.proofs.Sequences.{IsLegal-distinct}
 use Rattle.atam.proofs.Confluence.{is_input-later}
-use Rattle.assembly.proofs.Opening.{bond-beside, IsCandidate-same}
-use Rattle.assembly.proofs.Tiles.{SameTiles}
+use Rattle.atam.proofs.Opening.{bond-beside}
+use Rattle.atam.proofs.Tiles.{SameTiles, SameTiles-from}
 use Rattle.local_check.specs.declared.side_set.SideSet.{SideSet}
-use Rattle.local_check.specs.SideSets.{has, bond_if, pull_on}
+use Rattle.local_check.specs.SideSets.{has}
+use Rattle.local_check.specs.Inner.Sides.{bond_if, pull_on}
 use Rattle.local_check.specs.Judgement.{AllExactBelow, NoRivalBelow}
-use Rattle.local_check.proofs.Sites.{SameTiles-from}
 use Rattle.local_check.proofs.Sides.{apart}
 
 -- the test of two neighbours of a site
@@ -227,20 +227,8 @@ module _ (sys : TileSystem) (s : List Place) (n : ℕ) (p : Place) (there : slic
         last t (subst (λ r. IsRival sys s n r t) same at_n)
   ]
 
-pub exact_all : (sys : TileSystem) (s : List Place) → AllExactBelow sys s (length s) → (n : ℕ) → AllExactBelow sys s n
-exact_all sys s all n i p later below there = all i p later (slice_get_within s i p there) there
+pub exact_all : (sys : TileSystem) (s : List Place) → AllExactBelow sys s (length s) → HasExactInputs sys s
+exact_all sys s all i p later there = all i p later (slice_get_within s i p there) there
 
-pub no_rival_all : (sys : TileSystem) (s : List Place) → NoRivalBelow sys s (length s) → (n : ℕ) → NoRivalBelow sys s n
-no_rival_all sys s none n i p t later below there = none i p t later (slice_get_within s i p there) there
-
--- open sites are looked at by what stands at each site
-pub least_open_same : (sys : TileSystem) (a b : List Place) → SameTiles a b → (found : Option (Site × TypeId)) → IsLeastOpen sys a found → IsLeastOpen sys b found
-least_open_same sys a b same None none = λ m t _ grows. none m t tt (IsCandidate-same sys b a m t (λ n. sym (same n)) grows)
-least_open_same sys a b same (Some found) least =
-    let back : (m : Site) (t : TypeId) → IsCandidate sys b m t → IsCandidate sys a m t = λ m t grows. IsCandidate-same sys b a m t (λ n. sym (same n)) grows in
-    record {
-      among = tt;
-      grows = IsCandidate-same sys a b found.0 found.1 same least.grows;
-      least_site = λ n u _ grows. least.least_site n u tt (back n u grows);
-      least_type = λ u grows. least.least_type u (back found.0 u grows);
-    }
+pub no_rival_all : (sys : TileSystem) (s : List Place) → NoRivalBelow sys s (length s) → HasNoRivals sys s
+no_rival_all sys s none i p t later there = none i p t later (slice_get_within s i p there) there

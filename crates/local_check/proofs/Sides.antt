@@ -22,9 +22,10 @@ use Rattle.atam.proofs.Sequences.{IsLegal-empty, IsLegal-tile_at, IsLegal-listed
 use Rattle.atam.proofs.Confluence.{is_input-seed, is_input-later}
 use Rattle.atam.proofs.SameVerdict.{is_output-some, is_output-none}
 use Rattle.local_check.specs.declared.side_set.SideSet.{SideSet}
-use Rattle.local_check.specs.SideSets.{has, has_at, bound_sides, difference, AreSidesOf, AreEarlierAt, AreOutputsAt, AreEarlierSides, AreOutputSides}
-use Rattle.assembly.proofs.Opening.{bond-beside}
-use Rattle.assembly.proofs.Tiles.{SameTiles}
+use Rattle.local_check.specs.SideSets.{has, has_at, AreSidesOf}
+use Rattle.local_check.specs.Inner.Sides.{bound_sides, difference, AreEarlierAt, AreOutputsAt, AreEarlierSides, AreOutputSides}
+use Rattle.atam.proofs.Opening.{bond-beside}
+use Rattle.atam.proofs.Tiles.{SameTiles}
 use Rattle.local_check.proofs.Sites.{slice_get-some, distinct-take}
 
 pub has-bound : (sys : TileSystem) (tiles : List Place) (m : Site) (t : TypeId) (d : Side) → has (bound_sides sys tiles m t) d ≡ nat_lt 0 (bond sys tiles m t d)

@@ -7,24 +7,7 @@ use Rattle.atam.specs.declared.place.Place.{Place}
 use Rattle.atam.specs.Placements.{HasDistinctSites, SamePlacements, tile_at}
 use Rattle.atam.proofs.Lists.{some_or_none}
 use Rattle.atam.proofs.Placements.{tile_at-Contains, Contains-tile_at, none_at}
-use Rattle.assembly.proofs.Tiles.{SameTiles}
-
-pub same_back : (a b : List Place) → SamePlacements a b → SamePlacements b a
-same_back a b same = record { part = same.whole; whole = same.part }
-
--- the same tiles stand in both
-pub SameTiles-from : (a b : List Place) → HasDistinctSites a → SamePlacements a b → SameTiles a b
-SameTiles-from a b distinct same m = elim (some_or_none (tile_at b m)) [
-  | inr in_b ↦
-      let q : Place = record { site = m; tile = in_b.0 } in
-      Contains-tile_at a q distinct (same.whole q (tile_at-Contains b m in_b.0 in_b.1)) ∙ sym in_b.1
-  | inl not_b ↦ elim (some_or_none (tile_at a m)) [
-    | inl not_a ↦ not_a ∙ sym not_b
-    | inr in_a ↦
-        let q : Place = record { site = m; tile = in_a.0 } in
-        absurd (All-contains (λ p. p.site ≢ m) b q (none_at b m not_b) (same.part q (tile_at-Contains a m in_a.0 in_a.1)) refl)
-  ]
-]
+use Rattle.atam.proofs.Tiles.{SameTiles}
 
 -- a part of a list with distinct sites has distinct sites
 pub distinct-take : (s : List Place) (n : ℕ) → HasDistinctSites s → HasDistinctSites (take n s)

@@ -1,3 +1,4 @@
 pub mod SideSets
 pub mod Judgement
 pub mod Laws
+pub mod Inner

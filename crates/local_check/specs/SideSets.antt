@@ -1,14 +1,11 @@
 -- Sets of sides, and the input and output sides of the places of a sequence.
-use Rattle.std.specs.Prelude.{◌≡◌, ℕ, ◌+◌, ◌<◌, Bool, false, not, ◌&&◌, nat_lt, nat_le, if◌then◌else◌, List, length, slice_get, take, max, Some}
+use Rattle.std.specs.Prelude.{◌≡◌, ℕ, ◌<◌, Bool, false, ◌&&◌, nat_le, List, length, slice_get}
 use Rattle.std.specs.Option.{option_map_or}
 use Rattle.atam.specs.declared.site.Side.{Side}
 use Rattle.atam.specs.declared.site.Side.TheVariants.{North, East, South, West}
-use Rattle.atam.specs.declared.site.Site.{Site}
-use Rattle.atam.specs.declared.place.TypeId.{TypeId}
 use Rattle.atam.specs.declared.place.Place.{Place}
 use Rattle.atam.specs.Placements.{SamePlacements}
 use Rattle.atam.specs.TileSystem.{TileSystem}
-use Rattle.atam.specs.Assembly.{bond}
 use Rattle.atam.specs.Determinism.{is_input, is_output}
 use Rattle.local_check.specs.declared.side_set.SideSet.{SideSet}
 
@@ -18,31 +15,6 @@ has sides North = sides.north
 has sides East = sides.east
 has sides South = sides.south
 has sides West = sides.west
-
--- the sides of a tile of the type at the site that interact with a tile beside them
-abbrev pub bound_sides : TileSystem → List Place → Site → TypeId → SideSet
-bound_sides sys tiles m t = record {
-  north = nat_lt 0 (bond sys tiles m t North);
-  east = nat_lt 0 (bond sys tiles m t East);
-  south = nat_lt 0 (bond sys tiles m t South);
-  west = nat_lt 0 (bond sys tiles m t West);
-}
-
--- the sides of the one set that the other doesn't have, and those that a set doesn't have
-abbrev pub difference : SideSet → SideSet → SideSet
-difference a b = record { north = a.north && not b.north; east = a.east && not b.east; south = a.south && not b.south; west = a.west && not b.west }
-
-abbrev pub complement : SideSet → SideSet
-complement a = record { north = not a.north; east = not a.east; south = not a.south; west = not a.west }
-
-abbrev pub bond_if : Bool → ℕ → ℕ
-bond_if on strength = if on then strength else 0
-
--- the pull on a type by these sides alone
-abbrev pub pull_on : TileSystem → List Place → Site → TypeId → SideSet → ℕ
-pull_on sys tiles m t sides =
-    bond_if sides.north (bond sys tiles m t North) + bond_if sides.east (bond sys tiles m t East)
-    + bond_if sides.south (bond sys tiles m t South) + bond_if sides.west (bond sys tiles m t West)
 
 -- whether the set at an index has a side
 abbrev pub has_at : List SideSet → ℕ → Side → Bool
@@ -68,21 +40,3 @@ pub record AreSidesOf (sys : TileSystem) (s : List Place) (sides : SideTable) : 
   pub count : length sides.outputs ≡ length s
   pub inputs : (i : ℕ) (d : Side) → i < length s → input_at sides i d ≡ is_input sys s i d
   pub outputs : (i : ℕ) (d : Side) → i < length s → output_at sides i d ≡ is_output sys s i d
-
--- each set has the sides that interact with the seeds or with an earlier place
-abbrev pub AreEarlierAt : TileSystem → List Place → List SideSet → Type 0
-AreEarlierAt sys s sets = (k : ℕ) (p : Place) (sides : SideSet) → slice_get s k ≡ Some p → slice_get sets k ≡ Some sides →
-    sides ≡ bound_sides sys (take (max (length sys.seeds) k) s) p.site p.tile
-
--- each set has the output sides of the place
-abbrev pub AreOutputsAt : TileSystem → List Place → List SideSet → Type 0
-AreOutputsAt sys s sets = (k : ℕ) (sides : SideSet) → slice_get sets k ≡ Some sides → (d : Side) → has sides d ≡ is_output sys s k d
-
--- one set for each place
-pub record AreEarlierSides (sys : TileSystem) (s : List Place) (sets : List SideSet) : Type 0 where
-  pub count : length sets ≡ length s
-  pub each : AreEarlierAt sys s sets
-
-pub record AreOutputSides (sys : TileSystem) (s : List Place) (sets : List SideSet) : Type 0 where
-  pub count : length sets ≡ length s
-  pub each : AreOutputsAt sys s sets

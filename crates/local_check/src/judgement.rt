@@ -5,7 +5,8 @@ ghost use Rattle.atam.specs.Placements.{HasDistinctSites};
 ghost use Rattle.atam.specs.Assembly.{Fits};
 ghost use Rattle.atam.specs.Growth.{IsLegal};
 ghost use Rattle.local_check.specs.SideSets.{AreSidesOf};
-ghost use Rattle.local_check.specs.Judgement.{IsVerdict, IsFirstInexact, IsFirstRival, AllExactBelow, NoRivalBelow, IsFirstRivalHere};
+ghost use Rattle.local_check.specs.Judgement.{IsVerdict, IsFirstInexact, IsFirstRival, AllExactBelow, NoRivalBelow};
+ghost use Rattle.local_check.specs.Inner.FirstRivals.{IsFirstRivalHere};
 
 use crate::side_set::pull_on;
 use crate::{SideSets, Verdict};

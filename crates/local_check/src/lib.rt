@@ -11,6 +11,3 @@ pub use judgement::judge;
 pub use laws::{law_one_verdict, law_yes};
 pub use side_table::{SideSets, inputs};
 pub use verdict::Verdict;
-
-#[cfg(test)]
-mod tests;

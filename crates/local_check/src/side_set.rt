@@ -1,9 +1,11 @@
 // A set of sides.
-ghost use Rattle.std.specs.Prelude.{◌≡◌, ◌≤◌};
+ghost use Rattle.std.specs.Prelude.{◌≡◌, ◌≤◌, ◌*◌};
+ghost use Rattle.atam.specs.declared.limits.TheConstants.{MOST_STRENGTH};
 ghost use Rattle.atam.specs.Sites.{IsNearSite};
 ghost use Rattle.atam.specs.TileSystem.{IsType};
 ghost use Rattle.atam.specs.Assembly.{Fits};
-ghost use Rattle.local_check.specs.SideSets.{has, bound_sides, difference, complement, pull_on, bond_if};
+ghost use Rattle.local_check.specs.SideSets.{has};
+ghost use Rattle.local_check.specs.Inner.Sides.{bound_sides, difference, complement, pull_on, bond_if};
 
 use attach_rule::bond;
 use tile_system::{Place, Placed, Side, Site, System, TypeId};
@@ -90,7 +92,7 @@ pub(crate) fn pull_on<P: Placed>(
     requires near { IsNearSite site }
     requires fits { Fits sys.now (P.placements placed.now) }
     ensures value { result ≡ pull_on sys.now (P.placements placed.now) site tile sides }
-    ensures bound { result ≤ 1000 }
+    ensures bound { result ≤ 4 * MOST_STRENGTH }
 {
     bond_if(sides.north, bond(sys, placed, site, tile, Side::North))
         + bond_if(sides.east, bond(sys, placed, site, tile, Side::East))
@@ -100,9 +102,9 @@ pub(crate) fn pull_on<P: Placed>(
 
 // The strength, if the side counts.
 fn bond_if(counts: bool, strength: u32) -> u32
-    requires { strength ≤ 250 }
+    requires { strength ≤ MOST_STRENGTH }
     ensures value { result ≡ bond_if counts strength }
-    ensures bound { result ≤ 250 }
+    ensures bound { result ≤ MOST_STRENGTH }
 {
     if counts { strength } else { 0 }
 }

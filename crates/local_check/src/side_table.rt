@@ -5,7 +5,8 @@ ghost use Rattle.atam.specs.Placements.{SamePlacements};
 ghost use Rattle.atam.specs.TileSystem.{IsValid};
 ghost use Rattle.atam.specs.Assembly.{Fits};
 ghost use Rattle.atam.specs.Growth.{IsLegal};
-ghost use Rattle.local_check.specs.SideSets.{has, input_at, output_at, AreSidesOf, AreEarlierSides, AreOutputSides};
+ghost use Rattle.local_check.specs.SideSets.{has, input_at, output_at, AreSidesOf};
+ghost use Rattle.local_check.specs.Inner.Sides.{AreEarlierSides, AreOutputSides};
 
 use crate::side_set::{SideSet, bound_sides};
 use assembly::{Grid, Sequence, put_seeds};

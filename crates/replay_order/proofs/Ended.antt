@@ -14,7 +14,9 @@ use Rattle.atam.proofs.Placements.{Contains-tile_at, tile_at-Contains, same_plac
 use Rattle.atam.proofs.Count.{count_in_part}
 use Rattle.atam.proofs.Canon.{canonical_part, canonical_IsLegal, producible_exactly}
 use Rattle.atam.proofs.Sequences.{IsLegal-distinct}
-use Rattle.replay_order.specs.Replays.{IsLeftAt, IsLeastLeft}
+use Rattle.atam.proofs.Opening.{Fits-part}
+use Rattle.atam.proofs.Beginnings.{unlisted_empty}
+use Rattle.replay_order.specs.Inner.Replays.{IsLeftAt, IsLeastLeft}
 use Rattle.replay_order.specs.ReplayAnswers.{IsWholeOrder, IsStuckAt}
 
 module _ (sys : TileSystem) (tiles s : List Place) (fits : Fits sys tiles) (distinct : HasDistinctSites tiles)
@@ -43,13 +45,7 @@ module _ (sys : TileSystem) (tiles s : List Place) (fits : Fits sys tiles) (dist
   left_at q left = record {
     tile = q.tile;
     placed = Contains-tile_at tiles q distinct left.placed;
-    unlisted = elim (some_or_none (tile_at s q.site)) [
-      | inl empty ↦ empty
-      | inr some ↦
-          let r : Place = record { site = q.site; tile = some.0 } in
-          let listed : Contains s r = tile_at-Contains s q.site some.0 some.1 in
-          absurd (left.unlisted (subst (Contains s) (same_place tiles r q distinct (part r listed) left.placed refl) listed))
-    ];
+    unlisted = unlisted_empty sys tiles s canonical.begins distinct q left.placed left.unlisted;
   }
 
   inside : (q : Place) → Contains tiles q → InBox sys.area q.site
@@ -61,7 +57,9 @@ module _ (sys : TileSystem) (tiles s : List Place) (fits : Fits sys tiles) (dist
       let all_listed : IsPartOf tiles s = λ q placed. listed_or_left q placed (none q.site (inside q placed)) in
       record {
         canonical = canonical;
+        legal = canonical_IsLegal sys tiles s distinct fits.types seeds_distinct canonical;
         same = record { part = part; whole = all_listed };
+        fits = Fits-part sys s tiles part fits;
         producible = (producible_exactly sys tiles s distinct fits.types seeds_distinct canonical).1 all_listed;
       }
 

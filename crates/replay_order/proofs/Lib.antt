@@ -5,4 +5,3 @@ pub mod Rests
 pub mod Begun
 pub mod Ended
 pub mod Sequences
-pub mod Fitting

@@ -4,8 +4,8 @@ use Rattle.atam.specs.declared.site.Site.{Site}
 use Rattle.atam.specs.declared.place.Place.{Place}
 use Rattle.atam.specs.Placements.{tile_at}
 use Rattle.atam.proofs.Placements.{HasDistinctSites-push}
-use Rattle.assembly.proofs.Tiles.{SameTiles-put, SameTiles-push}
-use Rattle.replay_order.specs.Replays.{IsListing}
+use Rattle.atam.proofs.Tiles.{SameTiles-put, SameTiles-push}
+use Rattle.replay_order.specs.Inner.Replays.{IsListing}
 
 pub IsListing-push : (order longer old new : List Place) (p : Place) → IsListing order old → longer ≡ order ++ p ∷ [] → tile_at order p.site ≡ None →
     tile_at new p.site ≡ Some p.tile → ((m : Site) → m ≢ p.site → tile_at new m ≡ tile_at old m) → IsListing longer new

@@ -17,9 +17,9 @@ use Rattle.atam.proofs.Boxes.{same_site_tells}
 use Rattle.atam.proofs.Lists.{All-slice_get, Contains-push, Contains-slice_get}
 use Rattle.atam.proofs.Bonds.{pull-mono, beside_a_tile, neighbor-opposite}
 use Rattle.atam.proofs.Placements.{tile_at-append, tile_at-Contains, tile_at-place}
-use Rattle.assembly.proofs.Opening.{pull-beside}
-use Rattle.assembly.proofs.Tiles.{tile_at-push_other, tile_at-push_here}
-use Rattle.replay_order.specs.Replays.{IsReadySite, AreReadySites, AreReadySitesBut, AddsIfReady, AddsReadyBeside}
+use Rattle.atam.proofs.Opening.{pull-beside}
+use Rattle.atam.proofs.Tiles.{tile_at-push_other, tile_at-push_here}
+use Rattle.replay_order.specs.Inner.Replays.{IsReadySite, AreReadySites, AreReadySitesBut, AddsIfReady, AddsReadyBeside}
 
 -- a site beside one of a box can be stepped from
 pub near_beside : (area : BoxArea) (m : Site) (d : Side) → IsBox area → InBox area m → IsNearSite (neighbor m d)

@@ -11,7 +11,7 @@ use Rattle.atam.specs.Sites.{IsBefore, width_of}
 use Rattle.atam.specs.Placements.{tile_at}
 use Rattle.assembly.specs.Cells.{cell_count, site_at}
 use Rattle.assembly.proofs.Cells.{index_of}
-use Rattle.replay_order.specs.Replays.{IsLeftAt, IsLeastLeft}
+use Rattle.replay_order.specs.Inner.Replays.{IsLeftAt, IsLeastLeft}
 
 -- no site with a number below this one has a tile that isn't listed
 abbrev pub NoneLeftBelow : BoxArea → List Place → List Place → ℕ → Type 0

@@ -15,22 +15,11 @@ use Rattle.std.specs.Ordering.{int_eq}
 use Rattle.std.proofs.lemmas.Bool.Decides.{Decides-like, Decides-and, Decides-eqb}
 use Rattle.atam.proofs.Boxes.{Decides-same_site}
 use Rattle.atam.proofs.Lists.{some_or_none}
-use Rattle.atam.proofs.Placements.{same_tiles}
+use Rattle.atam.proofs.Tiles.{same_back, SameTiles-from}
 use Rattle.atam.proofs.Sequences.{IsLegal-push, IsLegal-distinct}
 use Rattle.replay_order.specs.Legalities.{IsFirstTaken, IsFirstWeak}
-use Rattle.assembly.proofs.Opening.{pull-beside}
+use Rattle.atam.proofs.Opening.{pull-beside}
 use Rattle.assembly.proofs.Putting.{take_more, same_empty}
-
-module _ (a b : List Place) (same : SamePlacements a b) (m : Site) where
-  -- one type or none stands at a site of both
-  same_at : HasDistinctSites a → HasDistinctSites b → tile_at a m ≡ tile_at b m
-  same_at distinct_a distinct_b = elim (some_or_none (tile_at a m)) [
-    | inl empty ↦ empty ∙ sym (same_empty a b same m empty)
-    | inr some ↦ some.1 ∙ sym ((same_tiles a b distinct_a distinct_b same).0 m some.0 some.1)
-  ]
-
-same_back : (a b : List Place) → SamePlacements a b → SamePlacements b a
-same_back a b same = record { part = same.whole; whole = same.part }
 
 -- a place of the sequence, after legal ones that stand in the grid
 module _ (sys : TileSystem) (s tiles : List Place) (n : ℕ) (p : Place) (there : slice_get s n ≡ Some p) (legal : IsLegal sys (take n s)) (same : SamePlacements (take n s) tiles) where
@@ -46,7 +35,7 @@ module _ (sys : TileSystem) (s tiles : List Place) (n : ℕ) (p : Place) (there 
     pull_there : model.pull sys tiles p.site p.tile ≡ model.pull sys (take n s) p.site p.tile
     pull_there =
         pull-beside sys tiles (take n s) p.site p.tile
-        (λ (d : Side). sym (same_at (take n s) tiles same (neighbor p.site d) (IsLegal-distinct sys (take n s) seeds_distinct legal) distinct))
+        (λ (d : Side). sym (SameTiles-from (take n s) tiles (IsLegal-distinct sys (take n s) seeds_distinct legal) same (neighbor p.site d)))
 
     module _ (found : Option TypeId) (at : found ≡ tile_at tiles p.site) (none : is_some found ≡ false) (pull : ℕ) (is : pull ≡ model.pull sys tiles p.site p.tile) where
       empty_there : tile_at (take n s) p.site ≡ None

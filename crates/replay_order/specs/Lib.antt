@@ -1,3 +1,3 @@
-pub mod Replays
 pub mod ReplayAnswers
 pub mod Legalities
+pub mod Inner

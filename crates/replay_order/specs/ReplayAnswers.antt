@@ -4,7 +4,8 @@ use Rattle.atam.specs.declared.site.Site.{Site}
 use Rattle.atam.specs.declared.place.Place.{Place}
 use Rattle.atam.specs.Placements.{SamePlacements, tile_at}
 use Rattle.atam.specs.TileSystem.{TileSystem}
-use Rattle.atam.specs.Growth.{IsProducible}
+use Rattle.atam.specs.Assembly.{Fits}
+use Rattle.atam.specs.Growth.{IsLegal, IsProducible}
 use Rattle.atam.specs.Canonical.{IsCanonical, LeavesOver}
 use Rattle.replay_order.specs.declared.stop.ReplayStop.{ReplayStop}
 use Rattle.replay_order.specs.declared.stop.ReplayStop.TheVariants.{NoSeedThere, Stuck, NoMemory}
@@ -17,10 +18,12 @@ HoldsSeeds sys tiles = All (λ p. tile_at tiles p.site ≡ Some p.tile) sys.seed
 abbrev pub LacksSeed : TileSystem → List Place → Type 0
 LacksSeed sys tiles = Any (λ p. tile_at tiles p.site ≢ Some p.tile) sys.seeds
 
--- the canonical sequence of the tiles, which lists all of them
+-- the canonical sequence of the tiles, which is legal, lists all of them, and fits
 pub record IsWholeOrder (sys : TileSystem) (tiles order : List Place) : Type 0 where
   pub canonical : IsCanonical sys tiles order
+  pub legal : IsLegal sys order
   pub same : SamePlacements order tiles
+  pub fits : Fits sys order
   pub producible : IsProducible sys tiles
 
 -- the tiles hold the seeds and aren't producible: this many are left by their canonical sequence, and this is the least site of those

@@ -1,12 +1,13 @@
 // The canonical order of an assembly.
-ghost use Rattle.std.specs.Prelude.{◌≡◌, ◌↔◌, ◌∷◌, ◌++◌, [], Some, None, IsTrue, IfOk, OnOk};
+ghost use Rattle.std.specs.Prelude.{◌≡◌, ◌≢◌, ◌↔◌, IsOk, ◌∷◌, ◌++◌, [], Some, None, IsTrue, IfOk, OnOk};
 ghost use Rattle.std.specs.Bool.{OnTrue, OnFalse};
 ghost use Rattle.atam.specs.Sites.{InBox, IsNearSite};
 ghost use Rattle.atam.specs.Placements.{HasDistinctSites, IsPartOf, tile_at};
 ghost use Rattle.atam.specs.TileSystem.{IsValid};
 ghost use Rattle.atam.specs.Assembly.{Fits};
-ghost use Rattle.atam.specs.Canonical.{IsCanonical};
-ghost use Rattle.replay_order.specs.Replays.{IsBegun, IsReadySite, AreReadySites, AreReadySitesBut, AddsIfReady, AddsReadyBeside};
+ghost use Rattle.atam.specs.Growth.{IsProducible};
+ghost use Rattle.atam.specs.Canonical.{BeginsCanonical, IsCanonical};
+ghost use Rattle.replay_order.specs.Inner.Replays.{IsReadySite, AreReadySites, AreReadySitesBut, AddsIfReady, AddsReadyBeside};
 ghost use Rattle.replay_order.specs.ReplayAnswers.{HoldsSeeds, LacksSeed, IsReplayAnswer};
 
 use crate::listing::Listing;
@@ -19,7 +20,7 @@ use std::alloc::Global;
 use tile_system::{NoMemory, Place, Placed, Side, Site, System};
 
 /// The canonical sequence of a producible grid: the seeds, and then at each step the place with
-/// the least site that the places so far hold.
+/// the least site that the places so far hold. It is legal, and has exactly the grid's placements.
 /// It takes memory for the sequence, for a grid and for the sites that are ready. Its time grows
 /// with the number of tiles times its logarithm, and with the number of sites of the box.
 pub fn replay(alloc: Global, sys: &System, grid: &Grid) -> Result<Sequence, ReplayStop>
@@ -28,11 +29,13 @@ pub fn replay(alloc: Global, sys: &System, grid: &Grid) -> Result<Sequence, Repl
     ensures answer { IsReplayAnswer sys.now grid.now.tiles result }
     ensures no_seed_there { (result ≡ Err ReplayStop.NoSeedThere) ↔
         LacksSeed sys.now grid.now.tiles }
+    ensures producible { result ≢ Err ReplayStop.NoMemory →
+        IsOk result ↔ IsProducible sys.now grid.now.tiles }
 {
+    let area = grid.area();
     if !holds_seeds(sys, grid) {
         return Err(ReplayStop::NoSeedThere);
     }
-    let area = grid.area();
     let listing = canonical_listing(alloc, sys, grid)?;
     match least_left(&area, grid, &listing) {
         None => Ok(listing.into_order()),
@@ -106,7 +109,7 @@ fn list_ready(
     requires valid { IsValid sys.now }
     requires fits { Fits sys.now grid.now.tiles }
     requires distinct { HasDistinctSites grid.now.tiles }
-    requires begun { IsBegun sys.now grid.now.tiles listing.old.places }
+    requires begun { BeginsCanonical sys.now grid.now.tiles listing.old.places }
     requires ready { AreReadySites sys.now grid.now.tiles listing.old.places ready.old }
     ensures { OnOk result (IsCanonical sys.now grid.now.tiles listing.new.places) }
 {

@@ -11,6 +11,3 @@ mod stop;
 pub use canonical::replay;
 pub use legal::{Legality, check_legal};
 pub use stop::ReplayStop;
-
-#[cfg(test)]
-mod tests;

@@ -1,5 +1,6 @@
 // Places in the order in which they were listed, with a grid to look them up.
 ghost use Rattle.std.specs.Prelude.{◌≡◌, ◌<◌, [], ◌∷◌, ◌++◌, length, None, IfOk, OnOk, OnErr};
+ghost use Rattle.atam.specs.declared.limits.TheConstants.{MOST_TYPES};
 ghost use Rattle.atam.specs.Sites.{InBox, IsBox};
 ghost use Rattle.atam.specs.Placements.{tile_at};
 
@@ -16,7 +17,7 @@ pub(crate) struct Listing {
 }
 
 impl Model for Listing {
-    ghost use Rattle.replay_order.specs.Replays.{Listed, IsListing};
+    ghost use Rattle.replay_order.specs.Inner.Replays.{Listed, IsListing};
 
     ghost Value = { Listed };
 
@@ -42,7 +43,7 @@ impl Listing {
     pub(crate) fn push(&mut self, place: Place) -> Result<(), NoMemory>
         requires inside { InBox self.old.area place.site }
         requires empty { tile_at self.old.places place.site ≡ None }
-        requires small { place.tile.0 < 16384 }
+        requires small { place.tile.0 < MOST_TYPES }
         ensures area { self.new.area ≡ self.old.area }
         ensures ok { OnOk result (self.new.places ≡ self.old.places ++ place ∷ []) }
         ensures unchanged { OnErr result (self.new ≡ self.old) }

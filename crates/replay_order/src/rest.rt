@@ -1,6 +1,6 @@
 // What a listing leaves of a grid.
 ghost use Rattle.atam.specs.Sites.{IsBox};
-ghost use Rattle.replay_order.specs.Replays.{IsLeastLeft};
+ghost use Rattle.replay_order.specs.Inner.Replays.{IsLeastLeft};
 
 use crate::listing::Listing;
 use assembly::{Grid, site_of_index};

@@ -18,7 +18,7 @@ use Rattle.atam.specs.TileSystem.{TileSystem, IsType}
 use Rattle.atam.proofs.Placements.{HasDistinctSites-push}
 use Rattle.atam.proofs.Sequences.{Fits-push}
 use Rattle.assembly.specs.Grids.{TileGrid}
-use Rattle.assembly.proofs.Opening.{Fits-part}
+use Rattle.atam.proofs.Opening.{Fits-part}
 use Rattle.tile_text.proofs.Soundness.{inside_is}
 use Rattle.seq_text.specs.GrowthText.{GrowthItem, growth_format, growth_keywords, place_of, places_of, may_stand, place_row, closed_row, unique_row, ReadsPlaces}
 use Rattle.seq_text.specs.GrowthText.GrowthItem.{PlaceLine, ClosedLine, UniqueLine}

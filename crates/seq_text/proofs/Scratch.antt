@@ -9,7 +9,7 @@ use Rattle.atam.specs.Placements.{tile_at, SamePlacements}
 use Rattle.atam.specs.TileSystem.{TileSystem}
 use Rattle.atam.proofs.Placements.{at_site, tile_at-here, tile_at-past, tile_at-append, tile_at-append_past}
 use Rattle.assembly.specs.Grids.{TileGrid}
-use Rattle.assembly.proofs.Tiles.{SamePlacements-push, SamePlacements-trans}
+use Rattle.atam.proofs.Tiles.{SamePlacements-push, SamePlacements-trans}
 use Rattle.seq_text.specs.declared.ending.Ending.{Ending}
 use Rattle.seq_text.specs.GrowthText.{may_stand, places_of}
 use Rattle.seq_text.specs.GrowthDrafts.{IsScratchOf, items_of}

@@ -18,7 +18,8 @@ use Rattle.std.proofs.lemmas.Iterator.Adapters.{position_from-zero}
 use Rattle.std.proofs.lemmas.Map.Lookups.{exact_bytes}
 use Rattle.std.proofs.lemmas.Map.Text.{is_eq-slice_cmp}
 use Rattle.std.proofs.lemmas.Slice.Eq.{bytes_eq-Decides}
-use Rattle.tile_system.specs.Names.{index_named, IsIndexOf}
+use Rattle.tile_system.specs.Names.{index_named}
+use Rattle.tile_system.specs.Inner.Indices.{IsIndexOf}
 
 pub clash : true ≡ false → ⊥
 clash both = cc

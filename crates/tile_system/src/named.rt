@@ -24,7 +24,7 @@ pub struct NamedList<T: Named> {
 
 impl<T: Named> Model for NamedList<T> {
     ghost use Rattle.std.specs.Prelude.{List};
-    ghost use Rattle.tile_system.specs.Names.{IsIndexOf};
+    ghost use Rattle.tile_system.specs.Inner.Indices.{IsIndexOf};
 
     ghost Value = { List T };
 

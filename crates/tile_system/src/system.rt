@@ -1,5 +1,6 @@
 // A valid system.
 ghost use Rattle.std.specs.Prelude.{◌≡◌, ◌≢◌, ◌<◌, ◌≤◌, [], length, slice_get, Some, IfSome, IfNone, option_map, All};
+ghost use Rattle.atam.specs.declared.limits.TheConstants.{MOST_STRENGTH};
 ghost use Rattle.atam.specs.TileSystem.{TileSystem, IsValid, IsType, is_pair_of, pair_strength, glue_name, type_name, side_glue, strength_of, strength_between};
 ghost use Rattle.atam.specs.Sites.{IsBox};
 ghost use Rattle.tile_system.specs.Names.{glue_named, type_named};
@@ -107,7 +108,7 @@ impl System {
     pub fn strength(&self, glue: GlueId) -> u32
         requires { glue.0 < length self.now.glues }
         ensures strength { result ≡ strength_of self.now glue }
-        ensures bound { result ≤ 250 }
+        ensures bound { result ≤ MOST_STRENGTH }
     {
         let entry = &self.glues.as_slice()[glue.0 as usize];
         entry.strength()
@@ -189,7 +190,7 @@ impl System {
     pub fn between(&self, first: GlueId, second: GlueId) -> u32
         requires first { first.0 < length self.now.glues }
         ensures strength { result ≡ strength_between self.now first second }
-        ensures bound { result ≤ 250 }
+        ensures bound { result ≤ MOST_STRENGTH }
     {
         if first == second {
             return self.strength(first);

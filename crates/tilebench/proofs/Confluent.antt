@@ -3,16 +3,18 @@ use Rattle.std.proofs.Common.{◌≡◌, ◌↔◌, ◌++◌, ◌∙◌, ℕ, Bo
 use Rattle.atam.specs.declared.place.Place.{Place}
 use Rattle.atam.specs.Placements.{HasDistinctSites, SamePlacements}
 use Rattle.atam.specs.TileSystem.{TileSystem}
-use Rattle.atam.proofs.Placements.{same_tiles}
+use Rattle.atam.proofs.Tiles.{SameTiles-from}
+use Rattle.atam.proofs.Open.{least_open_same}
 use Rattle.atam.proofs.Sequences.{IsLegal-distinct}
 use Rattle.local_check.specs.declared.verdict.Verdict.{Verdict}
 use Rattle.local_check.specs.declared.verdict.Verdict.TheVariants.{Yes, NotExact, Rival, NotTerminal}
 use Rattle.seq_text.specs.GrowthLines.{place_lines, closed_line}
 use Rattle.seq_text.specs.VerdictLines.{verdict_line}
 use Rattle.unique_law.specs.Outcomes.{Outcome, IsOutcome, IsDeterministicInSomeOrder}
-use Rattle.unique_law.proofs.OneOutcome.{canonical_too, least_open_too, one_full_growth, one_outcome, yes_in_some_order, grows_into_outcome}
+use Rattle.unique_law.proofs.OneOutcome.{canonical_too, one_full_growth, one_outcome, yes_in_some_order, grows_into_outcome}
 use Rattle.tilebench.specs.GrowthText.{IsGrowthOf, IsGrowthAnswer, is_unique}
-use Rattle.tilebench.specs.Confluence.{IsConfluent, IsDeterministicInBox}
+use Rattle.tilebench.specs.Confluence.{IsConfluent}
+use Rattle.atam.specs.Determinism.{IsDeterministicInBox}
 
 -- a verdict is a yes exactly where it is `Yes`
 unique_yes : (verdict : Verdict) → is_unique verdict ≡ true → verdict ≡ Yes
@@ -27,10 +29,7 @@ outcome_of growth = record { order = growth.text_of.order; outside = growth.text
 
 is_outcome : (sys : TileSystem) (tiles : List Place) (is_yes : Bool) (text : List ℕ) (growth : IsGrowthOf sys tiles is_yes text) → IsOutcome sys tiles (outcome_of growth)
 is_outcome sys tiles is_yes text growth = record {
-  distinct = growth.full.distinct;
-  inside = growth.full.inside;
-  producible = growth.full.producible;
-  closed = growth.full.closed;
+  full = growth.full;
   canonical = growth.text_of.canonical;
   least = growth.text_of.least;
   judged = growth.text_of.judged;
@@ -59,7 +58,6 @@ module _ (sys : TileSystem) (seeds : HasDistinctSites sys.seeds) (tiles : List P
   text_of_deterministic s found =
       let same : SamePlacements tiles s = one_full_growth sys seeds s tiles found.deterministic found.inside growth.full.distinct growth.full.producible growth.full.closed in
       let distinct : HasDistinctSites s = IsLegal-distinct sys s seeds found.deterministic.legal in
-      let both = same_tiles tiles s growth.full.distinct distinct same in
       record {
         full = record {
           distinct = distinct;
@@ -71,7 +69,7 @@ module _ (sys : TileSystem) (seeds : HasDistinctSites sys.seeds) (tiles : List P
           order = growth.text_of.order;
           canonical = canonical_too sys tiles s same growth.text_of.order growth.text_of.canonical;
           outside = growth.text_of.outside;
-          least = least_open_too sys tiles s same both.0 both.1 _ growth.text_of.outside growth.text_of.least;
+          least = least_open_same sys tiles s _ growth.text_of.outside (SameTiles-from tiles s growth.full.distinct same) growth.text_of.least;
           verdict = growth.text_of.verdict;
           judged = growth.text_of.judged;
           printed = growth.text_of.printed;

@@ -14,8 +14,8 @@ use Rattle.atam.specs.Assembly.{Fits}
 use Rattle.atam.specs.Growth.{IsLegal, IsCandidate}
 use Rattle.atam.proofs.Sequences.{IsLegal-push, Fits-push}
 use Rattle.assembly.specs.Grids.{TileGrid}
-use Rattle.assembly.proofs.Tiles.{SameTiles-put, SamePlacements-push, SamePlacements-trans}
-use Rattle.assembly.proofs.Opening.{IsCandidate-same, Attaches-same, IsCandidate-push}
+use Rattle.atam.proofs.Tiles.{SameTiles-put, SamePlacements-push, SamePlacements-trans}
+use Rattle.atam.proofs.Opening.{IsCandidate-same, Attaches-same, IsCandidate-push}
 use Rattle.tilebench.specs.declared.grid_growth.GridGrowth.{GridGrowth}
 use Rattle.tilebench.specs.GridGrowing.{IsInStep, IsGrownSoFar, IsClosedBut, AddsSite, AddsNeighbors, LooksAt}
 

@@ -3,7 +3,7 @@ use Rattle.std.specs.Prelude.{◌≡◌, ℕ, Bool, true, false, List, ◌++◌,
 use Rattle.atam.specs.declared.place.Place.{Place}
 use Rattle.atam.specs.TileSystem.{TileSystem, IsType}
 use Rattle.atam.specs.Placements.{HasDistinctSites}
-use Rattle.atam.specs.Growth.{IsLeastOpenOutside}
+use Rattle.atam.specs.Growth.{IsFullGrowth, IsLeastOpenOutside}
 use Rattle.atam.specs.Canonical.{IsCanonical}
 use Rattle.replay_order.specs.declared.legal.Legality.TheVariants.{Legal}
 use Rattle.local_check.specs.declared.verdict.Verdict.{Verdict}
@@ -22,7 +22,7 @@ use Rattle.grow_core.specs.Core.{CoreState, places}
 use Rattle.grow_core.specs.Steps.{IsStart}
 use Rattle.seq_text.specs.SeenLines.{seen_lines, HasLine}
 use Rattle.tilebench.specs.ScheduleAnswer.{IsRunOf, are_answered}
-use Rattle.tilebench.specs.GrowthText.{IsFullGrowth, is_unique}
+use Rattle.tilebench.specs.GrowthText.{is_unique}
 
 -- what this system grew into: the canonical sequence of a full growth, what is open outside, and the verdict
 pub record IsGrownFrom (sys : TileSystem) (growth : Growth) : Type 0 where

@@ -4,7 +4,7 @@ use Rattle.atam.specs.declared.place.Place.{Place}
 use Rattle.atam.specs.Sites.{InBox}
 use Rattle.atam.specs.TileSystem.{TileSystem}
 use Rattle.atam.specs.Growth.{IsLegal, GrowsInto}
-use Rattle.atam.specs.Determinism.{IsLocallyDeterministic}
+use Rattle.atam.specs.Determinism.{IsDeterministicInBox}
 use Rattle.unique_law.specs.Outcomes.{IsDeterministicInSomeOrder}
 use Rattle.tilebench.specs.GrowthText.{IsGrowthOf, IsGrowthAnswer}
 
@@ -15,11 +15,6 @@ IsOnlyOutcome sys tiles = (b : List Place) → IsLegal sys b → GrowsInto sys b
 -- each growth answer of the system is this text
 abbrev pub IsOnlyText : TileSystem → List ℕ → Type 0
 IsOnlyText sys text = (is_yes : Bool) (other : List ℕ) → IsGrowthAnswer sys is_yes other → other ≡ text
-
--- a list of placements in the box that is locally deterministic
-pub record IsDeterministicInBox (sys : TileSystem) (s : List Place) : Type 0 where
-  pub deterministic : IsLocallyDeterministic sys s
-  pub inside : All (λ p. InBox sys.area p.site) s
 
 -- what holds of the growth text of an assembly
 pub record IsConfluent (sys : TileSystem) (tiles : List Place) (is_yes : Bool) (text : List ℕ) : Type 0 where

@@ -1,25 +1,16 @@
 -- What `grow` prints.
-use Rattle.std.specs.Prelude.{◌≡◌, ℕ, Bool, true, false, List, ◌++◌, Option, All}
+use Rattle.std.specs.Prelude.{◌≡◌, ℕ, Bool, true, false, List, ◌++◌, Option}
 use Rattle.atam.specs.declared.site.Site.{Site}
 use Rattle.atam.specs.declared.place.TypeId.{TypeId}
 use Rattle.atam.specs.declared.place.Place.{Place}
-use Rattle.atam.specs.Sites.{InBox}
 use Rattle.atam.specs.TileSystem.{TileSystem}
-use Rattle.atam.specs.Placements.{HasDistinctSites}
-use Rattle.atam.specs.Growth.{IsProducible, IsClosedInBox, IsLeastOpenOutside}
+use Rattle.atam.specs.Growth.{IsFullGrowth, IsLeastOpenOutside}
 use Rattle.atam.specs.Canonical.{IsCanonical}
 use Rattle.local_check.specs.declared.verdict.Verdict.{Verdict}
 use Rattle.local_check.specs.declared.verdict.Verdict.TheVariants.{Yes}
 use Rattle.local_check.specs.Judgement.{IsVerdict}
 use Rattle.seq_text.specs.GrowthLines.{place_lines, closed_line}
 use Rattle.seq_text.specs.VerdictLines.{verdict_line}
-
--- a producible assembly in the box that nothing extends there
-pub record IsFullGrowth (sys : TileSystem) (tiles : List Place) : Type 0 where
-  pub distinct : HasDistinctSites tiles
-  pub inside : All (λ p. InBox sys.area p.site) tiles
-  pub producible : IsProducible sys tiles
-  pub closed : IsClosedInBox sys tiles
 
 -- whether a verdict is a yes
 abbrev pub is_unique : Verdict → Bool

@@ -2,10 +2,9 @@
 ghost use Rattle.std.specs.Prelude.{◌≡◌, IfOk};
 ghost use Rattle.atam.specs.Placements.{HasDistinctSites};
 ghost use Rattle.atam.specs.Assembly.{Fits};
-ghost use Rattle.atam.specs.Growth.{IsLegal, IsProducible};
+ghost use Rattle.atam.specs.Growth.{IsLegal, IsProducible, IsFullGrowth};
 ghost use Rattle.atam.specs.Canonical.{IsCanonical};
 ghost use Rattle.tilebench.specs.AnswerText.{IsGrownFrom};
-ghost use Rattle.tilebench.specs.GrowthText.{IsFullGrowth};
 
 use crate::grid_growth::{GridGrowth, grow_grid};
 use assembly::{Grid, Sequence};

@@ -7,22 +7,20 @@ use Rattle.atam.specs.declared.place.Place.{Place}
 use Rattle.atam.specs.Sites.{InBox}
 use Rattle.atam.specs.Placements.{HasDistinctSites, IsPartOf, SamePlacements}
 use Rattle.atam.specs.TileSystem.{TileSystem, IsType}
-use Rattle.atam.specs.Growth.{IsLegal, IsProducible, GrowsInto, IsClosedInBox, IsLeastOpenAmong}
+use Rattle.atam.specs.Growth.{IsLegal, IsProducible, GrowsInto, IsClosedInBox}
 use Rattle.atam.specs.Canonical.{IsReady, IsCanonical}
 use Rattle.atam.specs.Determinism.{IsLocallyDeterministic}
-use Rattle.atam.proofs.Placements.{Extends, same_tiles}
 use Rattle.atam.proofs.Sequences.{IsLegal-distinct}
 use Rattle.atam.proofs.Closure.{closure_of_part}
 use Rattle.atam.proofs.Canon.{canonical_unique, canonical_same, canonical_IsLegal, producible_seeded, producible_types}
-use Rattle.atam.proofs.Open.{least_open_unique}
+use Rattle.atam.proofs.Open.{least_open_unique, least_open_same}
 use Rattle.atam.proofs.Confluence.{confluence, confluence_part}
 use Rattle.atam.proofs.Extension.{deterministic_extension}
-use Rattle.atam.proofs.SameVerdict.{IsCandidate-same, same_verdict}
-use Rattle.assembly.proofs.Tiles.{SamePlacements-trans}
+use Rattle.atam.proofs.SameVerdict.{same_verdict}
+use Rattle.atam.proofs.Tiles.{SamePlacements-trans, SameTiles-from, same_back}
 use Rattle.local_check.specs.declared.verdict.Verdict.{Verdict}
 use Rattle.local_check.specs.declared.verdict.Verdict.TheVariants.{Yes}
 use Rattle.local_check.specs.Judgement.{IsVerdict}
-use Rattle.local_check.proofs.Sites.{same_back}
 use Rattle.local_check.proofs.Verdicts.{verdict_unique, verdict_yes}
 use Rattle.unique_law.specs.Matches.{IsMatchedIn}
 use Rattle.unique_law.specs.Outcomes.{Outcome, IsOutcome, IsDeterministicInSomeOrder}
@@ -42,32 +40,22 @@ module _ (sys : TileSystem) (a b : List Place) (same : SamePlacements a b) where
   -- lists with the same placements have the same canonical sequence
   pub canonical_too : (s : List Place) → IsCanonical sys a s → IsCanonical sys b s
   canonical_too s canonical = record {
-    seeded = λ p seed. same.part p (canonical.seeded p seed);
-    seeds = canonical.seeds;
-    ready = λ i p later there. ready_too (take i s) p (canonical.ready i p later there);
-    least = λ i p q later there ready. canonical.least i p q later there (ready_back (take i s) q ready);
+    begins = record {
+      seeded = λ p seed. same.part p (canonical.begins.seeded p seed);
+      seeds = canonical.begins.seeds;
+      ready = λ i p later there. ready_too (take i s) p (canonical.begins.ready i p later there);
+      least = λ i p q later there ready. canonical.begins.least i p q later there (ready_back (take i s) q ready);
+    };
     whole = λ q ready. canonical.whole q (ready_back s q ready);
   }
-
-  -- and the same least open site
-  module _ (to_b : Extends a b) (to_a : Extends b a) where
-    pub least_open_too : (P : Site → Type 0) (found : Option (Site × TypeId)) → IsLeastOpenAmong sys a P found → IsLeastOpenAmong sys b P found
-    least_open_too P None none = λ m t among grows. none m t among (IsCandidate-same sys b a m t to_a to_b grows)
-    least_open_too P (Some f) least = record {
-      among = least.among;
-      grows = IsCandidate-same sys a b f.0 f.1 to_b to_a least.grows;
-      least_site = λ n u among grows. least.least_site n u among (IsCandidate-same sys b a n u to_a to_b grows);
-      least_type = λ u grows. least.least_type u (IsCandidate-same sys b a f.0 u to_a to_b grows);
-    }
 
 -- so they have one outcome
 pub outcome_by_placements : (sys : TileSystem) (a b : List Place) (o p : Outcome) → IsOutcome sys a o → IsOutcome sys b p → SamePlacements a b → o ≡ p
 outcome_by_placements sys a b o p of_a of_b same =
-    let both = same_tiles a b of_a.distinct of_b.distinct same in
-    let order : o.order ≡ p.order = canonical_unique sys b of_b.distinct o.order p.order (canonical_too sys a b same o.order of_a.canonical) of_b.canonical in
+    let order : o.order ≡ p.order = canonical_unique sys b of_b.full.distinct o.order p.order (canonical_too sys a b same o.order of_a.canonical) of_b.canonical in
     let Outside : Site → Type 0 = λ m. ¬ InBox sys.area m in
     let outside : o.outside ≡ p.outside =
-    least_open_unique sys b Outside o.outside p.outside (least_open_too sys a b same both.0 both.1 Outside o.outside of_a.least) of_b.least
+    least_open_unique sys b Outside o.outside p.outside (least_open_same sys a b Outside o.outside (SameTiles-from a b of_a.full.distinct same) of_a.least) of_b.least
     in
     let judged : IsVerdict sys p.order o.verdict = subst (λ s. IsVerdict sys s o.verdict) order of_a.judged in
     let verdict : o.verdict ≡ p.verdict = verdict_unique sys p.order o.verdict p.verdict judged of_b.judged in
@@ -91,11 +79,11 @@ module _ (sys : TileSystem) (seeds_distinct : HasDistinctSites sys.seeds) where
   pub one_outcome : (a b : List Place) (o p : Outcome) → IsOutcome sys a o → o.verdict ≡ Yes → IsOutcome sys b p → SamePlacements a b × (o ≡ p)
   one_outcome a b o p of_a yes_it_is of_b =
       let ld : IsLocallyDeterministic sys o.order = subst (IsVerdict sys o.order) yes_it_is of_a.judged in
-      let order_a : SamePlacements o.order a = canonical_same sys a o.order seeds_distinct of_a.distinct of_a.producible of_a.canonical in
+      let order_a : SamePlacements o.order a = canonical_same sys a o.order seeds_distinct of_a.full.distinct of_a.full.producible of_a.canonical in
       let inside : All (λ q. InBox sys.area q.site) o.order = λ k d within.
-      All-contains (λ q. InBox sys.area q.site) a (get_or o.order k d) of_a.inside (order_a.part (get_or o.order k d) (Contains-get_or o.order k d within))
+      All-contains (λ q. InBox sys.area q.site) a (get_or o.order k d) of_a.full.inside (order_a.part (get_or o.order k d) (Contains-get_or o.order k d within))
       in
-      let b_order : SamePlacements b o.order = one_full_growth o.order b ld inside of_b.distinct of_b.producible of_b.closed in
+      let b_order : SamePlacements b o.order = one_full_growth o.order b ld inside of_b.full.distinct of_b.full.producible of_b.full.closed in
       let same : SamePlacements a b = same_back b a (SamePlacements-trans b o.order a b_order order_a) in
       (same, outcome_by_placements sys a b o p of_a of_b same)
 
@@ -115,15 +103,15 @@ module _ (sys : TileSystem) (seeds_distinct : HasDistinctSites sys.seeds) where
   -- the verdict is yes where some sequence in the box is locally deterministic
   pub yes_throughout : (s tiles : List Place) (o : Outcome) → IsLocallyDeterministic sys s → All (λ p. InBox sys.area p.site) s → IsOutcome sys tiles o → o.verdict ≡ Yes
   yes_throughout s tiles o ld inside of_tiles =
-      let same = one_full_growth s tiles ld inside of_tiles.distinct of_tiles.producible of_tiles.closed in
-      (yes_in_some_order tiles o.order o.verdict of_tiles.distinct of_tiles.producible of_tiles.canonical of_tiles.judged).1
+      let same = one_full_growth s tiles ld inside of_tiles.full.distinct of_tiles.full.producible of_tiles.full.closed in
+      (yes_in_some_order tiles o.order o.verdict of_tiles.full.distinct of_tiles.full.producible of_tiles.canonical of_tiles.judged).1
       (record { sequence = s; deterministic = ld; same = same_back tiles s same })
 
   -- and each legal sequence grows into the assembly where it is
   pub grows_into_outcome : (tiles b : List Place) (o : Outcome) → IsOutcome sys tiles o → o.verdict ≡ Yes → IsLegal sys b → GrowsInto sys b tiles
   grows_into_outcome tiles b o of_tiles yes_it_is legal =
       let ld : IsLocallyDeterministic sys o.order = subst (IsVerdict sys o.order) yes_it_is of_tiles.judged in
-      let order_tiles : SamePlacements o.order tiles = canonical_same sys tiles o.order seeds_distinct of_tiles.distinct of_tiles.producible of_tiles.canonical in
+      let order_tiles : SamePlacements o.order tiles = canonical_same sys tiles o.order seeds_distinct of_tiles.full.distinct of_tiles.full.producible of_tiles.canonical in
       let grown = deterministic_extension sys o.order b seeds_distinct ld legal in
       record {
         sequence = grown.sequence;

@@ -8,7 +8,7 @@ use Rattle.atam.specs.Sites.{IsBox}
 use Rattle.atam.specs.Assembly.{Fits}
 use Rattle.atam.proofs.Count.{count_in_box}
 use Rattle.assembly.proofs.Cells.{cell_count-most}
-use Rattle.assembly.proofs.Tiles.{SameTiles}
+use Rattle.atam.proofs.Tiles.{SameTiles}
 
 pub rest_of-same : (a b whole : List Place) → SameTiles a b → rest_of a whole ≡ rest_of b whole
 rest_of-same a b whole same = λ i. filter (λ p. is_none (same p.site i)) whole

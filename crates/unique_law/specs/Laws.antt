@@ -1,12 +1,11 @@
 -- Laws of locally deterministic sequences, over every system and all lists of placements, at whatever sites.
-use Rattle.std.specs.Prelude.{◌≡◌, ◌↔◌, List, All}
+use Rattle.std.specs.Prelude.{◌≡◌, ◌↔◌, List}
 use Rattle.atam.specs.declared.place.Place.{Place}
-use Rattle.atam.specs.Sites.{InBox}
 use Rattle.atam.specs.Placements.{HasDistinctSites, SamePlacements}
 use Rattle.atam.specs.TileSystem.{TileSystem}
 use Rattle.atam.specs.Growth.{IsLegal, IsProducible, GrowsInto, IsClosedInBox}
 use Rattle.atam.specs.Canonical.{IsCanonical}
-use Rattle.atam.specs.Determinism.{IsLocallyDeterministic}
+use Rattle.atam.specs.Determinism.{IsLocallyDeterministic, IsDeterministicInBox}
 use Rattle.local_check.specs.declared.verdict.Verdict.{Verdict}
 use Rattle.local_check.specs.declared.verdict.Verdict.TheVariants.{Yes}
 use Rattle.local_check.specs.Judgement.{IsVerdict}
@@ -26,8 +25,7 @@ GrowsIntoDeterministic = (sys : TileSystem) (a b : List Place) → HasDistinctSi
 -- where some list in the box is locally deterministic, a producible assembly that is closed in the box has its placements
 abbrev pub HasOneFullGrowth : Type 0
 HasOneFullGrowth = (sys : TileSystem) (s tiles : List Place) → HasDistinctSites sys.seeds →
-    IsLocallyDeterministic sys s → All (λ p. InBox sys.area p.site) s →
-    HasDistinctSites tiles → IsProducible sys tiles → IsClosedInBox sys tiles → SamePlacements tiles s
+    IsDeterministicInBox sys s → HasDistinctSites tiles → IsProducible sys tiles → IsClosedInBox sys tiles → SamePlacements tiles s
 
 -- assemblies with the same placements have one outcome
 abbrev pub HasOutcomeByPlacements : Type 0
@@ -42,7 +40,7 @@ HasOneOutcome = (sys : TileSystem) (a b : List Place) (o p : Outcome) → HasDis
 -- so where some list in the box is locally deterministic, every outcome has the verdict yes
 abbrev pub IsYesThroughout : Type 0
 IsYesThroughout = (sys : TileSystem) (s tiles : List Place) (o : Outcome) → HasDistinctSites sys.seeds →
-    IsLocallyDeterministic sys s → All (λ p. InBox sys.area p.site) s → IsOutcome sys tiles o → o.verdict ≡ Yes
+    IsDeterministicInBox sys s → IsOutcome sys tiles o → o.verdict ≡ Yes
 
 -- and each legal list, at whatever sites, grows into the assembly of an outcome with the verdict yes
 abbrev pub GrowsIntoOutcome : Type 0

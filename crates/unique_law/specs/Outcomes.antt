@@ -1,12 +1,11 @@
 -- What is told of a producible assembly that nothing extends in the box.
-use Rattle.std.specs.Prelude.{List, Option, All}
+use Rattle.std.specs.Prelude.{List, Option}
 use Rattle.atam.specs.declared.site.Site.{Site}
 use Rattle.atam.specs.declared.place.TypeId.{TypeId}
 use Rattle.atam.specs.declared.place.Place.{Place}
-use Rattle.atam.specs.Sites.{InBox}
-use Rattle.atam.specs.Placements.{HasDistinctSites, SamePlacements}
+use Rattle.atam.specs.Placements.{SamePlacements}
 use Rattle.atam.specs.TileSystem.{TileSystem}
-use Rattle.atam.specs.Growth.{IsProducible, IsClosedInBox, IsLeastOpenOutside}
+use Rattle.atam.specs.Growth.{IsFullGrowth, IsLeastOpenOutside}
 use Rattle.atam.specs.Canonical.{IsCanonical}
 use Rattle.atam.specs.Determinism.{IsLocallyDeterministic}
 use Rattle.local_check.specs.declared.verdict.Verdict.{Verdict}
@@ -18,12 +17,9 @@ pub record Outcome : Type 0 where
   pub outside : Option (Site × TypeId)
   pub verdict : Verdict
 
--- those of an assembly in the box that is producible and closed there
+-- those of a full growth
 pub record IsOutcome (sys : TileSystem) (tiles : List Place) (outcome : Outcome) : Type 0 where
-  pub distinct : HasDistinctSites tiles
-  pub inside : All (λ p. InBox sys.area p.site) tiles
-  pub producible : IsProducible sys tiles
-  pub closed : IsClosedInBox sys tiles
+  pub full : IsFullGrowth sys tiles
   pub canonical : IsCanonical sys tiles outcome.order
   pub least : IsLeastOpenOutside sys tiles outcome.outside
   pub judged : IsVerdict sys outcome.order outcome.verdict

@@ -8,6 +8,3 @@ mod pairs;
 pub use extension::law_extends;
 pub use laws::{law_confluence, law_one_outcome, law_verdict};
 pub use pairs::{law_part, law_same_verdict};
-
-#[cfg(test)]
-mod tests;

@@ -1,5 +1,5 @@
-use Rattle.assembly.specs.Filling.{IsFilledTo}
+use Rattle.assembly.proofs.Filling.{IsFilledTo}
 use Rattle.assembly.proofs.grid.fill_gaps.Given as goal
 
 abbrev pub invariant-loop-index : goal.invariant-loop-index
-invariant-loop-index l = IsFilledTo l.index l.initial.words l.other l.words l.filled
+invariant-loop-index l = IsFilledTo l.index l.initial.cells l.other l.cells l.filled

@@ -2,7 +2,7 @@ use Rattle.std.proofs.Common.{◌≡◌, ℤ, Some, arith, subst, to_z, of_z, w3
 use Rattle.std.proofs.lemmas.Int.{ints}
 use Rattle.atam.specs.Sites.{InBox}
 use Rattle.atam.specs.Growth.{IsLeastOpenAmong}
-use Rattle.attach_rule.specs.Searches.{row_at}
+use Rattle.attach_rule.specs.Inner.Searches.{row_at}
 use Rattle.attach_rule.proofs.Searched.{column_none, column_found}
 use Rattle.attach_rule.proofs.inside.least_in_row.Goals as goal
 

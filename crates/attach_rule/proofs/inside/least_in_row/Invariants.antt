@@ -1,7 +1,7 @@
 use Rattle.std.proofs.Common.{None}
 use Rattle.atam.specs.Sites.{InBox}
 use Rattle.atam.specs.Growth.{IsLeastOpenAmong}
-use Rattle.attach_rule.specs.Searches.{row_at}
+use Rattle.attach_rule.specs.Inner.Searches.{row_at}
 use Rattle.attach_rule.proofs.Searched.{first_columns}
 use Rattle.attach_rule.proofs.inside.least_in_row.Given as goal
 

@@ -1,6 +1,6 @@
 use Rattle.std.proofs.Common.{None}
 use Rattle.atam.specs.Growth.{IsLeastOpenAmong}
-use Rattle.attach_rule.specs.Searches.{IsAtEnds}
+use Rattle.attach_rule.specs.Inner.Searches.{IsAtEnds}
 use Rattle.attach_rule.proofs.Searched.{first_rows}
 use Rattle.attach_rule.proofs.outside.least_at_ends.Given as goal
 

@@ -2,7 +2,7 @@ use Rattle.std.proofs.Common.{◌<◌, ◌∙◌, length, arith, sym, refl}
 use Rattle.atam.specs.Sites.{InBox}
 use Rattle.atam.proofs.Lists.{All-slice_get}
 use Rattle.atam.proofs.Boxes.{near_inside}
-use Rattle.assembly.proofs.Opening.{Fits-part}
+use Rattle.atam.proofs.Opening.{Fits-part}
 use Rattle.local_check.proofs.Judging.{pull_by_inputs, exact_more}
 use Rattle.local_check.proofs.judgement.first_inexact.Goals as goal
 

@@ -11,7 +11,7 @@ use Rattle.local_check.proofs.judgement.rival.Goals.{else-number-place-via-then-
 use Rattle.atam.specs.Sites.{InBox}
 use Rattle.atam.proofs.Lists.{All-slice_get}
 use Rattle.atam.proofs.Boxes.{near_inside}
-use Rattle.assembly.proofs.Opening.{Fits-part}
+use Rattle.atam.proofs.Opening.{Fits-part}
 use Rattle.local_check.proofs.judgement.rival.Goals as goal
 
 pub pull_on-requires-clause-near : goal.pull_on-requires-clause-near

@@ -6,11 +6,11 @@ use Rattle.atam.specs.Placements.{SamePlacements}
 use Rattle.atam.specs.TileSystem.{IsType}
 use Rattle.atam.proofs.Lists.{All-slice_get}
 use Rattle.local_check.specs.declared.side_set.SideSet.{SideSet}
-use Rattle.local_check.specs.SideSets.{AreEarlierAt, bound_sides}
+use Rattle.local_check.specs.Inner.Sides.{AreEarlierAt, bound_sides}
 use Rattle.atam.proofs.Boxes.{near_inside}
-use Rattle.assembly.proofs.Opening.{Fits-part}
+use Rattle.atam.proofs.Opening.{Fits-part}
 use Rattle.assembly.proofs.Putting.{part_take, SamePlacements-more}
-use Rattle.local_check.proofs.Sites.{SameTiles-from}
+use Rattle.atam.proofs.Tiles.{SameTiles-from}
 use Rattle.local_check.proofs.Sides.{bound_sides-same, earlier_more, empty_before, taken_distinct, length-push}
 use Rattle.local_check.proofs.side_table.earlier_sides.Goals as goal
 use Rattle.local_check.proofs.side_table.earlier_sides.Goals.{then-index-seed_count, else-index-seed_count}

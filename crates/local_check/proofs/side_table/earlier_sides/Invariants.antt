@@ -1,6 +1,6 @@
 use Rattle.std.proofs.Common.{◌≡◌, ◌≤◌, length, take, max}
 use Rattle.atam.specs.Placements.{SamePlacements}
-use Rattle.local_check.specs.SideSets.{AreEarlierAt}
+use Rattle.local_check.specs.Inner.Sides.{AreEarlierAt}
 use Rattle.local_check.proofs.side_table.earlier_sides.Given as goal
 
 -- the seeds and the places so far stand in the grid, and there is a set for each place so far

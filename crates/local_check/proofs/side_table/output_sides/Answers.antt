@@ -4,10 +4,10 @@ use Rattle.atam.specs.Sites.{InBox}
 use Rattle.atam.proofs.Lists.{All-slice_get}
 use Rattle.atam.proofs.Sequences.{IsLegal-distinct}
 use Rattle.local_check.specs.declared.side_set.SideSet.{SideSet}
-use Rattle.local_check.specs.SideSets.{AreOutputsAt}
+use Rattle.local_check.specs.Inner.Sides.{AreOutputsAt}
 use Rattle.atam.proofs.Boxes.{near_inside}
-use Rattle.assembly.proofs.Opening.{Fits-part}
-use Rattle.local_check.proofs.Sites.{SameTiles-from}
+use Rattle.atam.proofs.Opening.{Fits-part}
+use Rattle.atam.proofs.Tiles.{SameTiles-from}
 use Rattle.local_check.proofs.Sides.{bound_sides-same, outputs_more, length-push}
 use Rattle.local_check.proofs.side_table.output_sides.Goals as goal
 

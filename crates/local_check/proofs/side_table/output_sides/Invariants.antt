@@ -1,5 +1,5 @@
 use Rattle.std.proofs.Common.{◌≡◌, ◌≤◌, length}
-use Rattle.local_check.specs.SideSets.{AreOutputsAt}
+use Rattle.local_check.specs.Inner.Sides.{AreOutputsAt}
 use Rattle.local_check.proofs.side_table.output_sides.Given as goal
 
 -- there is a set for each place so far

@@ -2,7 +2,7 @@ use Rattle.std.proofs.Common.{List, subst}
 use Rattle.atam.specs.declared.site.Site.{Site}
 use Rattle.atam.specs.Sites.{neighbor}
 use Rattle.atam.specs.declared.site.Side.TheVariants.{North, East, South}
-use Rattle.replay_order.specs.Replays.{AddsIfReady, AddsReadyBeside}
+use Rattle.replay_order.specs.Inner.Replays.{AddsIfReady, AddsReadyBeside}
 use Rattle.replay_order.proofs.ReadySites.{added_beside}
 use Rattle.replay_order.proofs.Begun.{OnOk-map}
 use Rattle.replay_order.proofs.canonical.add_ready_beside.Goals as goal

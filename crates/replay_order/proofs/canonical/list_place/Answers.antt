@@ -3,8 +3,8 @@ use Rattle.atam.specs.declared.place.Place.{Place}
 use Rattle.atam.specs.declared.area.BoxArea.{BoxArea}
 use Rattle.atam.specs.Sites.{InBox}
 use Rattle.atam.specs.Assembly.{Fits}
-use Rattle.replay_order.specs.Replays.{AddsReadyBeside, AreReadySites}
-use Rattle.assembly.proofs.Opening.{Fits-part}
+use Rattle.replay_order.specs.Inner.Replays.{AddsReadyBeside, AreReadySites}
+use Rattle.atam.proofs.Opening.{Fits-part}
 use Rattle.replay_order.proofs.ReadySites.{Fits-tile, part_push, ready_after}
 use Rattle.replay_order.proofs.Begun.{OnOk-map}
 use Rattle.replay_order.proofs.canonical.list_place.Goals as goal

@@ -1,9 +1,10 @@
 use Rattle.std.proofs.Common.{◌≡◌, ◌<◌, ◌-◌, ◌∷◌, ◌++◌, [], length, length-append, Some, IsSome, ◌∙◌, ap, sym, subst, arith, rules}
 use Rattle.atam.specs.declared.place.Place.{Place}
 use Rattle.atam.specs.Placements.{tile_at}
-use Rattle.replay_order.specs.Replays.{IsBegun}
+use Rattle.atam.specs.Canonical.{BeginsCanonical}
+use Rattle.atam.proofs.Beginnings.{begun_part}
 use Rattle.replay_order.proofs.ReadySites.{ready_but}
-use Rattle.replay_order.proofs.Begun.{begun_part, begun_whole, begun_push, fewer_listed}
+use Rattle.replay_order.proofs.Begun.{begun_whole, next_begun, fewer_listed}
 use Rattle.replay_order.proofs.canonical.list_ready.Goals as goal
 
 pub unwrap-tile-requires : goal.unwrap-tile-requires
@@ -30,7 +31,7 @@ loop-site-smaller c =
     let p : Place = record { site = c.in-Some.site; tile = c.unwrap-tile.result } in
     let here = (c.loop-site.invariant.ready c.in-Some.site).0 c.in-Some.ensures.member in
     let placed : tile_at tiles p.site ≡ Some p.tile = sym c.at.ensures.tile ∙ c.unwrap-tile.ensures in
-    let few = fewer_listed c.args.sys.now tiles s c.loop-site.invariant.begun c.requires.distinct p placed here.empty in
+    let few = fewer_listed c.args.sys.now tiles s c.loop-site.invariant.begun c.requires.distinct c.requires.valid.distinct_seeds p placed here.empty in
     let longer : length c.list_place.new.listing.places ≡ length (s ++ p ∷ []) = ap length c.in_ok-list_place.ensures.listed in
     let smaller : length tiles - length c.list_place.new.listing.places < length tiles - length s = omega (arith, few, longer, length-append s (p ∷ [])) in
     smaller
@@ -44,8 +45,8 @@ loop-site-preserved c =
     let placed : tile_at tiles p.site ≡ Some p.tile = sym c.at.ensures.tile ∙ c.unwrap-tile.ensures in
     record {
       area = c.in_ok-list_place.ensures.area ∙ c.loop-site.invariant.area;
-      begun = subst (IsBegun sys tiles) (sym c.in_ok-list_place.ensures.listed) (
-          begun_push sys tiles s c.loop-site.invariant.begun c.requires.distinct c.loop-site.ready c.loop-site.invariant.ready p placed c.in-Some.ensures.member c.in-Some.ensures.least
+      begun = subst (BeginsCanonical sys tiles) (sym c.in_ok-list_place.ensures.listed) (
+          next_begun sys tiles s c.loop-site.invariant.begun c.requires.distinct c.loop-site.ready c.loop-site.invariant.ready p placed c.in-Some.ensures.member c.in-Some.ensures.least
           );
       ready = c.in_ok-list_place.ensures.ready;
     }

@@ -1,7 +1,7 @@
 use Rattle.std.proofs.Common.{List, [], sym, subst}
 use Rattle.atam.specs.declared.site.Site.{Site}
 use Rattle.atam.specs.declared.place.Place.{Place}
-use Rattle.replay_order.specs.Replays.{AreReadySites}
+use Rattle.replay_order.specs.Inner.Replays.{AreReadySites}
 use Rattle.replay_order.proofs.ReadySites.{none_ready, ready_but}
 use Rattle.replay_order.proofs.canonical.list_seeds.Goals as goal
 

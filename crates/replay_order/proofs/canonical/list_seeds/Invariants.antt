@@ -1,5 +1,5 @@
 use Rattle.std.proofs.Common.{◌≡◌, take}
-use Rattle.replay_order.specs.Replays.{AreReadySites}
+use Rattle.replay_order.specs.Inner.Replays.{AreReadySites}
 use Rattle.replay_order.proofs.canonical.list_seeds.Given as goal
 
 -- the seeds so far are listed, and the sites of the set are those that are ready

@@ -1,7 +1,8 @@
-use Rattle.std.proofs.Common.{◌≤◌, ◌-◌, ◌∙◌, sym, subst, arith, length, Some, None}
+use Rattle.std.proofs.Common.{rules, ◌≤◌, ◌-◌, ◌∙◌, sym, subst, arith, length, Some, None}
 use Rattle.atam.specs.declared.area.BoxArea.{BoxArea}
-use Rattle.replay_order.specs.Replays.{IsLeastLeft}
-use Rattle.replay_order.specs.ReplayAnswers.{IsWholeOrder}
+use Rattle.replay_order.specs.Inner.Replays.{IsLeastLeft}
+use Rattle.replay_order.specs.ReplayAnswers.{LacksSeed, IsWholeOrder}
+use Rattle.replay_order.proofs.Begun.{lacks_no_seed}
 use Rattle.replay_order.proofs.Ended.{listed_count, whole_order, stuck_at}
 use Rattle.replay_order.proofs.canonical.replay.Goals as goal
 
@@ -45,3 +46,17 @@ returns-in-Some-clause-answer c =
     listed_count sys tiles s c.requires.fits c.area-area.ensures.distinct c.holds_seeds.ensures.distinct c.in_ok-listing.ensures in
     stuck_at sys tiles s c.requires.fits c.area-area.ensures.distinct c.holds_seeds.ensures.distinct c.in_ok-listing.ensures c.in-Some.least found
     (c.count.result - c.len.result) (omega (arith, few, c.len.ensures, c.count.ensures))
+
+pub returns-in-None-clause-producible : goal.returns-in-None-clause-producible
+returns-in-None-clause-producible c = λ _. (λ _. (returns-in-None-clause-answer c).producible, λ _. search rules)
+
+pub returns-in-Some-clause-producible : goal.returns-in-Some-clause-producible
+returns-in-Some-clause-producible c =
+    λ _. (λ ok. absurd (search rules), λ producible. absurd ((returns-in-Some-clause-answer c).unproducible producible))
+
+pub returns-then-not-holds_seeds-clause-producible : goal.returns-then-not-holds_seeds-clause-producible
+returns-then-not-holds_seeds-clause-producible c =
+    let sys = c.args.sys.now in
+    let tiles = c.args.grid.now.tiles in
+    let lacks : LacksSeed sys tiles = search rules in
+    λ _. (λ ok. absurd (search rules), λ producible. absurd (lacks_no_seed sys tiles c.holds_seeds.ensures.distinct c.area-area.ensures.distinct producible lacks))

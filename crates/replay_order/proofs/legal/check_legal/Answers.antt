@@ -4,7 +4,7 @@ use Rattle.atam.specs.Sites.{InBox}
 use Rattle.atam.specs.TileSystem.{IsType}
 use Rattle.atam.proofs.Lists.{All-slice_get}
 use Rattle.atam.proofs.Boxes.{near_inside}
-use Rattle.assembly.proofs.Opening.{Fits-part}
+use Rattle.atam.proofs.Opening.{Fits-part}
 use Rattle.assembly.proofs.Putting.{part_take, SamePlacements-more}
 use Rattle.replay_order.proofs.Sequences.{first_taken, first_weak, legal_more, taken_illegal, weak_illegal}
 use Rattle.replay_order.proofs.legal.check_legal.Goals as goal

@@ -3,7 +3,7 @@ use Rattle.std.proofs.lemmas.Int.{ints}
 use Rattle.std.proofs.lemmas.Result.{on_ok_weaker}
 use Rattle.atam.specs.declared.area.BoxArea.{BoxArea}
 use Rattle.atam.specs.Sites.{InBox}
-use Rattle.assembly.proofs.Opening.{Fits-part}
+use Rattle.atam.proofs.Opening.{Fits-part}
 use Rattle.tilebench.proofs.Looked.{looked_at_none, looked_at_some}
 use Rattle.tilebench.proofs.grid_growth.look.Goals as goal
 

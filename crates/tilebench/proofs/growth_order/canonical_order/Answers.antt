@@ -2,8 +2,8 @@ use Rattle.std.proofs.Common.{List, subst}
 use Rattle.atam.specs.declared.place.Place.{Place}
 use Rattle.atam.specs.Placements.{HasDistinctSites}
 use Rattle.atam.proofs.Canon.{canonical_IsLegal}
-use Rattle.assembly.proofs.Opening.{Fits-part}
-use Rattle.tilebench.proofs.Growths.{lacks_no_seed}
+use Rattle.atam.proofs.Opening.{Fits-part}
+use Rattle.replay_order.proofs.Begun.{lacks_no_seed}
 use Rattle.tilebench.proofs.growth_order.canonical_order.Goals as goal
 
 pub unreachable-requires : goal.unreachable-requires

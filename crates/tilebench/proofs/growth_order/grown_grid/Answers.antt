@@ -1,4 +1,4 @@
-use Rattle.assembly.proofs.Opening.{Fits-part}
+use Rattle.atam.proofs.Opening.{Fits-part}
 use Rattle.tilebench.proofs.Growths.{full_growth}
 use Rattle.tilebench.proofs.growth_order.grown_grid.Goals as goal
 

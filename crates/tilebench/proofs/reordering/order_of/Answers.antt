@@ -1,4 +1,4 @@
-use Rattle.assembly.proofs.Opening.{Fits-part}
+use Rattle.atam.proofs.Opening.{Fits-part}
 use Rattle.tilebench.proofs.reordering.order_of.Goals as goal
 
 pub returns-in-Ok-clause-printable : goal.returns-in-Ok-clause-printable

@@ -1,7 +1,7 @@
 use Rattle.std.proofs.Common.{refl}
-use Rattle.assembly.proofs.Opening.{Fits-part}
+use Rattle.atam.proofs.Opening.{Fits-part}
 use Rattle.grow_core.specs.Core.{places}
-use Rattle.local_check.proofs.Sites.{same_back}
+use Rattle.atam.proofs.Tiles.{same_back}
 use Rattle.unique_law.proofs.OneOutcome.{canonical_too}
 use Rattle.tilebench.proofs.Scheduling.{core_fits}
 use Rattle.tilebench.proofs.schedule.schedule_of.Goals as goal

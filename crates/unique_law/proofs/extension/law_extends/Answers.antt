@@ -4,9 +4,9 @@ use Rattle.atam.specs.Growth.{IsLegal}
 use Rattle.atam.proofs.Sequences.{IsLegal-distinct}
 use Rattle.atam.proofs.Confluence.{confluence_part}
 use Rattle.atam.proofs.Extension.{extension_legal, extension_same}
-use Rattle.assembly.proofs.Opening.{Fits-part}
+use Rattle.atam.proofs.Opening.{Fits-part}
 use Rattle.replay_order.specs.Legalities.{legal_part}
-use Rattle.local_check.proofs.Sites.{SameTiles-from}
+use Rattle.atam.proofs.Tiles.{SameTiles-from}
 use Rattle.unique_law.proofs.Rests.{rest_of-same, few}
 use Rattle.unique_law.proofs.extension.law_extends.Goals as goal
 

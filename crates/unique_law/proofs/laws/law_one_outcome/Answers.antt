@@ -2,7 +2,7 @@ use Rattle.unique_law.proofs.OneOutcome.{one_full_growth, outcome_by_placements,
 use Rattle.unique_law.proofs.laws.law_one_outcome.Goals as goal
 
 pub returns-clause-placements : goal.returns-clause-placements
-returns-clause-placements c = λ sys s tiles distinct. one_full_growth sys distinct s tiles
+returns-clause-placements c = λ sys s tiles distinct found. one_full_growth sys distinct s tiles found.deterministic found.inside
 
 pub returns-clause-outcome : goal.returns-clause-outcome
 returns-clause-outcome c = outcome_by_placements
@@ -11,7 +11,7 @@ pub returns-clause-yes : goal.returns-clause-yes
 returns-clause-yes c = λ sys a b o p distinct. one_outcome sys distinct a b o p
 
 pub returns-clause-throughout : goal.returns-clause-throughout
-returns-clause-throughout c = λ sys s tiles o distinct. yes_throughout sys distinct s tiles o
+returns-clause-throughout c = λ sys s tiles o distinct found. yes_throughout sys distinct s tiles o found.deterministic found.inside
 
 pub returns-clause-grows : goal.returns-clause-grows
 returns-clause-grows c = λ sys tiles b o distinct. grows_into_outcome sys distinct tiles b o

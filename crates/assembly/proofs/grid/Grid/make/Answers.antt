@@ -1,7 +1,7 @@
 use Rattle.std.proofs.Common.{◌*◌, ◌∙◌, ap}
 use Rattle.assembly.specs.Cells.{site_at}
 use Rattle.assembly.specs.Grids.{places_of}
-use Rattle.assembly.proofs.Words.{places-replicate}
+use Rattle.assembly.proofs.Contents.{places-replicate}
 use Rattle.assembly.proofs.grid.Grid.make.Goals as goal
 
 pub returns-clause-empty : goal.returns-clause-empty

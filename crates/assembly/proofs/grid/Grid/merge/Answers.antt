@@ -7,36 +7,38 @@ use Rattle.atam.specs.declared.place.TypeId.{TypeId}
 use Rattle.atam.specs.declared.place.Place.{Place}
 use Rattle.atam.specs.Placements.{SamePlacements, tile_at}
 use Rattle.assembly.specs.Cells.{cell_count, site_at}
-use Rattle.assembly.specs.Grids.{is_tile, places_of}
-use Rattle.assembly.specs.Filling.{filled_word}
-use Rattle.assembly.proofs.Cells.{cell_count-most}
-use Rattle.assembly.proofs.Tiles.{SameTiles}
+use Rattle.assembly.specs.Grids.{places_of}
+use Rattle.assembly.specs.Inner.GridCells.{is_tile}
+use Rattle.assembly.specs.Inner.Filling.{filled_cell}
+use Rattle.assembly.proofs.Cells.{cell_count-most, site_at-injective}
+use Rattle.assembly.proofs.Contents.{places-distinct}
+use Rattle.atam.proofs.Tiles.{SameTiles}
 use Rattle.assembly.proofs.Grids.{merge_tiles, merge_placements}
 use Rattle.assembly.proofs.grid.Grid.merge.Goals as goal
 
 pub overflow_add-self : goal.overflow_add-self
 overflow_add-self c =
-    let words = c.self.inside.words.items in
-    let new = c.fill_gaps.new.words in
+    let cells = c.self.inside.cells.items in
+    let new = c.fill_gaps.new.cells in
     let grid = c.self.invariant in
-    let before : count_by is_tile c.as_mut_slice.result.now ≡ count_by is_tile words = ap (count_by is_tile) c.as_mut_slice.ensures.value in
+    let before : count_by is_tile c.as_mut_slice.result.now ≡ count_by is_tile cells = ap (count_by is_tile) c.as_mut_slice.ensures.value in
     omega (
       arith,
       count_by-le-length is_tile new,
       cell_count-most c.self.inside.area grid.box_limits,
-      grid.cells,
+      grid.sites,
       grid.counted,
       before,
       c.fill_gaps.ensures.count,
-      c.fill_gaps.auto.words,
+      c.fill_gaps.auto.cells,
       ap length c.as_mut_slice.ensures.value,
     )
 
--- what the words that were filled stand for
-module _ (area other_area : BoxArea) (same_area : area ≡ other_area) (words other_words a b new : List ℕ) (a_is : a ≡ words) (b_is : b ≡ other_words)
-    (cells : length words ≡ cell_count area) (other_cells : length other_words ≡ cell_count other_area) (as_long : length new ≡ length a)
-    (filled : (k : ℕ) → k < length a → get_or new k 0 ≡ filled_word a b k) (rest : List ℕ) (long : ℕ) (long_is : long ≡ length words)
-    (old other : List Place) (view : places_of (site_at area) 0 words ≡ old) (other_view : places_of (site_at other_area) 0 other_words ≡ other) where
+-- what the cells that were filled stand for
+module _ (area other_area : BoxArea) (same_area : area ≡ other_area) (cells other_cells a b new : List ℕ) (a_is : a ≡ cells) (b_is : b ≡ other_cells)
+    (sites : length cells ≡ cell_count area) (other_sites : length other_cells ≡ cell_count other_area) (as_long : length new ≡ length a)
+    (filled : (k : ℕ) → k < length a → get_or new k 0 ≡ filled_cell a b k) (rest : List ℕ) (long : ℕ) (long_is : long ≡ length cells)
+    (old other : List Place) (view : places_of (site_at area) 0 cells ≡ old) (other_view : places_of (site_at other_area) 0 other_cells ≡ other) where
   is_new : take long (new ++ rest) ≡ new
   is_new = take_at new rest long (omega (arith, as_long, ap length a_is, long_is))
 
@@ -47,7 +49,7 @@ module _ (area other_area : BoxArea) (same_area : area ≡ other_area) (words ot
   view_b = ap (λ r. places_of (site_at r) 0 b) same_area ∙ ap (places_of (site_at other_area) 0) b_is ∙ other_view
 
   length_b : length b ≡ length new
-  length_b = ap length b_is ∙ other_cells ∙ ap cell_count (sym same_area) ∙ sym cells ∙ sym (ap length a_is) ∙ sym as_long
+  length_b = ap length b_is ∙ other_sites ∙ ap cell_count (sym same_area) ∙ sym sites ∙ sym (ap length a_is) ∙ sym as_long
 
   merged_tiles : SameTiles (places_of (site_at area) 0 (take long (new ++ rest))) (old ++ other)
   merged_tiles =
@@ -63,15 +65,21 @@ module _ (area other_area : BoxArea) (same_area : area ≡ other_area) (words ot
 pub returns-clause-tiles : goal.returns-clause-tiles
 returns-clause-tiles c =
     merged_tiles c.self.inside.area c.other.inside.area (ap (λ v. v.area) c.self.view_is ∙ sym c.requires.area ∙ sym (ap (λ v. v.area) c.other.view_is))
-    c.self.inside.words.items c.other.inside.words.items c.as_mut_slice.result.now c.as_slice.result.now c.fill_gaps.new.words
-    c.as_mut_slice.ensures.value c.as_slice.ensures.value c.self.invariant.cells c.other.invariant.cells c.fill_gaps.auto.words c.fill_gaps.ensures.filled
-    (drop (length c.fill_gaps.new.words) c.self.inside.words.items) c.self.inside.words.len c.self.inside.words.ok.0
+    c.self.inside.cells.items c.other.inside.cells.items c.as_mut_slice.result.now c.as_slice.result.now c.fill_gaps.new.cells
+    c.as_mut_slice.ensures.value c.as_slice.ensures.value c.self.invariant.sites c.other.invariant.sites c.fill_gaps.auto.cells c.fill_gaps.ensures.filled
+    (drop (length c.fill_gaps.new.cells) c.self.inside.cells.items) c.self.inside.cells.len c.self.inside.cells.ok.0
     c.args.self.now.tiles c.args.other.now.tiles (ap (λ v. v.tiles) c.self.view_is) (ap (λ v. v.tiles) c.other.view_is)
 
 pub returns-clause-placements : goal.returns-clause-placements
 returns-clause-placements c =
     merged_placements c.self.inside.area c.other.inside.area (ap (λ v. v.area) c.self.view_is ∙ sym c.requires.area ∙ sym (ap (λ v. v.area) c.other.view_is))
-    c.self.inside.words.items c.other.inside.words.items c.as_mut_slice.result.now c.as_slice.result.now c.fill_gaps.new.words
-    c.as_mut_slice.ensures.value c.as_slice.ensures.value c.self.invariant.cells c.other.invariant.cells c.fill_gaps.auto.words c.fill_gaps.ensures.filled
-    (drop (length c.fill_gaps.new.words) c.self.inside.words.items) c.self.inside.words.len c.self.inside.words.ok.0
+    c.self.inside.cells.items c.other.inside.cells.items c.as_mut_slice.result.now c.as_slice.result.now c.fill_gaps.new.cells
+    c.as_mut_slice.ensures.value c.as_slice.ensures.value c.self.invariant.sites c.other.invariant.sites c.fill_gaps.auto.cells c.fill_gaps.ensures.filled
+    (drop (length c.fill_gaps.new.cells) c.self.inside.cells.items) c.self.inside.cells.len c.self.inside.cells.ok.0
     c.args.self.now.tiles c.args.other.now.tiles (ap (λ v. v.tiles) c.self.view_is) (ap (λ v. v.tiles) c.other.view_is) c.requires.agree
+
+pub returns-clause-distinct : goal.returns-clause-distinct
+returns-clause-distinct c =
+    let cells = c.self.inside.cells in
+    let new = c.fill_gaps.new.cells in
+    places-distinct (site_at c.self.inside.area) (site_at-injective c.self.inside.area) 0 (take cells.len (new ++ drop (length new) cells.items))

@@ -1,7 +1,7 @@
 use Rattle.std.proofs.Common.{ap}
 use Rattle.grow_core.specs.Core.{places}
 use Rattle.grow_core.specs.Inner.Tables.{BoxedTiles}
-use Rattle.assembly.proofs.Tiles.{SamePlacements-from_tiles}
+use Rattle.atam.proofs.Tiles.{SamePlacements-from_tiles}
 use Rattle.grow_core.proofs.placed_tiles.PlacedTiles.grid.Goals as goal
 
 pub returns-clause-placements : goal.returns-clause-placements

@@ -1,7 +1,8 @@
 use Rattle.std.proofs.Common.{◌≡◌, ◌++◌, ◌∷◌, [], None, List, length, nat_cmp, subst, sym, rules}
 use Rattle.std.specs.BTreeMap.{insert_entry}
 use Rattle.std.specs.Cmp.Lexicographic.{slice_cmp}
-use Rattle.tile_system.specs.Names.{index_named, IsIndexOf}
+use Rattle.tile_system.specs.Names.{index_named}
+use Rattle.tile_system.specs.Inner.Indices.{IsIndexOf}
 use Rattle.tile_system.proofs.NamedLemmas.{IsIndexOf-push}
 use Rattle.tile_system.proofs.named.NamedList.push.Goals as goal
 

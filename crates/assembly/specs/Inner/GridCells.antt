@@ -1,0 +1,16 @@
+-- The cells of a grid.
+use Rattle.std.specs.Prelude.{◌≡◌, ℕ, ◌-◌, ◌==◌, not, Bool, List, length, count_by}
+use Rattle.atam.specs.declared.area.BoxArea.{BoxArea}
+use Rattle.atam.specs.Sites.{IsBox}
+use Rattle.assembly.specs.Cells.{cell_count}
+
+-- a cell is 0 at an empty site, and else one more than the index of the tile's type
+abbrev pub is_tile : ℕ → Bool
+is_tile cell = not (cell == 0)
+
+-- there is one cell for each site of the box, and the tiles are counted
+pub record IsGrid (area : BoxArea) (cells : List ℕ) (count : ℕ) : Type 0 where
+  pub box_limits : IsBox area
+  pub sites : length cells ≡ cell_count area
+  pub counted : count ≡ count_by is_tile cells
+

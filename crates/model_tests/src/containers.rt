@@ -1,0 +1,67 @@
+// A grid and a sequence of the same places.
+use assembly::{Grid, Sequence, site_index, site_of_index};
+use std::test::Fail;
+use tile_system::{BoxArea, Place, Placed, Site, TypeId};
+
+const AREA: BoxArea = BoxArea {
+    x0: -1,
+    y0: -2,
+    x1: 3,
+    y1: 4,
+};
+
+// The least corner, the greatest and a site between: a tile at each, and its number in the box.
+const PLACES: [(i32, i32, u32, usize); 3] = [(-1, -2, 0, 0), (3, 4, 16383, 34), (0, 1, 7, 16)];
+
+fn place(x: i32, y: i32, tile: u32) -> Place {
+    Place {
+        site: Site { x, y },
+        tile: TypeId(tile),
+    }
+}
+
+// Puts a tile where its site is free.
+fn put_free(grid: &mut Grid, place: Place) {
+    if grid.area().holds(place.site) && grid.at(place.site).is_none() && place.tile.0 < 16384 {
+        grid.put(place);
+    }
+}
+
+// The number of a site, if it is in the box.
+fn number(site: Site) -> Option<usize> {
+    if AREA.holds(site) {
+        let index = site_index(&AREA, site);
+        (site_of_index(&AREA, index) == site).then_some(index)
+    } else {
+        None
+    }
+}
+
+#[test]
+fn grids_and_sequences_hold_places(rt: HostRuntime) -> Result<(), Fail> {
+    let mut grid = Grid::make(rt.alloc(), AREA)?;
+    let mut sequence = Sequence::make(rt.alloc());
+    for (x, y, tile, _) in PLACES {
+        put_free(&mut grid, place(x, y, tile));
+        sequence.push(place(x, y, tile))?;
+    }
+    assert_eq!(rt; (grid.area(), grid.count(), sequence.len()), (AREA, 3, 3));
+    let copy = grid.copy()?;
+    grid.clear();
+    assert_eq!(rt; (grid.count(), grid.at(Site { x: 0, y: 1 })), (0, None));
+    grid.merge(&copy);
+    assert_eq!(rt; grid.count(), 3);
+    for (x, y, tile, index) in PLACES {
+        assert_eq!(rt; grid.at(Site { x, y }), Some(TypeId(tile)));
+        assert_eq!(rt; number(Site { x, y }), Some(index));
+    }
+    assert_eq!(rt;
+        sequence.copy()?.as_slice().last().copied(),
+        Some(place(0, 1, 7))
+    );
+    assert_eq!(rt;
+        (grid.at(Site { x: 4, y: 1 }), grid.at(Site { x: 1, y: 0 })),
+        (None, None)
+    );
+    Ok(())
+}
