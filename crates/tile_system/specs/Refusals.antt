@@ -2,6 +2,7 @@
 use Rattle.std.specs.Prelude.{◌≡◌, ℕ, Bool, false, not, ◌&&◌, nat_le, nat_lt, if◌then◌else◌, List, [], ◌∷◌, length, Option, Some, None, IsSome, IsSomeAnd, is_some, Any, Result, Ok, Err}
 use Rattle.std.specs.List.{list_any}
 use Rattle.std.specs.Option.{option_map_or}
+use Rattle.atam.specs.declared.limits.TheConstants.{MOST_GLUES, MOST_TYPES, MOST_STRENGTH, MOST_TAU}
 use Rattle.atam.specs.declared.place.GlueId.{GlueId}
 use Rattle.atam.specs.Sites.{InBox}
 use Rattle.atam.specs.TileSystem.{is_name}
@@ -32,16 +33,16 @@ StopsUnless P stop (Err answer) = (answer ≡ stop) × ¬ P
 
 -- why a temperature is refused
 unfoldable pub make_refusal : ℕ → Option BuildStop
-make_refusal tau = first_refusal ((not (nat_le 1 tau && nat_le tau 1000), OutOfRange) ∷ [])
+make_refusal tau = first_refusal ((not (nat_le 1 tau && nat_le tau MOST_TAU), OutOfRange) ∷ [])
 
 -- why a glue is refused
 unfoldable pub glue_refusal : Draft → List ℕ → ℕ → Option BuildStop
 glue_refusal draft name strength =
     first_refusal
-    ((nat_le 8192 (length draft.glues), TooMany)
+    ((nat_le MOST_GLUES (length draft.glues), TooMany)
     ∷ (not (is_name name), BadName)
     ∷ (is_some (glue_named draft.glues name), DoubleName)
-    ∷ (nat_lt 250 strength, OutOfRange)
+    ∷ (nat_lt MOST_STRENGTH strength, OutOfRange)
     ∷ [])
 
 -- whether a side has a glue that isn't there
@@ -52,7 +53,7 @@ is_unknown draft side = option_map_or (λ g. nat_le (length draft.glues) g.0) si
 unfoldable pub tile_refusal : Draft → List ℕ → List (Option GlueId) → Option BuildStop
 tile_refusal draft name sides =
     first_refusal
-    ((nat_le 16384 (length draft.types), TooMany)
+    ((nat_le MOST_TYPES (length draft.types), TooMany)
     ∷ (not (is_name name), BadName)
     ∷ (is_some (type_named draft.types name), DoubleName)
     ∷ (list_any (is_unknown draft) sides, UnknownGlue)

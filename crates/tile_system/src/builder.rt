@@ -1,5 +1,5 @@
 // A system is built up, item by item.
-ghost use Rattle.std.specs.Prelude.{◌≡◌, ◌<◌, ◌≤◌, ◌≤ℤ◌, ◌+ℤ◌, pos, negsuc, nat_le, false, [], ◌∷◌, length, None, Some, option_map, IsTrue, ◌↔◌, OnOk, OnErr, IfOk, IfErr};
+ghost use Rattle.std.specs.Prelude.{◌≡◌, ◌<◌, ◌≤◌, ◌≤ℤ◌, ◌+ℤ◌, ◌-◌, pos, nat_le, false, [], ◌∷◌, length, None, Some, option_map, IsTrue, ◌↔◌, OnOk, OnErr, IfOk, IfErr};
 ghost use Rattle.std.specs.Option.{option_map_or, option_to_list};
 ghost use Rattle.std.specs.List.{list_any};
 ghost use Rattle.atam.specs.Sites.{HasCorners, IsBox};
@@ -11,15 +11,12 @@ ghost use Rattle.tile_system.specs.Refusals.{refusal_of, StopsUnless, LacksFirst
 use crate::entries::{GlueEntry, TypeEntry};
 use crate::named::NamedList;
 use crate::{BuildStop, NoMemory, System, is_name};
-use atam::{BoxArea, GlueId, Place, TypeId};
+use atam::{
+    BoxArea, GREATEST_CORNER, GlueId, LEAST_CORNER, LONGEST_SIDE, MOST_GLUES, MOST_STRENGTH,
+    MOST_TAU, MOST_TYPES, Place, TypeId,
+};
 use std::alloc::Global;
 use std::marker::Model;
-
-const MOST_GLUES: u32 = 8192;
-
-const MOST_TYPES: u32 = 16384;
-
-const MOST_STRENGTH: u32 = 250;
 
 /// A system in the making.
 #[derive(Drop)]
@@ -65,7 +62,7 @@ impl SystemBuilder {
         ensures ok { IfOk result (λ draft. draft
             ≡ record { glues = []; types = []; tau = tau; area = None; seeds = [] }) }
     {
-        if tau < 1 || tau > 1000 {
+        if tau < 1 || tau > MOST_TAU {
             return Err(BuildStop::OutOfRange);
         }
         let mut seeds = Vec::new(alloc);
@@ -181,7 +178,7 @@ impl SystemBuilder {
     /// Gives the temperature, in place of the earlier one.
     pub fn set_tau(&mut self, tau: u32)
         requires some { 1 ≤ tau }
-        requires most { tau ≤ 1000 }
+        requires most { tau ≤ MOST_TAU }
         ensures { self.new ≡ record self.old { tau = tau } }
     {
         self.tau = tau;
@@ -327,20 +324,21 @@ fn is_box(area: BoxArea) -> bool
     has_corners(area) && is_short(area)
 }
 
-// Whether both sides have 1024 sites or fewer.
+// Whether no side has too many sites.
 fn is_short(area: BoxArea) -> bool
     requires { HasCorners area }
     ensures { IsTrue result
-        ↔ ((area.x1 ≤ℤ (area.x0 +ℤ pos 1023)) × (area.y1 ≤ℤ (area.y0 +ℤ pos 1023))) }
+        ↔ ((area.x1 ≤ℤ (area.x0 +ℤ pos (LONGEST_SIDE - 1)))
+        × (area.y1 ≤ℤ (area.y0 +ℤ pos (LONGEST_SIDE - 1)))) }
 {
     is_short_side(area.x0, area.x1) && is_short_side(area.y0, area.y1)
 }
 
 fn is_short_side(low: i32, high: i32) -> bool
-    requires { low ≤ℤ pos 1000000 }
-    ensures { IsTrue result ↔ (high ≤ℤ (low +ℤ pos 1023)) }
+    requires { low ≤ℤ GREATEST_CORNER }
+    ensures { IsTrue result ↔ (high ≤ℤ (low +ℤ pos (LONGEST_SIDE - 1))) }
 {
-    high <= low + 1023
+    high < low + LONGEST_SIDE as i32
 }
 
 fn has_corners(area: BoxArea) -> bool
@@ -352,7 +350,7 @@ fn has_corners(area: BoxArea) -> bool
 // Whether two coordinates of corners are in order and within their limits.
 fn is_span(low: i32, high: i32) -> bool
     ensures { IsTrue result
-        ↔ ((low ≤ℤ high) × (negsuc 999999 ≤ℤ low) × (high ≤ℤ pos 1000000)) }
+        ↔ ((low ≤ℤ high) × (LEAST_CORNER ≤ℤ low) × (high ≤ℤ GREATEST_CORNER)) }
 {
-    low <= high && -1000000 <= low && high <= 1000000
+    low <= high && LEAST_CORNER <= low && high <= GREATEST_CORNER
 }

@@ -9,4 +9,3 @@ use Rattle.tile_system.specs.Names.{index_named}
 abbrev pub IsIndexOf : {K X : Type 0} → (K → List ℕ) → (X → List ℕ) → BTreeMap K ℕ → List X → Type 0
 IsIndexOf bytes name indices items =
     (wanted : List ℕ) → get_by (λ k. slice_cmp nat_cmp wanted (bytes k)) indices ≡ index_named name items wanted
-

@@ -1,5 +1,6 @@
 use Rattle.std.proofs.Common.{arith, inl, inr}
 use Rattle.std.proofs.lemmas.Bool.{cases_lt}
+use Rattle.atam.specs.Placements.{tile_at}
 use Rattle.attach_rule.proofs.Held.{empty_from, grows_held, fails_unheld, none_unfaced, none_more}
 use Rattle.attach_rule.proofs.attach.first_type.Goals as goal
 
@@ -30,7 +31,7 @@ returns-then-facing_pull-tau g c =
     record {
       grows = grows_held sys tiles c.args.site c.glues_facing-glues.result c.glues_facing-glues.ensures.faces (record { 0 = n }) c.facing_pull.result c.facing_pull.ensures.value
           (omega (arith, c.type_count-index-end.ensures.count))
-          (empty_from c.at.result _ c.is_some.result c.at.ensures.tile c.is_some.ensures c.if-is_some.false)
+          (empty_from c.at.result (tile_at tiles c.args.site) c.is_some.result c.at.ensures.tile c.is_some.ensures c.if-is_some.false)
           (omega (arith, c.tau-tau.ensures.tau));
       least = λ u grows. elim (cases_lt u.0 n) [ inl earlier ↦ absurd (c.loop-index.invariant u earlier grows) | inr rest ↦ rest ];
     }

@@ -1,5 +1,6 @@
 use Rattle.std.proofs.Common.{arith, ap, ◌+◌, ◌∙◌, ◌≡◌, length, sym, subst, List}
 use Rattle.atam.specs.declared.place.TypeId.{TypeId}
+use Rattle.atam.specs.Placements.{tile_at}
 use Rattle.attach_rule.proofs.Held.{empty_from, grows_held, fails_unheld, none_unfaced}
 use Rattle.attach_rule.proofs.Listed.{AreCandidatesBelow, no_candidates, candidates_none, candidates_kept, candidates_more, candidates_all}
 use Rattle.attach_rule.proofs.candidate.candidates.Goals.{then-facing_pull-tau, else-facing_pull-tau}
@@ -32,7 +33,7 @@ loop-index-preserved g c =
       | then-facing_pull-tau w ↦
           let grows = grows_held sys tiles c.args.site c.glues_facing-glues.result c.glues_facing-glues.ensures.faces tile c.facing_pull.result c.facing_pull.ensures.value
           (omega (arith, c.type_count-index-end.ensures.count))
-          (empty_from c.at.result _ c.is_some.result c.at.ensures.tile c.is_some.ensures c.if-is_some.false)
+          (empty_from c.at.result (tile_at tiles c.args.site) c.is_some.result c.at.ensures.tile c.is_some.ensures c.if-is_some.false)
           (omega (arith, c.tau-tau.ensures.tau, w.if-facing_pull-tau.true))
           in
           record {
