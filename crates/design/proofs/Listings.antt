@@ -201,3 +201,23 @@ each-kept P test (x ∷ xs) h = elim (cases_Bool (test x)) [
   | inl stays ↦ rw stays ((h.0, stays), each-kept P test xs h.1)
   | inr goes ↦ rw goes (each-kept P test xs h.1)
 ]
+
+pub length-pairs_from : (limit q len : ℕ) → length (pairs_from limit q len) ≡ len * limit
+length-pairs_from limit q zero = omega arith
+length-pairs_from limit q (suc len) =
+    let row : List (ℕ × ℕ) = map (λ a. (q, a)) (range_with_len 0 limit) in
+    let long : length row ≡ limit = length-map (range_with_len 0 limit) (λ a. (q, a)) ∙ length-range_with_len 0 limit in
+    let more = length-pairs_from limit (q + 1) len in
+    let whole : length (row ++ pairs_from limit (q + 1) len) ≡ length row + length (pairs_from limit (q + 1) len) = length-append row (pairs_from limit (q + 1) len) in
+    let product : suc len * limit ≡ len * limit + limit = suc-mul len limit in
+    whole ∙ omega (arith, long, more, product)
+
+-- what passes a test is no more than there is
+pub length-filter_at_most : {X : Type 0} (test : X → Bool) (xs : List X) → length (filter test xs) ≤ length xs
+length-filter_at_most test [] = omega arith
+length-filter_at_most test (x ∷ xs) =
+    let rest = length-filter_at_most test xs in
+    elim (cases_Bool (test x)) [
+      | inl stays ↦ rw stays (omega (arith, rest))
+      | inr goes ↦ rw goes (omega (arith, rest))
+    ]
