@@ -1,1 +1,3 @@
+pub mod AtHand
+pub mod Headers
 pub mod LineAt

@@ -1,0 +1,55 @@
+-- One step of a reader of lines.
+use Rattle.std.proofs.Common.{◌≡◌, ℕ, Bool, true, false, List, [], ◌∷◌, ◌++◌, length, Ok, Err, Result, refl, sym, ap, subst}
+use Rattle.tile_io.specs.declared.fault.Cause.{Cause}
+use Rattle.tile_io.specs.declared.fault.Cause.TheVariants.{NoEnd}
+use Rattle.tile_io.specs.declared.mark.Mark.{Mark}
+use Rattle.tile_io.specs.declared.reading.Line.{Line}
+use Rattle.tile_io.specs.declared.take_lines.LineStop.{LineStop}
+use Rattle.tile_io.specs.declared.take_lines.LineStop.TheVariants as stops
+use Rattle.tile_io.specs.Lines.{lines_from, mark_after, words_of, AreSkipped}
+use Rattle.tile_io.specs.NextLine.{IsNextLine, line_bytes}
+use Rattle.tile_io.specs.Formats.{Fault, missing_cause}
+use Rattle.tile_io.specs.Checks.{Table, table_format, check_line}
+use Rattle.tile_io.specs.LineReader.{TakesItem, ReadsInto}
+use Rattle.tile_io.specs.Inner.Headers.{first_cause}
+use Rattle.tile_io.proofs.Progress.{Progress, progress_item, progress_end, progress_fault, progress_missing, progress_complete}
+use Rattle.tile_io.proofs.Rows.{header_passes, header_fails}
+
+module _ {Item : Type 0} where
+  -- what a reader makes of some words
+  abbrev pub Takes : Table Item → (List Item → Type 0) → List Item → List (List ℕ) → Result Bool LineStop → Type 0
+  Takes table Holds items words result = TakesItem table.is_end Holds items (check_line table.keywords items words) result
+
+  -- in the same context, at the line's own words
+  pub takes_here : {Context : Type 0} (table : Context → Table Item) {now start : Context} → now ≡ start → (Holds : List Item → Type 0) (items : List Item) {cut words : List (List ℕ)} → cut ≡ words →
+      {found result : Result Bool LineStop} → found ≡ result → Takes (table now) Holds items cut found → Takes (table start) Holds items words result
+  takes_here table {now} {start} same Holds items {cut} {words} cut_is {found} {result} is h =
+      let In : _ → Type 0 = λ x. Takes (table x) Holds items cut found in
+      let At : Result Bool LineStop → Type 0 = λ r. Takes (table start) Holds items cut r in
+      let Of : List (List ℕ) → Type 0 = λ w. Takes (table start) Holds items w result in
+      subst Of cut_is (subst At is (subst In same h))
+
+  module _ (table : Table Item) (text : List ℕ) (from at : Mark) (items : List Item) (line : Line) (h : Progress (table_format table) text from items at) (next : IsNextLine text at line) (Holds : List Item → Type 0) where
+    pub item_step : (took : Takes table Holds items (words_of (line_bytes text line)) (Ok false)) → Progress (table_format table) text from (items ++ took.0 ∷ []) line.next
+    item_step took = progress_item (table_format table) text from at items took.0 line h next (header_passes table.has_header items _ took.0 took.1) took.2
+
+    pub end_step : Takes table Holds items (words_of (line_bytes text line)) (Ok true) → ReadsInto (table_format table) text from Holds line.next
+    end_step took =
+        record { items = items ++ took.0 ∷ []; held = took.3; reads = progress_end (table_format table) text from at items took.0 line h next (header_passes table.has_header items _ took.0 took.1) took.2 }
+
+    pub fault_step : (missing cause : Cause) → missing ≡ missing_cause items → Takes table Holds items (words_of (line_bytes text line)) (Err (stops.Fault cause)) →
+        Fault (table_format table) text from line.number (first_cause table.has_header missing cause)
+    fault_step missing cause m took = progress_fault (table_format table) text from at items (first_cause table.has_header missing cause) line h next (header_fails table.has_header items _ missing cause m took.0)
+
+  pub missing-push : (items : List Item) (item : Item) → NoEnd ≡ missing_cause (items ++ item ∷ [])
+  missing-push [] item = refl
+  missing-push (first ∷ items) item = refl
+
+  module _ (table : Table Item) (text : List ℕ) (from at to : Mark) (items : List Item) (h : Progress (table_format table) text from items at) (skipped : AreSkipped (lines_from text at)) (place : to ≡ mark_after (lines_from text at) at (length (lines_from text at))) where
+    pub complete_step : (Holds : List Item → Type 0) → Holds items → table.is_complete items ≡ true → ReadsInto (table_format table) text from Holds to
+    complete_step Holds held complete =
+        let Into : Mark → Type 0 = λ m. ReadsInto (table_format table) text from Holds m in
+        subst Into (sym place) (record { items = items; held = held; reads = progress_complete (table_format table) text from at items h skipped complete })
+
+    pub missing_step : (missing : Cause) → missing ≡ missing_cause items → table.is_complete items ≡ false → Fault (table_format table) text from to.line missing
+    missing_step missing m incomplete = progress_missing (table_format table) text from at items to.line missing h skipped incomplete (ap (λ m. m.line) place) m

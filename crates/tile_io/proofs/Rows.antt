@@ -1,0 +1,32 @@
+-- A line by its row in a table of keywords, and the cause of a line that fails.
+use Rattle.std.proofs.Common.{◌≡◌, ℕ, ◌<◌, Bool, true, false, List, [], ◌∷◌, length, Some, Result, Ok, Err, refl, sym, ap, ◌∙◌, arith}
+use Rattle.std.specs.Prelude.{bytes_eq, find}
+use Rattle.tile_io.specs.declared.fault.Cause.{Cause}
+use Rattle.tile_io.specs.Formats.{missing_cause}
+use Rattle.tile_io.specs.Checks.{Keyword, check_keyword, check_line, keyword_of, last_of, field, by_header}
+use Rattle.tile_io.specs.Inner.Headers.{first_cause}
+
+module _ {Item : Type 0} where
+  -- the keyword of a line is that of its first word
+  by_word : (keywords : List (Keyword Item)) (words : List (List ℕ)) → 0 < length words → keyword_of keywords words ≡ find (λ row. bytes_eq (field words 0) row.word) keywords
+  by_word keywords [] some = absurd (omega (arith, some))
+  by_word keywords (word ∷ rest) some = refl
+
+  -- a line that may stand where it does passes where its fields do
+  pub check_line_by : (keywords : List (Keyword Item)) (row : Keyword Item) (items : List Item) (words : List (List ℕ)) → 0 < length words →
+      Some row ≡ find (λ row. bytes_eq (field words 0) row.word) keywords → row.has_words (length words) ≡ true → row.may_follow (last_of items) ≡ true → row.has_room items words ≡ true →
+      check_line keywords items words ≡ row.fields items words
+  check_line_by keywords row items words some found count follows room =
+      ap (λ r. check_keyword r items words) (by_word keywords words some ∙ sym found) ∙ rw (count, follows, room) refl
+
+  -- a header that is still missing is what a line lacks that fails
+  pub header_passes : (has_header : Bool) (items : List Item) (check : Result Item Cause) (item : Item) → check ≡ Ok item → by_header has_header items check ≡ Ok item
+  header_passes false items check item e = e
+  header_passes true [] check item e = ap (λ c. by_header true [] c) e
+  header_passes true (first ∷ others) check item e = e
+
+  pub header_fails : (has_header : Bool) (items : List Item) (check : Result Item Cause) (missing cause : Cause) → missing ≡ missing_cause items → check ≡ Err cause →
+      by_header has_header items check ≡ Err (first_cause has_header missing cause)
+  header_fails false items check missing cause m e = e
+  header_fails true [] check missing cause m e = ap (λ c. by_header true [] c) e ∙ ap (λ n. Err (first_cause true n cause)) (sym m)
+  header_fails true (first ∷ others) check missing cause m e = e ∙ ap (λ n. Err (first_cause true n cause)) (sym m)

@@ -1,0 +1,166 @@
+// The kept lines of a text, one after another.
+ghost use Rattle.std.specs.Prelude.{◌≡◌, ◌≤◌, ℕ, List, [], length, find, bytes_eq, option_map};
+ghost use Rattle.tile_io.specs.Lines.{words_of, lines_from, mark_after};
+ghost use Rattle.tile_io.specs.NextLine.{IsMark};
+ghost use Rattle.tile_io.specs.Formats.{ReadsOrStops};
+ghost use Rattle.tile_io.specs.Checks.{Keyword, Table, table_format, check_line, last_of};
+ghost use Rattle.tile_io.specs.LineReader.{TakesItem, MayTake, ReadsInto};
+ghost use Rattle.tile_io.specs.Inner.Headers.{first_cause};
+
+use crate::cut_line::LineWords;
+use crate::fault::{Cause, TextFault, TextStop};
+use crate::mark::Mark;
+use crate::reading::{end_number, next_line};
+use crate::take_lines::LineStop;
+
+/// What reads the lines of a kind of text: a table of its keywords, and what the fields of each make of the reader. The
+/// table may depend on a context, as on the system that a growth text follows; a line never changes the context.
+pub trait LineReader {
+    /// The keywords of the text.
+    type Kind: Copy;
+
+    ghost Item: { Type 0 };
+
+    ghost Context: { Type 0 };
+
+    ghost context: { Self → Context };
+
+    ghost table: { Context → Table Item };
+
+    // The row of a keyword in the table.
+    ghost row: { Context → Self.Kind → Keyword Item };
+
+    // What the reader holds says so much of the lines that were taken.
+    ghost holds: { Self → List Item → Type 0 };
+
+    /// Whether the text begins with a header.
+    fn has_header(&self) -> bool
+        ensures { result ≡ (table (context self.now)).has_header };
+
+    /// The keyword that a word is.
+    fn kind_of(&self, word: &[u8]) -> Option<Self::Kind>
+        ensures { option_map (row (context self.now)) result
+            ≡ find (λ row. bytes_eq word.now row.word) (table (context self.now)).keywords };
+
+    /// Whether a line of this keyword may have so many words.
+    fn has_words(&self, kind: Self::Kind, count: usize) -> bool
+        ensures { result ≡ (row (context self.now) kind).has_words count };
+
+    /// Whether a line of this keyword may stand here.
+    fn may_stand(&self, kind: Self::Kind) -> bool
+        ensures { (items : List Item) → holds self.now items →
+            result ≡ (row (context self.now) kind).may_follow (last_of items) };
+
+    /// Whether the limit of its kind leaves room for a line of this keyword.
+    fn has_room(&self, kind: Self::Kind) -> bool
+        ensures { (items : List Item) (words : List (List ℕ)) → holds self.now items →
+            result ≡ (row (context self.now) kind).has_room items words };
+
+    /// Takes the fields of a line of this keyword, and tells whether it is the text's own end line.
+    fn take_fields(&mut self, kind: Self::Kind, words: &LineWords) -> Result<bool, LineStop>
+        requires { MayTake (row (context self.old) kind) (holds self.old) words.now }
+        ensures taken { (items : List Item) → holds self.old items →
+            TakesItem (table (context self.old)).is_end (holds self.new) items
+            ((row (context self.old) kind).fields items words.now) result }
+        ensures context { context self.new ≡ context self.old };
+
+    /// Whether the input may end here.
+    fn is_complete(&self) -> bool
+        ensures { (items : List Item) → holds self.now items →
+            result ≡ (table (context self.now)).is_complete items };
+
+    /// Takes a line, and tells whether it is the text's own end line.
+    final fn take_line(&mut self, words: &LineWords) -> Result<bool, LineStop>
+        requires { (items : List Item) × holds self.old items }
+        ensures taken { (items : List Item) → holds self.old items →
+            TakesItem (table (context self.old)).is_end (holds self.new) items
+            (check_line (table (context self.old)).keywords items words.now) result }
+        ensures context { context self.new ≡ context self.old }
+    {
+        if words.len() == 0 {
+            return Err(LineStop::Fault(Cause::BadLine));
+        }
+        let Some(kind) = self.kind_of(words.word(0)) else {
+            return Err(LineStop::Fault(Cause::BadLine));
+        };
+        if !self.has_words(kind, words.len()) {
+            return Err(LineStop::Fault(Cause::BadLine));
+        }
+        if !self.may_stand(kind) {
+            return Err(LineStop::Fault(Cause::OutOfOrder));
+        }
+        if !self.has_room(kind) {
+            return Err(LineStop::Fault(Cause::TooMany));
+        }
+        self.take_fields(kind, words)
+    }
+}
+
+/// Reads the lines of a text, up to its own end line or the end of the input.
+pub fn read_text<R: LineReader>(reader: &mut R, text: &[u8], from: Mark) -> Result<Mark, TextStop>
+    requires empty { R.holds reader.old [] }
+    requires short { length text.now ≤ 67108864 }
+    requires mark { IsMark text.now from }
+    ensures read { ReadsOrStops (table_format (R.table (R.context reader.old))) text.now from
+        (ReadsInto (table_format (R.table (R.context reader.old))) text.now from (R.holds reader.new))
+        result }
+    ensures context { R.context reader.new ≡ R.context reader.old }
+{
+    let mut mark = from;
+    let mut missing = Cause::NoHeader;
+    'lines: loop {
+        match next_line(text, mark) {
+            Err(fault) => return Err(TextStop::Fault(fault)),
+            Ok(None) => {
+                let end = end_mark(text, mark);
+                if reader.is_complete() {
+                    return Ok(end);
+                }
+                return Err(TextStop::Fault(TextFault {
+                    line: end.line,
+                    cause: missing,
+                }));
+            }
+            Ok(Some(line)) => {
+                let words = LineWords::cut(&text[line.start..line.end]);
+                match reader.take_line(&words) {
+                    Ok(true) => return Ok(line.next),
+                    Ok(false) => {
+                        mark = line.next;
+                        missing = Cause::NoEnd;
+                    }
+                    Err(LineStop::Fault(cause)) => {
+                        let cause = first_cause(reader.has_header(), missing, cause);
+                        return Err(TextStop::Fault(TextFault {
+                            line: line.number,
+                            cause,
+                        }));
+                    }
+                    Err(LineStop::NoMemory) => return Err(TextStop::NoMemory),
+                }
+            }
+        }
+    }
+}
+
+// The cause that a line has which fails a check: the first one of a text with a header is a missing header.
+fn first_cause(has_header: bool, missing: Cause, cause: Cause) -> Cause
+    ensures { result ≡ first_cause has_header missing cause }
+{
+    match missing {
+        Cause::NoHeader if has_header => Cause::NoHeader,
+        _ => cause,
+    }
+}
+
+// The end of a text, from a mark in it.
+fn end_mark(text: &[u8], from: Mark) -> Mark
+    requires short { length text.now ≤ 67108864 }
+    requires mark { IsMark text.now from }
+    ensures { let lines = lines_from text.now from in result ≡ mark_after lines from (length lines) }
+{
+    Mark {
+        at: text.len(),
+        line: end_number(text, from),
+    }
+}
