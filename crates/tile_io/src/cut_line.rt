@@ -3,7 +3,7 @@ ghost use Rattle.std.specs.Prelude.{◌≡◌, ◌<◌, ◌≤◌, length};
 ghost use Rattle.tile_io.specs.Lines.{words_of};
 ghost use Rattle.tile_io.specs.Checks.{field};
 
-use crate::{word_at, words};
+use crate::{LONGEST_LINE, word_at, words};
 use std::marker::Model;
 
 // How many words are at hand.
@@ -33,7 +33,7 @@ impl<'a> Model for LineWords<'a> {
 impl<'a> LineWords<'a> {
     /// Cuts a line, in time that grows with its length.
     pub fn cut(line: &'a [u8]) -> LineWords<'a>
-        requires { length line.now ≤ 256 }
+        requires { length line.now ≤ LONGEST_LINE }
         ensures { result ≡ words_of line.now }
     {
         let mut rest = words(line);

@@ -9,6 +9,7 @@ ghost use Rattle.tile_io.specs.Inner.Headers.{first_cause};
 
 use crate::cut_line::LineWords;
 use crate::fault::{Cause, TextFault, TextStop};
+use crate::limits::MOST_INPUT;
 use crate::mark::Mark;
 use crate::reading::{end_number, next_line};
 use crate::take_lines::LineStop;
@@ -99,7 +100,7 @@ pub trait LineReader {
 /// Reads the lines of a text, up to its own end line or the end of the input.
 pub fn read_text<R: LineReader>(reader: &mut R, text: &[u8], from: Mark) -> Result<Mark, TextStop>
     requires empty { R.holds reader.old [] }
-    requires short { length text.now ≤ 67108864 }
+    requires short { length text.now ≤ MOST_INPUT }
     requires mark { IsMark text.now from }
     ensures read { ReadsOrStops (table_format (R.table (R.context reader.old))) text.now from
         (ReadsInto (table_format (R.table (R.context reader.old))) text.now from (R.holds reader.new))
@@ -155,7 +156,7 @@ fn first_cause(has_header: bool, missing: Cause, cause: Cause) -> Cause
 
 // The end of a text, from a mark in it.
 fn end_mark(text: &[u8], from: Mark) -> Mark
-    requires short { length text.now ≤ 67108864 }
+    requires short { length text.now ≤ MOST_INPUT }
     requires mark { IsMark text.now from }
     ensures { let lines = lines_from text.now from in result ≡ mark_after lines from (length lines) }
 {
