@@ -6,6 +6,7 @@ ghost use Rattle.tile_io.specs.Formats.{Format};
 ghost use Rattle.tile_io.specs.TakeLines.{TakesLine, ReadsOrStops};
 
 use crate::fault::{Cause, TextFault, TextStop};
+use crate::limits::{LONGEST_LINE, MOST_INPUT};
 use crate::mark::Mark;
 use crate::reading::{end_number, next_line};
 
@@ -42,7 +43,7 @@ pub trait TakeLines {
 
     /// Takes a line, and tells whether it is the text's own end line.
     fn take_line(&mut self, line: &[u8]) -> Result<bool, LineStop>
-        requires { length line.now ≤ 256 }
+        requires { length line.now ≤ LONGEST_LINE }
         ensures taken { TakesLine (format (context self.old)) (items self.old) (items self.new)
             (words_of line.now) result }
         ensures context { context self.new ≡ context self.old };
@@ -55,7 +56,7 @@ pub trait TakeLines {
 /// Reads the lines of a text, up to its own end line or the end of the input.
 pub fn read_lines<D: TakeLines>(draft: &mut D, text: &[u8], from: Mark) -> Result<Mark, TextStop>
     requires empty { D.items draft.old ≡ [] }
-    requires short { length text.now ≤ 67108864 }
+    requires short { length text.now ≤ MOST_INPUT }
     requires mark { IsMark text.now from }
     ensures read { ReadsOrStops (D.format (D.context draft.old)) text.now from
         (D.items draft.new) result }
@@ -96,7 +97,7 @@ pub fn read_lines<D: TakeLines>(draft: &mut D, text: &[u8], from: Mark) -> Resul
 
 // The end of a text, from a mark in it.
 fn end_mark(text: &[u8], from: Mark) -> Mark
-    requires short { length text.now ≤ 67108864 }
+    requires short { length text.now ≤ MOST_INPUT }
     requires mark { IsMark text.now from }
     ensures { let lines = lines_from text.now from in result ≡ mark_after lines from (length lines) }
 {

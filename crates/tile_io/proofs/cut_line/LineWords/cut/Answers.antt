@@ -18,8 +18,8 @@ loop-index-preserved c =
     let i = c.loop-index.index in
     let word = c.in-Some.word in
     let before = c.loop-index.invariant in
-    let left : drop i words ≡ word.now ∷ words_of c.next.new.self.rest.now = sym before.left ∙ c.in-Some.ensures.steps in
-    let more = word_left words i word.now (words_of c.next.new.self.rest.now) left in
+    let left : drop i words ≡ word.now ∷ words_of c.next.new.self = sym before.left ∙ c.in-Some.ensures.steps in
+    let more = word_left words i word.now (words_of c.next.new.self) left in
     let size : length c.loop-index.first ≡ 8 = before.size in
     record { left = sym more.2; size = length-set c.loop-index.first i word ∙ size; within = omega (arith, more.0); each = one_more words c.loop-index.first i word (omega (arith, size)) (sym more.1) before.each }
 
@@ -27,7 +27,7 @@ pub count-requires-clause-fits : goal.count-requires-clause-fits
 count-requires-clause-fits c =
     let words = words_of c.args.line.now in
     let few : length words ≤ length c.args.line.now + 1 = words-few c.args.line.now in
-    let left : length (words_of c.loop-index.rest.rest.now) ≡ length words - c.loop-index.index = ap length c.loop-index.invariant.left ∙ length-drop c.loop-index.index words in
+    let left : length (words_of c.loop-index.rest) ≡ length words - c.loop-index.index = ap length c.loop-index.invariant.left ∙ length-drop c.loop-index.index words in
     let short : length c.args.line.now ≤ 256 = c.requires in
     inl (omega (arith, few, left, short))
 
@@ -35,7 +35,7 @@ pub overflow_add-result : goal.overflow_add-result
 overflow_add-result c =
     let words = words_of c.args.line.now in
     let few : length words ≤ length c.args.line.now + 1 = words-few c.args.line.now in
-    let left : length (words_of c.loop-index.rest.rest.now) ≡ length words - c.loop-index.index = ap length c.loop-index.invariant.left ∙ length-drop c.loop-index.index words in
+    let left : length (words_of c.loop-index.rest) ≡ length words - c.loop-index.index = ap length c.loop-index.invariant.left ∙ length-drop c.loop-index.index words in
     let short : length c.args.line.now ≤ 256 = c.requires in
-    let most : c.count.result ≤ length (words_of c.loop-index.rest.rest.now) = c.count.ensures.bound in
+    let most : c.count.result ≤ length (words_of c.loop-index.rest) = c.count.ensures.bound in
     omega (arith, few, left, short, most)
