@@ -1,18 +1,16 @@
 -- What the words of a closed table spell.
-use Rattle.std.proofs.Common.{◌≡◌, ◌≢◌, ◌<◌, ◌≤◌, ◌+◌, ◌-◌, ◌%◌, ◌==◌, ◌^◌, ℕ, zero, suc, false, List, [], ◌∷◌, ◌++◌, length, map, take, get_or, Some, None, Contains, All, cond, append_assoc, append-nil, slice_index, count_by, option_map, ne_eqb, refl, sym, ◌∙◌, ap, subst, inl, inr, arith}
-use Rattle.std.proofs.lemmas.Option.{none-some, same_Some}
+use Rattle.std.proofs.Common.{◌≡◌, ◌≢◌, ◌<◌, ◌≤◌, ◌+◌, ◌-◌, ◌%◌, ◌==◌, ℕ, zero, suc, false, List, [], ◌∷◌, ◌++◌, length, map, take, get_or, Some, None, All, cond, append_assoc, append-nil, slice_index, count_by, option_map, ne_eqb, refl, sym, ◌∙◌, ap, subst, inl, inr, arith}
 use Rattle.std.proofs.lemmas.List.{take_more, get_or-map, length-map, length-take-le}
 use Rattle.std.proofs.lemmas.List.Sums.{sum_by-append, count_by-le-length}
-use Rattle.std.proofs.lemmas.List.Elements.{All-contains, All-map, Contains-get_or, Contains-append_cases, Contains-append_left, Contains-append_right}
+use Rattle.std.proofs.lemmas.List.Elements.{All-contains, All-map, Contains-get_or, Contains-append_cases}
 use mathlib.Core.List.{map-append}
 use mathlib.Core.Option.{some, some-injective, some-ne-none}
 use lib.ListN.{get_elem?}
 use Rattle.atomic_table.specs.Table.{Final, Seen}
 use Rattle.atam.specs.declared.site.Site.{Site}
-use Rattle.atam.specs.declared.place.TypeId.{TypeId}
 use Rattle.atam.specs.declared.place.Place.{Place}
 use Rattle.atam.specs.declared.area.BoxArea.{BoxArea}
-use Rattle.atam.specs.Sites.{InBox, IsBox}
+use Rattle.atam.specs.Sites.{InBox}
 use Rattle.atam.specs.TileSystem.{TileSystem, IsValid, IsType}
 use Rattle.atam.specs.Placements.{tile_at, SamePlacements, HasDistinctSites}
 use Rattle.atam.specs.Growth.{IsClosedInBox}
@@ -21,22 +19,22 @@ use Rattle.atam.proofs.Placements.{tile_at-Contains, tile_at-append, tile_at-app
 use Rattle.assembly.specs.Cells.{cell_count, site_at}
 use Rattle.assembly.specs.Grids.{place_of, places_of}
 use Rattle.assembly.proofs.Cells.{index_of, site_at-injective, site_at-inside}
-use Rattle.assembly.proofs.Words.{type_in-tile, tile_at-cell, tile_at-outside, All-places, places-distinct}
-use Rattle.assembly.proofs.Words as grids
-use Rattle.assembly.proofs.Tiles.{SamePlacements-from_tiles, SamePlacements-trans, SameTiles-put}
+use Rattle.assembly.proofs.Contents.{type_in-tile, tile_at-cell, tile_at-outside, All-places, places-distinct}
+use Rattle.assembly.proofs.Contents as grids
+use Rattle.atam.proofs.Tiles.{SamePlacements-from_tiles, SamePlacements-trans, SameTiles-put}
 use Rattle.grow_core.specs.declared.placed_tile.PlacedTile.{PlacedTile}
-use Rattle.grow_core.specs.Core.{ScoutState, scout_at, Owns, places, placed_by, IsHistory, ScoutInvariant}
+use Rattle.grow_core.specs.Core.{ScoutState, places, IsHistory, ScoutInvariant}
 use Rattle.grow_core.proofs.Stepped.{quiet, tiles-stay}
 use Rattle.grow_core.proofs.Lists.{map-part}
 use Rattle.grow_core.proofs.Own.{mine_tile}
 use Rattle.grow_core.proofs.Listed.{whole_place, owned-below}
 use Rattle.site_table.specs.declared.view.SeatView.{SeatView}
-use Rattle.site_table.specs.Words.{code, word_of, tile_on, word_at, is_by, Spells, kinds, spelled}
-use Rattle.site_table.specs.Views.{scout_of, IsLive, scouts_of}
-use Rattle.site_table.specs.Rule.{TableState, TableInvariant, IsPossible}
+use Rattle.site_table.specs.Words.{word_of, tile_on, word_at, is_by, Spells, kinds, spelled}
+use Rattle.site_table.specs.Views.{scout_of, IsLive}
+use Rattle.site_table.specs.Rule.{TableInvariant}
 use Rattle.site_table.specs.Seats.{GrownValue, Closes}
 use Rattle.site_table.specs.Laws.{IsFinal}
-use Rattle.site_table.proofs.Spelled.{tile_at-places, type_in-code, get_or-any, some_from_word}
+use Rattle.site_table.proofs.Spelled.{tile_at-places, type_in-code, get_or-any}
 use Rattle.site_table.proofs.Listed.{scouts-at}
 use Rattle.site_table.proofs.Moves.{type-small}
 

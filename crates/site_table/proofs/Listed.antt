@@ -1,7 +1,7 @@
 -- The scouts of the views, and what a scout sees.
-use Rattle.std.proofs.Common.{◌≡◌, ◌≢◌, ◌⊎◌, ◌<◌, ◌≤◌, ◌-◌, ◌^◌, ◌==◌, ℕ, zero, suc, Bool, true, false, not, List, [], ◌∷◌, ◌++◌, set, map, filter, length, Option, Some, None, Contains, AllPairs, eq-eqb, ne_eqb, refl, sym, ◌∙◌, ap, subst, inl, inr, arith, bit_or}
+use Rattle.std.proofs.Common.{◌≡◌, ◌≢◌, ◌⊎◌, ◌==◌, ℕ, zero, suc, Bool, true, false, not, List, [], ◌∷◌, ◌++◌, set, filter, Option, Some, None, Contains, eq-eqb, ne_eqb, refl, sym, ◌∙◌, ap, subst, inl, inr, arith}
 use Rattle.std.proofs.lemmas.Option.{same_Some, none-some}
-use Rattle.std.proofs.lemmas.Bool.{false≢true, cases_Bool}
+use Rattle.std.proofs.lemmas.Bool.{false≢true}
 use Rattle.std.proofs.lemmas.List.{map-set}
 use Rattle.std.proofs.lemmas.List.Kept.{AllPairs-filter}
 use Rattle.std.proofs.lemmas.List.Elements.{Contains-push, Contains-push_cases, Contains-append_left, Contains-append_cases}
@@ -21,9 +21,9 @@ use Rattle.grow_core.specs.declared.placed_tile.PlacedTile.{PlacedTile}
 use Rattle.grow_core.specs.Core.{ScoutState, scout_at}
 use Rattle.grow_core.specs.Steps.{place, IsScoutOf}
 use Rattle.grow_core.proofs.Lists.{Contains-append_right, filter-from, filter-passed, filter-has, all_pairs_append}
-use Rattle.grow_core.proofs.Assembled.{seen_again, same_seen}
+use Rattle.grow_core.proofs.Assembled.{same_seen}
 use Rattle.site_table.specs.declared.view.SeatView.{SeatView}
-use Rattle.site_table.specs.Views.{scout_of, IsLive, live_scout, scouts_of, has_place, seen_together, united_view, spent_view}
+use Rattle.site_table.specs.Views.{scout_of, IsLive, live_scout, scouts_of, has_place, seen_together, spent_view}
 
 pub live-is : (v : SeatView) → IsLive v → live_scout v ≡ Some (scout_of v)
 live-is v live = rw (ne_eqb v.owned 0 (λ e. omega (arith, e, live))) refl

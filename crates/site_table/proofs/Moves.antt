@@ -1,14 +1,14 @@
 -- Each step keeps the rule, and is one event of the core.
-use Rattle.std.proofs.Common.{◌≡◌, ◌≢◌, ◌<◌, ◌≤◌, ◌-◌, ◌%◌, ◌^◌, ◌==◌, ℕ, zero, suc, eqb, Bool, true, false, cond, List, [], ◌∷◌, ◌++◌, length, map, take, ◌+◌, min, get_or, set, replicate, Option, Some, None, Contains, All, option_map, eq-eqb, ne_eqb, refl, sym, ◌∙◌, ap, subst, arith, lit≤}
-use Rattle.std.proofs.lemmas.List.Elements.{All-contains, All-map, All-set, All-push, All-cons, All-nil, Contains-push}
+use Rattle.std.proofs.Common.{◌≡◌, ◌≢◌, ◌<◌, ◌-◌, ◌%◌, ◌^◌, ℕ, zero, suc, eqb, Bool, true, false, cond, List, [], ◌∷◌, ◌++◌, length, map, take, ◌+◌, min, get_or, set, replicate, Some, None, Contains, All, option_map, eq-eqb, ne_eqb, refl, sym, ◌∙◌, ap, subst, arith, lit≤}
+use Rattle.std.proofs.lemmas.List.Elements.{All-contains, All-map, All-set, All-push, All-cons, All-nil}
 use mathlib.Core.Option.{none, some, some-ne-none, some-injective}
 use mathlib.Core.Logic.{dite}
 use native.Mathlib.Decide.{ℕ_discrete}
 use lib.ListN.{get_elem?}
 use lib.Seq.{set-get_or}
 use prog.Atomic.{either}
-use Rattle.atomic_table.specs.Table.{State, Me, Act, keeps, Valid, carried_after, stepped, step, opening, Allows, Splits, Joins}
-use Rattle.atomic_table.proofs.Lists.{exchanged, set_again, set_here, set_else}
+use Rattle.atomic_table.specs.Table.{keeps, step, opening, Allows, Splits, Joins}
+use Rattle.atomic_table.proofs.Lists.{set_again, set_else}
 use Rattle.atam.specs.declared.site.Site.{Site}
 use Rattle.atam.specs.declared.place.TypeId.{TypeId}
 use Rattle.atam.specs.declared.place.Place.{Place}
@@ -23,11 +23,11 @@ use Rattle.grow_core.specs.declared.event.Event.{Event}
 use Rattle.grow_core.specs.declared.event.Event.TheVariants.{Look, Claim, Split, Join}
 use Rattle.grow_core.specs.declared.event.Seen.{Seen}
 use Rattle.grow_core.specs.declared.event.Seen.TheVariants.{Saw, Won, Held, Divided, Joined}
-use Rattle.grow_core.specs.Core.{ScoutState, scout_at, least, greatest, OwnsTwoOrMore, state_of, places, IsHistory, ScoutInvariant, GrowthInvariant}
-use Rattle.grow_core.specs.Steps.{place, tile_of, IsScoutOf, IsStart, IsUnion, Sees, Wins, Supports, CoreStep}
+use Rattle.grow_core.specs.Core.{ScoutState, scout_at, least, greatest, OwnsTwoOrMore, state_of, places, ScoutInvariant, GrowthInvariant}
+use Rattle.grow_core.specs.Steps.{place, tile_of, IsScoutOf, IsStart, IsUnion, Sees, Wins, Supports}
 use Rattle.grow_core.specs.Listed.{by_name}
 use Rattle.grow_core.specs.ListedEvents.{IsEventOfListed}
-use Rattle.grow_core.proofs.Numbers.{IsTop, top, some_rest, some_owned, owns_itself}
+use Rattle.grow_core.proofs.Numbers.{top, some_rest, some_owned, owns_itself}
 use Rattle.grow_core.proofs.Kept.{extends, seen-invariant, won-invariant}
 use Rattle.grow_core.proofs.Listed.{divided-last, joined-first, one_scout, scout_within}
 use Rattle.grow_core.proofs.NamedState.{here as here_set}
@@ -39,7 +39,7 @@ use Rattle.site_table.specs.declared.view.SeatView.{SeatView}
 use Rattle.site_table.specs.Words.{code, word_of, type_in, word_at, Spells}
 use Rattle.site_table.specs.Views.{scout_of, IsLive, scouts_of, first_view, kept_view, given_view, united_view, spent_view}
 use Rattle.site_table.specs.Rule.{TableState, TableInvariant, core_of, IsPossible}
-use Rattle.site_table.specs.Plays.{SeatSelf, site_of, place_in, SeesWord, KeepsSeat, ClaimStep, LookStep, CheckStep}
+use Rattle.site_table.specs.Plays.{SeatSelf, site_of, place_in, SeesWord, ClaimStep, LookStep, CheckStep}
 use Rattle.site_table.specs.Seats.{IsPartOfGrowth}
 use Rattle.site_table.specs.Laws.{HasSeat, with_words, ComesBy, word_after, claim_answer, look_answer}
 use Rattle.site_table.proofs.Spelled.{either-some, tile_at-places, none_from_word, some_from_word, type_in-code, Spells-push, Spells-seed}

@@ -1,10 +1,9 @@
 -- Each step of the table is one event of the core, and where a seat has seen a closed assembly, growth is over.
-use Rattle.std.specs.Prelude.{◌≡◌, ◌≢◌, ℕ, ◌<◌, ◌==◌, min, List, [], ◌∷◌, ◌++◌, map, Option, Some, None, Result, Ok, slice_index, slice_set, if◌then◌else◌}
+use Rattle.std.specs.Prelude.{◌≡◌, ◌≢◌, ℕ, ◌<◌, ◌==◌, min, List, [], ◌∷◌, ◌++◌, map, Some, None, Result, Ok, slice_index, slice_set, if◌then◌else◌}
 use mathlib.Core.Option.{some}
 use mathlib.Core.Option as core
 use lib.ListN.{get_elem?}
 use Rattle.atomic_table.specs.Table.{step, opening}
-use Rattle.atam.specs.declared.site.Site.{Site}
 use Rattle.atam.specs.declared.place.TypeId.{TypeId}
 use Rattle.atam.specs.TileSystem.{TileSystem, IsValid}
 use Rattle.atam.specs.Placements.{SamePlacements}

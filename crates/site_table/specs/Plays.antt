@@ -1,10 +1,9 @@
 -- What an atomic step tells its seat.
-use Rattle.std.specs.Prelude.{◌≡◌, ◌≢◌, ℕ, ◌<◌, ◌%◌, ◌==◌, Option, Some, None, if◌then◌else◌}
+use Rattle.std.specs.Prelude.{◌≡◌, ◌≢◌, ℕ, ◌<◌, ◌%◌, None}
 use Rattle.atomic_table.specs.Table.{Me, Step}
 use Rattle.atam.specs.declared.site.Site.{Site}
-use Rattle.atam.specs.declared.place.TypeId.{TypeId}
 use Rattle.atam.specs.declared.place.Place.{Place}
-use Rattle.atam.specs.TileSystem.{TileSystem, IsType}
+use Rattle.atam.specs.TileSystem.{IsType}
 use Rattle.atam.specs.Placements.{tile_at}
 use Rattle.assembly.specs.Cells.{site_at}
 use Rattle.grow_core.specs.Steps.{place, Sees, Wins}

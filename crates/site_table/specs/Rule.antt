@@ -1,5 +1,5 @@
 -- The rule of the table: what holds of its words and of the seats' views between any two steps.
-use Rattle.std.specs.Prelude.{◌≡◌, ℕ, List, All}
+use Rattle.std.specs.Prelude.{◌≡◌, List, All}
 use Rattle.atomic_table.specs.Table.{State}
 use Rattle.atam.specs.TileSystem.{TileSystem, IsValid}
 use Rattle.grow_core.specs.declared.placed_tile.PlacedTile.{PlacedTile}

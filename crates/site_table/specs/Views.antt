@@ -1,5 +1,5 @@
 -- What a seat knows, as the table's rule sees it.
-use Rattle.std.specs.Prelude.{ℕ, ◌<◌, ◌==◌, ◌-◌, ◌^◌, pos, not, Bool, false, List, [], ◌++◌, filter, map, bit_or, if◌then◌else◌, Option, Some, None}
+use Rattle.std.specs.Prelude.{◌<◌, ◌==◌, ◌-◌, ◌^◌, pos, not, Bool, false, List, [], ◌++◌, filter, map, bit_or, if◌then◌else◌, Option, Some, None}
 use Rattle.std.specs.Option.{option_map_or}
 use Rattle.atam.specs.declared.place.Place.{Place}
 use Rattle.atam.specs.TileSystem.{TileSystem}

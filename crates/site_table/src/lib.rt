@@ -10,13 +10,11 @@ mod grown;
 mod laws;
 mod rule;
 mod seat;
-mod steps;
 mod table;
 mod view;
 
 pub use grown::Grown;
 pub use laws::{law_quiet, law_steps};
 pub use seat::SiteSeat;
-pub use steps::Steps;
 pub use table::{Claimed, SiteTable};
 pub use view::SeatView;

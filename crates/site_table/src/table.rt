@@ -12,12 +12,13 @@ ghost use Rattle.site_table.specs.Words.{Spells, code, type_in};
 
 use crate::grown::{Grown, gather};
 use crate::rule::{Check, Claim, Divide, GrowthRule, Look, Unite};
-use crate::{SeatView, SiteSeat, Steps};
+use crate::{SeatView, SiteSeat};
 use assembly::{Grid, site_index};
 use atomic_table::Table;
 use std::alloc::Global;
 use std::marker::Model;
 use std::sync::ledger::Ledger;
+use tile_io::Steps;
 use tile_system::{BoxArea, NoMemory, Site, System, TypeId};
 
 // The placer of a seed.

@@ -1,5 +1,4 @@
 use Rattle.std.proofs.Common.{refl}
-use Rattle.site_table.specs.Laws.{HasSeat}
 use Rattle.site_table.proofs.Moves.{opens, look_of, claim_at, split_of, join_of, same_state}
 use Rattle.site_table.proofs.laws.law_steps.Goals as goal
 

@@ -1,4 +1,4 @@
-use Rattle.std.proofs.Common.{◌≡◌, ◌<◌, ◌∙◌, ap, sym, subst}
+use Rattle.std.proofs.Common.{◌<◌, ◌∙◌, ap, subst}
 use Rattle.std.specs.Slots.{slots_items}
 use Rattle.atam.specs.TileSystem.{TileSystem}
 use Rattle.atam.specs.declared.area.BoxArea.{BoxArea}

@@ -1,4 +1,4 @@
-use Rattle.std.proofs.Common.{sym, refl, [], ◌∷◌}
+use Rattle.std.proofs.Common.{refl}
 use Rattle.site_table.proofs.Moves.{opens, first_possible}
 use Rattle.site_table.proofs.table.SiteTable.make.Goals as goal
 

@@ -1,8 +1,6 @@
-use Rattle.std.proofs.Common.{rules, ◌≢◌, ◌<◌, ◌^◌, ◌%◌, ◌≤◌, ◌≡◌, ◌*◌, sym, refl, subst, ap, ◌∙◌, arith, ℕ}
-use Rattle.grow_core.specs.Core.{least, greatest, OwnsTwoOrMore}
-use Rattle.grow_core.proofs.Numbers.{IsTop, top}
+use Rattle.std.proofs.Common.{rules, ◌<◌, ◌^◌, ◌≡◌, sym, refl, subst, ap, ◌∙◌}
+use Rattle.grow_core.specs.Core.{OwnsTwoOrMore}
 use Rattle.site_table.specs.Seats.{TableValue, SeatValue}
-use Rattle.site_table.specs.Views.{kept_view}
 use Rattle.site_table.proofs.Spelled.{cells-some, gone_is}
 use Rattle.site_table.proofs.Moves.{splits, split_possible}
 use Rattle.site_table.proofs.table.SiteTable.split.Goals as goal
