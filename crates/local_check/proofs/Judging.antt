@@ -1,5 +1,5 @@
 -- What holds a place, by its input sides, and what holds a rival, by the sides that aren't output sides.
-use Rattle.std.proofs.Common.{◌≡◌, ◌≢◌, ◌<◌, ◌≤◌, ◌+◌, ℕ, Bool, true, false, not, ◌&&◌, ◌||◌, nat_lt, List, length, take, Option, Some, None, slice_get, refl, sym, ◌∙◌, ap, subst, inl, inr, arith}
+use Rattle.std.proofs.Common.{◌≡◌, ◌≢◌, ◌<◌, ◌≤◌, ◌+◌, ℕ, Bool, true, false, not, ◌&&◌, ◌||◌, nat_lt, List, length, take, Some, None, slice_get, refl, sym, ◌∙◌, ap, subst, inl, inr, arith}
 use Rattle.std.specs.List.{list_any}
 use Rattle.std.proofs.Math.Seq.{take-length}
 use Rattle.std.proofs.lemmas.Int.{ints}
@@ -15,7 +15,7 @@ use Rattle.atam.specs.Sites.{neighbor, directions, same_site}
 use Rattle.atam.specs.Placements.{HasDistinctSites, SamePlacements, tile_at}
 use Rattle.atam.specs.TileSystem.{TileSystem, IsType}
 use Rattle.atam.specs.Assembly.{bond, pull}
-use Rattle.atam.specs.Growth.{IsLegal, IsCandidate}
+use Rattle.atam.specs.Growth.{IsLegal}
 use Rattle.atam.specs.Determinism.{is_input, is_output, without_outputs, IsExact, IsRival, HasExactInputs, HasNoRivals}
 use Rattle.atam.proofs.Boxes.{same_site_tells, same_site-refl}
 use Rattle.atam.proofs.Lists.{some_or_none}

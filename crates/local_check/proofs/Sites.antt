@@ -1,13 +1,9 @@
 -- What stands at each site of assemblies with the same places.
-use Rattle.std.proofs.Common.{◌≡◌, ◌≢◌, ◌<◌, ℕ, zero, suc, length, List, [], ◌∷◌, take, get_or, Some, slice_get, refl, sym, ◌∙◌, ap, inl, inr, arith}
+use Rattle.std.proofs.Common.{◌≡◌, ◌<◌, ℕ, zero, suc, length, List, [], ◌∷◌, take, get_or, Some, slice_get, refl, sym, ◌∙◌, ap, arith}
 use Rattle.std.proofs.lemmas.List.{length-take, get_or-take}
-use Rattle.std.proofs.lemmas.List.Elements.{All-contains}
 use Rattle.std.proofs.Math.Nat.{min-le_left, min-le_right}
 use Rattle.atam.specs.declared.place.Place.{Place}
-use Rattle.atam.specs.Placements.{HasDistinctSites, SamePlacements, tile_at}
-use Rattle.atam.proofs.Lists.{some_or_none}
-use Rattle.atam.proofs.Placements.{tile_at-Contains, Contains-tile_at, none_at}
-use Rattle.atam.proofs.Tiles.{SameTiles}
+use Rattle.atam.specs.Placements.{HasDistinctSites}
 
 -- a part of a list with distinct sites has distinct sites
 pub distinct-take : (s : List Place) (n : ℕ) → HasDistinctSites s → HasDistinctSites (take n s)

@@ -1,10 +1,9 @@
 // The types that attach beside a seed, and the least open site.
+use crate::places::grid_of;
 use attach_rule::{TypeList, candidates, least_open};
 use std::test::Fail;
 use tile_system::{Site, TypeId};
 use worked_systems::{RIVALS, system};
-
-use crate::places::grid_of;
 
 const START: Site = Site { x: 0, y: 0 };
 

@@ -1,9 +1,6 @@
 -- An order that has been begun: it takes the ready place with the least site, and is canonical once none is ready.
-use Rattle.std.proofs.Common.{◌≡◌, ◌≢◌, ◌≤◌, ◌+◌, ℕ, List, [], ◌∷◌, ◌++◌, length, length-append, Some, None, slice_get, Contains, refl, sym, ◌∙◌, subst, inl, inr, arith, Result, Ok, Err, OnOk}
-use Rattle.std.proofs.Math.Seq.{take-length}
-use Rattle.std.proofs.lemmas.Bool.{cases_lt}
-use Rattle.std.proofs.lemmas.Option.{same_Some, slice_get_within}
-use Rattle.std.proofs.lemmas.List.{take-append-le}
+use Rattle.std.proofs.Common.{◌≡◌, ◌≢◌, ◌≤◌, ◌+◌, List, [], ◌∷◌, ◌++◌, length, length-append, Some, None, Contains, refl, sym, ◌∙◌, subst, arith, Result, Ok, Err, OnOk}
+use Rattle.std.proofs.lemmas.Option.{same_Some}
 use Rattle.std.proofs.lemmas.List.Elements.{All-contains}
 use Rattle.atam.specs.declared.site.Site.{Site}
 use Rattle.atam.specs.declared.place.TypeId.{TypeId}
@@ -15,8 +12,7 @@ use Rattle.atam.specs.Assembly.{pull}
 use Rattle.atam.specs.Growth.{IsProducible}
 use Rattle.atam.proofs.Canon.{producible_seeded}
 use Rattle.atam.specs.Canonical.{IsReady, BeginsCanonical, IsCanonical}
-use Rattle.atam.proofs.Lists.{some_or_none, push_cases, seed_from, seeds_within, Contains-slice_get}
-use Rattle.atam.proofs.Placements.{none_at, Contains-tile_at, tile_at-Contains, same_place, HasDistinctSites-push}
+use Rattle.atam.proofs.Placements.{none_at, Contains-tile_at, tile_at-Contains, HasDistinctSites-push}
 use Rattle.atam.proofs.Beginnings.{begun_part, begun_push, begun_distinct, unlisted_empty}
 use Rattle.atam.proofs.Count.{count_in_part}
 use Rattle.replay_order.specs.ReplayAnswers.{HoldsSeeds, LacksSeed}

@@ -1,7 +1,6 @@
 -- A sequence whose places are put into a grid one by one.
 use Rattle.std.proofs.Common.{◌≡◌, ◌&&◌, ◌==◌, ◌<◌, ◌≤◌, ◌+◌, ℕ, true, List, length, take, Option, Some, None, is_some, slice_get, refl, sym, ◌∙◌, ap, subst, inl, inr, arith, true≢false, false, Decides}
 use Rattle.std.proofs.lemmas.Option.{none-some}
-use Rattle.atam.specs.declared.site.Site.{Site}
 use Rattle.atam.specs.declared.site.Side.{Side}
 use Rattle.atam.specs.Sites.{neighbor, same_site}
 use Rattle.atam.specs.declared.place.TypeId.{TypeId}

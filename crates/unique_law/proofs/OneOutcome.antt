@@ -1,8 +1,7 @@
 -- A locally deterministic sequence in the box leaves one outcome.
-use Rattle.std.proofs.Common.{◌≡◌, ◌↔◌, List, take, get_or, Option, Some, None, All, subst}
+use Rattle.std.proofs.Common.{◌≡◌, ◌↔◌, List, take, get_or, All, subst}
 use Rattle.std.proofs.lemmas.List.Elements.{All-contains, Contains-get_or}
 use Rattle.atam.specs.declared.site.Site.{Site}
-use Rattle.atam.specs.declared.place.TypeId.{TypeId}
 use Rattle.atam.specs.declared.place.Place.{Place}
 use Rattle.atam.specs.Sites.{InBox}
 use Rattle.atam.specs.Placements.{HasDistinctSites, IsPartOf, SamePlacements}

@@ -1,5 +1,5 @@
 -- The cells of a grid.
-use Rattle.std.specs.Prelude.{◌≡◌, ℕ, ◌-◌, ◌==◌, not, Bool, List, length, count_by}
+use Rattle.std.specs.Prelude.{◌≡◌, ℕ, ◌==◌, not, Bool, List, length, count_by}
 use Rattle.atam.specs.declared.area.BoxArea.{BoxArea}
 use Rattle.atam.specs.Sites.{IsBox}
 use Rattle.assembly.specs.Cells.{cell_count}
@@ -13,4 +13,3 @@ pub record IsGrid (area : BoxArea) (cells : List ℕ) (count : ℕ) : Type 0 whe
   pub box_limits : IsBox area
   pub sites : length cells ≡ cell_count area
   pub counted : count ≡ count_by is_tile cells
-

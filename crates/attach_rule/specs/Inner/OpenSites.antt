@@ -9,4 +9,3 @@ abbrev pub Precedes : Option (Site × TypeId) → Option (Site × TypeId) → Ty
 Precedes None other = ⊥
 Precedes (Some found) None = Unit {0}
 Precedes (Some found) (Some other) = IsBefore found.0 other.0
-

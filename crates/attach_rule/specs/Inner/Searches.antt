@@ -1,5 +1,5 @@
 -- The sites that a search looks at.
-use Rattle.std.specs.Prelude.{◌≡◌, ◌⊎◌, ◌≤◌, ℤ, pos, ◌+ℤ◌, ◌-ℤ◌, ◌≤ℤ◌}
+use Rattle.std.specs.Prelude.{◌≡◌, ◌⊎◌, ℤ, pos, ◌+ℤ◌, ◌-ℤ◌, ◌≤ℤ◌}
 use Rattle.atam.specs.declared.site.Site.{Site}
 use Rattle.atam.specs.declared.area.BoxArea.{BoxArea}
 
@@ -12,4 +12,3 @@ pub record IsAtEnds (area : BoxArea) (m : Site) : Type 0 where
   pub column : (m.x ≡ area.x0 -ℤ pos 1) ⊎ (m.x ≡ area.x1 +ℤ pos 1)
   pub bottom : area.y0 ≤ℤ m.y
   pub top : m.y ≤ℤ area.y1
-

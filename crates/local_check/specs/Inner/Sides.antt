@@ -53,4 +53,3 @@ pub record AreEarlierSides (sys : TileSystem) (s : List Place) (sets : List Side
 pub record AreOutputSides (sys : TileSystem) (s : List Place) (sets : List SideSet) : Type 0 where
   pub count : length sets ≡ length s
   pub each : AreOutputsAt sys s sets
-

@@ -62,4 +62,3 @@ pub record IsLeastLeftSite (area : BoxArea) (tiles s : List Place) (m : Site) : 
 abbrev pub IsLeastLeft : BoxArea → List Place → List Place → Option Site → Type 0
 IsLeastLeft area tiles s None = (m : Site) → InBox area m → ¬ IsLeftAt tiles s m
 IsLeastLeft area tiles s (Some m) = IsLeastLeftSite area tiles s m
-
