@@ -2,8 +2,9 @@
 use Rattle.std.proofs.Common.{◌≡◌, ◌<◌, ◌≤◌, ◌+◌, ◌*◌, ℕ, zero, suc, Bool, cond, List, [], ◌∷◌, ◌++◌, length, length-append, append_assoc, map, filter, take, Some, slice_get, option_map, true, Contains, refl, sym, ◌∙◌, ap, subst, inl, inr, arith}
 use Rattle.std.proofs.Math.Nat.{suc-mul, add_assoc}
 use Rattle.std.proofs.lemmas.Bool.{cases_Bool}
-use Rattle.std.proofs.lemmas.List.{length-map}
+use Rattle.std.proofs.lemmas.List.{length-map, append-nil}
 use Rattle.std.proofs.lemmas.List.FromFn.{length-range_with_len}
+use Rattle.std.proofs.lemmas.Grind.{flat_map-append}
 use Rattle.std.proofs.lemmas.List.Elements.{filter-append, Contains-append_left, Contains-append_right}
 use Rattle.std.specs.List.{range_with_len, flat_map}
 use Rattle.std.proofs.lemmas.Option.{same_Some, none-some, slice_get-map}
@@ -221,3 +222,20 @@ length-filter_at_most test (x ∷ xs) =
       | inl stays ↦ rw stays (omega (arith, rest))
       | inr goes ↦ rw goes (omega (arith, rest))
     ]
+
+-- one more number, and the pairs with it
+range-more : (a n : ℕ) → range_with_len a (suc n) ≡ range_with_len a n ++ (a + n) ∷ []
+range-more a zero = let same : a ≡ a + 0 = omega arith in ap (λ x. x ∷ []) same
+range-more a (suc n) =
+    let same : a + 1 + n ≡ a + suc n = omega arith in
+    ap (λ xs. a ∷ xs) (range-more (a + 1) n ∙ ap (λ x. range_with_len (a + 1) n ++ x ∷ []) same)
+
+pub pairs_from-more : (limit len : ℕ) → pairs_from limit 0 (len + 1) ≡ pairs_from limit 0 len ++ map (λ a. (len, a)) (range_with_len 0 limit)
+pairs_from-more limit len =
+    let row : ℕ → List (ℕ × ℕ) = λ p. map (λ a. (p, a)) (range_with_len 0 limit) in
+    let more : len + 1 ≡ suc len = omega arith in
+    let last : 0 + len ≡ len = omega arith in
+    ap (pairs_from limit 0) more
+    ∙ ap (flat_map row) (range-more 0 len ∙ ap (λ x. range_with_len 0 len ++ x ∷ []) last)
+    ∙ flat_map-append row (range_with_len 0 len) (len ∷ [])
+    ∙ ap (λ xs. pairs_from limit 0 len ++ xs) (append-nil (row len))

@@ -29,7 +29,7 @@ AllPairs-one : {X : Type 0} (R : X → X → Type 0) (x : X) → AllPairs R (x �
 AllPairs-one R x = λ i j d less inside. let never : ⊥ = omega (arith, less, inside) in absurd never
 
 -- an element of a list that was made of another, and what it was made of
-made_of : {X Y : Type 0} (f : X → Y) (xs : List X) (i : ℕ) (d : Y) → i < length (map f xs) → (x : X) × (slice_get xs i ≡ Some x) × (f x ≡ get_or (map f xs) i d)
+pub made_of : {X Y : Type 0} (f : X → Y) (xs : List X) (i : ℕ) (d : Y) → i < length (map f xs) → (x : X) × (slice_get xs i ≡ Some x) × (f x ≡ get_or (map f xs) i d)
 made_of f xs i d inside =
     let y = get_or (map f xs) i d in
     let found : option_map f (slice_get xs i) ≡ Some y = sym (slice_get-map f xs i) ∙ slice_get-get_or (map f xs) i d inside in
@@ -45,21 +45,22 @@ AllPairs-map R f xs apart = λ i j d less inside.
     let b = made_of f xs j d inside in
     subst (λ u. R u (get_or (map f xs) j d)) a.2 (subst (R (f a.0)) b.2 (apart i j a.0 b.0 less a.1 b.1))
 
-module _ {K G : Type 0} (set : TileSet K G) (seed : K) (area : BoxArea) (is_set : IsTileSet set) (limits : IsWithinLimits set) (seeded : Contains set.kinds seed)
-    (is_box : IsBox area) (start : InBox area (cell_site 0 0)) where
-  -- a number of two places is of one
-  label_apart : (i j : ℕ) (g h : G) → i < j → slice_get set.labels i ≡ Some g → slice_get set.labels j ≡ Some h → set.label_name g ≡ set.label_name h → ⊥
+module _ {K G : Type 0} (set : TileSet K G) (is_set : IsTileSet set) (limits : IsWithinLimits set) where
+  -- two places of a list have different names
+  pub label_apart : (i j : ℕ) (g h : G) → i < j → slice_get set.labels i ≡ Some g → slice_get set.labels j ≡ Some h → set.label_name g ≡ set.label_name h → ⊥
   label_apart i j g h less at_i at_j same =
       let one = limits.distinct_labels g h (slice_get-Contains set.labels i g at_i) (slice_get-Contains set.labels j h at_j) same in
       let numbers : i ≡ j = sym (is_set.labels i g at_i) ∙ ap set.label_number one ∙ is_set.labels j h at_j in
       omega (arith, less, numbers)
 
-  kind_apart : (i j : ℕ) (k l : K) → i < j → slice_get set.kinds i ≡ Some k → slice_get set.kinds j ≡ Some l → set.kind_name k ≡ set.kind_name l → ⊥
+  pub kind_apart : (i j : ℕ) (k l : K) → i < j → slice_get set.kinds i ≡ Some k → slice_get set.kinds j ≡ Some l → set.kind_name k ≡ set.kind_name l → ⊥
   kind_apart i j k l less at_i at_j same =
       let one = limits.distinct_kinds k l (slice_get-Contains set.kinds i k at_i) (slice_get-Contains set.kinds j l at_j) same in
       let numbers : i ≡ j = sym (is_set.kinds i k at_i) ∙ ap set.kind_number one ∙ is_set.kinds j l at_j in
       omega (arith, less, numbers)
 
+module _ {K G : Type 0} (set : TileSet K G) (seed : K) (area : BoxArea) (is_set : IsTileSet set) (limits : IsWithinLimits set) (seeded : Contains set.kinds seed)
+    (is_box : IsBox area) (start : InBox area (cell_site 0 0)) where
   abbrev IsThere : Option GlueId → Type 0
   IsThere o = IfSome o (λ g. g.0 < length (map (glue_of set) set.labels))
 
@@ -84,7 +85,7 @@ module _ {K G : Type 0} (set : TileSet K G) (seed : K) (area : BoxArea) (is_set 
       record {
         glue_count = omega (arith, labels_long, label_count);
         glue_names = All-map (λ (g : Glue). IsName g.name) (glue_of set) set.labels (All-contained (λ g. IsName (set.label_name g)) set.labels limits.label_names);
-        distinct_glues = AllPairs-map (λ (g h : Glue). g.name ≢ h.name) (glue_of set) set.labels label_apart;
+        distinct_glues = AllPairs-map (λ (g h : Glue). g.name ≢ h.name) (glue_of set) set.labels (label_apart set is_set limits);
         strengths = All-map (λ (g : Glue). g.strength ≤ MOST_STRENGTH) (glue_of set) set.labels (All-contained (λ g. set.strength g ≤ MOST_STRENGTH) set.labels limits.strengths);
         pair_count = zero-le;
         pairs = λ k d inside. let never : ⊥ = omega (arith, inside) in absurd never;
@@ -92,9 +93,9 @@ module _ {K G : Type 0} (set : TileSet K G) (seed : K) (area : BoxArea) (is_set 
         some_type = omega (arith, seed_kind);
         type_count = omega (arith, kinds_long, kind_count);
         type_names = All-map (λ (t : TileType). IsName t.name) (tile_type set) set.kinds (All-contained (λ k. IsName (set.kind_name k)) set.kinds limits.kind_names);
-        distinct_types = AllPairs-map (λ (t u : TileType). t.name ≢ u.name) (tile_type set) set.kinds kind_apart;
+        distinct_types = AllPairs-map (λ (t u : TileType). t.name ≢ u.name) (tile_type set) set.kinds (kind_apart set is_set limits);
         sides = All-map (λ (t : TileType). (d : Side) → IfSome (side_of t d) (λ g. g.0 < length (map (glue_of set) set.labels))) (tile_type set) set.kinds
-        (All-contained (λ k. (d : Side) → IfSome (side_of (tile_type set k) d) (λ g. g.0 < length (map (glue_of set) set.labels))) set.kinds sides_there);
+            (All-contained (λ k. (d : Side) → IfSome (side_of (tile_type set k) d) (λ g. g.0 < length (map (glue_of set) set.labels))) set.kinds sides_there);
         some_tau = omega arith;
         tau = omega arith;
         box = is_box;
