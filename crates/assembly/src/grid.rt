@@ -13,7 +13,8 @@ use std::alloc::Global;
 use std::marker::Model;
 use tile_system::{BoxArea, NoMemory, Place, Placed, Site, TypeId};
 
-/// Tiles in a box. All calls but `copy` take no memory, and look at one site, but for `merge` and `clear`.
+/// Tiles in a box. All calls but `make` and `copy` take no memory, and all but these, `merge` and
+/// `clear` look at one site.
 #[derive(Drop)]
 pub struct Grid {
     area: BoxArea,
@@ -28,7 +29,10 @@ impl Model for Grid {
 
     ghost Value = { TileGrid };
 
-    ghost view = { λ g. record { area = g.area; tiles = places_of (site_at g.area) 0 g.cells.items } };
+    ghost view = { λ g. record {
+      area = g.area;
+      tiles = places_of (site_at g.area) 0 g.cells.items;
+    } };
 
     ghost invariant = { λ g. IsGrid g.area g.cells.items g.count };
 }

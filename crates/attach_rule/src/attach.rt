@@ -70,7 +70,8 @@ pub fn can_attach<P: Placed>(sys: &System, placed: &P, site: Site, tile: TypeId)
     placed.at(site).is_none() && pull(sys, placed, site, tile) >= sys.tau()
 }
 
-/// The first type, by index, that attaches at the site. It tries no type where no glue faces the site.
+/// The first type, by index, that attaches at the site. It tries no type where no glue faces the
+/// site.
 pub fn first_type<P: Placed>(sys: &System, placed: &P, site: Site) -> Option<TypeId>
     requires near { IsNearSite site }
     requires fits { Fits sys.now (P.placements placed.now) }

@@ -88,7 +88,8 @@ fn list_seeds(
     requires no_site { ready.old ≡ [] }
     ensures listed { OnOk result (listing.new.places ≡ sys.now.seeds) }
     ensures area { listing.new.area ≡ listing.old.area }
-    ensures ready { OnOk result (AreReadySites sys.now grid.now.tiles listing.new.places ready.new) }
+    ensures ready { OnOk result
+        (AreReadySites sys.now grid.now.tiles listing.new.places ready.new) }
 {
     for seed in sys.seeds() {
         ready.remove(seed.site);
@@ -135,10 +136,12 @@ fn list_place(
     requires part { IsPartOf listing.old.places grid.now.tiles }
     requires placed { tile_at grid.now.tiles place.site ≡ Some place.tile }
     requires empty { tile_at listing.old.places place.site ≡ None }
-    requires ready { AreReadySitesBut sys.now grid.now.tiles listing.old.places ready.old place.site }
+    requires ready { AreReadySitesBut sys.now grid.now.tiles
+        listing.old.places ready.old place.site }
     ensures area { listing.new.area ≡ listing.old.area }
     ensures listed { OnOk result (listing.new.places ≡ listing.old.places ++ place ∷ []) }
-    ensures ready { OnOk result (AreReadySites sys.now grid.now.tiles listing.new.places ready.new) }
+    ensures ready { OnOk result
+        (AreReadySites sys.now grid.now.tiles listing.new.places ready.new) }
 {
     listing.push(place)?;
     add_ready_beside(sys, grid, listing, ready, place.site)
@@ -156,7 +159,8 @@ fn add_ready_beside(
     requires inside { InBox sys.now.area site }
     requires fits { Fits sys.now grid.now.tiles }
     requires listing_fits { Fits sys.now listing.now.places }
-    ensures { OnOk result (AddsReadyBeside sys.now grid.now.tiles listing.now.places site ready.old ready.new) }
+    ensures { OnOk result (AddsReadyBeside sys.now grid.now.tiles
+        listing.now.places site ready.old ready.new) }
 {
     add_if_ready(sys, grid, listing, ready, site.step(Side::North))?;
     add_if_ready(sys, grid, listing, ready, site.step(Side::East))?;
@@ -175,7 +179,8 @@ fn add_if_ready(
     requires near { IsNearSite site }
     requires fits { Fits sys.now grid.now.tiles }
     requires listing_fits { Fits sys.now listing.now.places }
-    ensures { OnOk result (AddsIfReady sys.now grid.now.tiles listing.now.places site ready.old ready.new) }
+    ensures { OnOk result (AddsIfReady sys.now grid.now.tiles
+        listing.now.places site ready.old ready.new) }
 {
     if is_ready(sys, grid, listing, site) {
         ready.add(site)?;

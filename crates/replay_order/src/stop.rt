@@ -8,7 +8,8 @@ pub enum ReplayStop {
     /// Some seed's site does not hold the seed's type.
     #[error("no seed there")]
     NoSeedThere,
-    /// The canonical sequence does not list this many of the tiles; the site is the least of theirs.
+    /// The canonical sequence does not list this many of the tiles; the site is the least of
+    /// theirs.
     #[error("stuck")]
     Stuck { left: u32, least: Site },
     #[error("no memory")]

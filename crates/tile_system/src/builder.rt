@@ -116,7 +116,8 @@ impl SystemBuilder {
 
     /// Gives the seed, in place of an earlier one.
     pub fn seed(&mut self, place: Place) -> Result<(), BuildStop>
-        ensures refusal { StopsUnless (place.tile.0 < length self.old.types) BuildStop.UnknownType result }
+        ensures refusal { StopsUnless (place.tile.0 < length self.old.types)
+            BuildStop.UnknownType result }
         ensures ok { OnOk result (self.new ≡ record self.old { seeds = place ∷ [] }) }
         ensures unchanged { OnErr result (self.new ≡ self.old) }
     {
@@ -149,7 +150,8 @@ impl SystemBuilder {
 
     /// Adds a glue that may be added.
     ///
-    /// This and the next five methods take what was checked before, for whoever builds a system from a text.
+    /// This and the next five methods take what was checked before, for whoever builds a system
+    /// from a text.
     pub fn push_glue(&mut self, name: &[u8], strength: u32) -> Result<GlueId, NoMemory>
         requires { IsNewGlue self.old name.now strength }
         ensures id { IfOk result (λ glue. glue.0 ≡ length self.old.glues) }
@@ -216,7 +218,8 @@ impl SystemBuilder {
 
     /// How many glues there are so far.
     ///
-    /// This reader and the next ones are beyond the usual surface, for whoever builds a system from a text.
+    /// This reader and the next ones are beyond the usual surface, for whoever builds a system from
+    /// a text.
     pub fn glue_count(&self) -> u32
         ensures { result ≡ length self.now.glues }
     {

@@ -1,4 +1,5 @@
-// Laws over all lists of placements, at whatever sites, each as the contract of a function that does nothing.
+// Laws over all lists of placements, at whatever sites, each as the contract of a function that
+// does nothing.
 ghost use Rattle.unique_law.specs.Laws.{HasNoOtherPlaces, GrowsIntoDeterministic, HasOneFullGrowth, HasOutcomeByPlacements, HasOneOutcome, IsYesThroughout, GrowsIntoOutcome, HasVerdictByPlacements, IsYesWhereSomeOrderIs};
 
 /// Each legal sequence has places of a locally deterministic one alone, and grows into it.
