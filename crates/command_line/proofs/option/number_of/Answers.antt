@@ -2,7 +2,7 @@ use Rattle.std.proofs.Common.{◌≡◌, ◌∙◌, ap, sym, subst, refl, ℕ, O
 use Rattle.std.specs.Prelude.{IsSome, unwrap_or, ◌^◌, ◌-◌}
 use Rattle.std.specs.Str.Parse.{ParsesUnsigned, ExplainsUnsignedError, HasUnsignedDigitsIfOk}
 use Rattle.command_line.proofs.OptionLemmas.{number_read}
-use Rattle.command_line.proofs.clap_command.number_of.Goals as goal
+use Rattle.command_line.proofs.option.number_of.Goals as goal
 
 pub unwrap-requires : goal.unwrap-requires
 unwrap-requires c =

@@ -3,7 +3,7 @@ use Rattle.std.proofs.lemmas.Result.{IfOk-weaker}
 use Rattle.clap.specs.Words.{App, is_simple_and_free}
 use Rattle.clap.proofs.WalkLemmas.{IfOk-both}
 use Rattle.command_line.proofs.CommandLemmas.{app_simple, command_parsed}
-use Rattle.command_line.proofs.clap_command.matches_of.Goals as goal
+use Rattle.command_line.proofs.parse.matches_of.Goals as goal
 
 pub parsed-requires : goal.parsed-requires
 parsed-requires c = ap (λ (app : App). is_simple_and_free app) c.in_ok-clap_command.ensures ∙ app_simple c.args.name
