@@ -14,7 +14,7 @@ use Rattle.command_line.specs.Commands.{IsCallOf, IsTaken, IsUsage, Spells, comm
 use Rattle.command_line.specs.Numbers.{NumberOption, StatesValues}
 use Rattle.command_line.specs.Inner.Found.{HasValues, IsExact}
 use Rattle.command_line.proofs.OptionLemmas.{number_stated, states_once}
-use Rattle.command_line.proofs.TakenLemmas.{choice_stated, choice_taken, decimal_text, none_stated, none_taken}
+use Rattle.command_line.proofs.TakenLemmas.{choice_stated, choice_taken, decimal_text, none_stated}
 
 -- what an exact parse finds for the options is what clap states
 values_stated : (app : App) (words : List Text) (found : ArgMatches) (options : List NumberOption) (values : List ℕ) → IsExact app words (found_of found)

@@ -1,5 +1,5 @@
 -- What a parse of each command finds.
-use Rattle.std.proofs.Common.{◌≡◌, ◌∙◌, ◌^◌, ◌-◌, ap, true, ℕ, List, [], ◌∷◌, refl, codes, arith, suc}
+use Rattle.std.proofs.Common.{◌≡◌, ◌∙◌, ap, true, ℕ, List, [], ◌∷◌, refl, arith, suc}
 use Rattle.clap.specs.Built.{IsParsedFrom}
 use Rattle.clap.specs.Matches.{found_of}
 use Rattle.clap.specs.Simple.{App, HasMatchesOf, app_of, is_simple, matches_of}

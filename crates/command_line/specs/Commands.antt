@@ -1,9 +1,7 @@
 -- The commands, and the words of a command line that call for them.
-use Rattle.std.specs.Prelude.{◌≡◌, ◌≢◌, ◌⊎◌, ◌<◌, ◌^◌, ◌-◌, ℕ, true, false, List, [], ◌∷◌, fold, Option, Some, None, Result, Ok, Err, IsOk, codes, decimal, bytes_eq, find}
-use Rattle.clap.specs.Words.{App, Rule, Text, fault_of, new_app, new_rule, takes, with_rule}
+use Rattle.std.specs.Prelude.{◌≡◌, ◌≢◌, ◌⊎◌, ◌<◌, ◌^◌, ◌-◌, ℕ, true, false, List, [], ◌∷◌, fold, Option, Some, None, Result, Err, IsOk, codes, decimal, bytes_eq, find}
+use Rattle.clap.specs.Words.{App, Text, fault_of, new_app, takes, with_rule}
 use Rattle.clap.specs.Simple.{on_top}
-use Rattle.clap.specs.declared.builder.action.ArgAction.TheVariants.{Set}
-use Rattle.clap.specs.declared.builder.value_parser.ValueParser.TheVariants.{Unsigned}
 use Rattle.clap.specs.declared.error.kind.ErrorKind.{ErrorKind}
 use Rattle.clap.specs.declared.error.kind.ErrorKind.TheVariants.{OutOfMemory}
 use Rattle.command_line.specs.declared.commands.Command.{Command}
