@@ -1,5 +1,5 @@
 -- What a parse of each command finds.
-use Rattle.std.proofs.Common.{◌≡◌, ◌∙◌, ◌^◌, ◌-◌, ap, true, List, refl, codes, arith}
+use Rattle.std.proofs.Common.{◌≡◌, ◌∙◌, ap, true, ℕ, List, [], ◌∷◌, refl, arith, suc}
 use Rattle.clap.specs.Built.{IsParsedFrom}
 use Rattle.clap.specs.Matches.{found_of}
 use Rattle.clap.specs.Simple.{App, HasMatchesOf, app_of, is_simple, matches_of}
@@ -7,46 +7,43 @@ use Rattle.clap.specs.Words.{Text, is_simple_and_free}
 use Rattle.clap.specs.declared.builder.command.Command.{Command}
 use Rattle.clap.specs.declared.parser.matches.ArgMatches.{ArgMatches}
 use Rattle.clap.proofs.WalkLemmas.{both}
-use Rattle.command_line.specs.declared.command.CommandName.{CommandName}
-use Rattle.command_line.specs.declared.command.CommandName.TheVariants.{Grow, Check, Replay, Schedule, Format}
-use Rattle.command_line.specs.Commands.{command_app}
-use Rattle.command_line.specs.Options.{FindsOptions}
-use Rattle.command_line.specs.Stated.{IsExact}
+use Rattle.command_line.specs.declared.commands.CommandName.{CommandName}
+use Rattle.command_line.specs.declared.commands.CommandName.TheVariants.{Grow}
+use Rattle.command_line.specs.Commands.{command_app, options_of}
+use Rattle.command_line.specs.Numbers.{NumberOption}
+use Rattle.command_line.specs.Inner.Found.{FindsOptions, IsExact}
 use Rattle.command_line.proofs.OptionLemmas.{HasNumberOption, option_found}
 
 -- clap's words for faults and for what is taken are about such commands
 pub app_simple : (name : CommandName) → is_simple_and_free (command_app name) ≡ true
 unfolding command_app
 app_simple Grow = refl
-app_simple Check = refl
-app_simple Replay = refl
-app_simple Schedule = refl
-app_simple Format = refl
+app_simple _ = refl
 
-grow_choice : HasNumberOption (command_app Grow) 0 (codes "choice") (codes "0") 0 (2 ^ 64 - 1)
+-- the command has the options, from a place on
+abbrev HasOptions : App → ℕ → List NumberOption → Type 0
+HasOptions app place [] = Unit {0}
+HasOptions app place (option ∷ options) = HasNumberOption app place option × HasOptions app (suc place) options
+
+has_options : (name : CommandName) → HasOptions (command_app name) 0 (options_of name)
 unfolding command_app
-grow_choice = record {
-  simple = refl;
-  free = refl;
-  below = omega arith;
-  at = λ other. refl;
-  only = refl;
-  own = refl;
-}
+has_options Grow = (record { simple = refl; free = refl; below = omega arith; at = λ other. refl; only = refl; own = refl }, tt)
+has_options _ = tt
 
 -- a parse finds a number for each option of the command
-options_found : (name : CommandName) (command : Command) (found : ArgMatches) → app_of command ≡ command_app name → IsParsedFrom command found
-    → FindsOptions name (found_of found)
-options_found Grow command found is parsed = option_found command found (command_app Grow) is parsed 0 (codes "choice") (codes "0") 0 (2 ^ 64 - 1) grow_choice
-options_found Check command found is parsed = tt
-options_found Replay command found is parsed = tt
-options_found Schedule command found is parsed = tt
-options_found Format command found is parsed = tt
+options_found : (command : Command) (found : ArgMatches) (app : App) → app_of command ≡ app → IsParsedFrom command found
+    → (place : ℕ) (options : List NumberOption) → HasOptions app place options → FindsOptions options (found_of found)
+options_found command found app is parsed place [] has = tt
+options_found command found app is parsed place (option ∷ options) has =
+    (option_found command found app is parsed place option has.0, options_found command found app is parsed (suc place) options has.1)
 
 -- a parse finds what clap states, and a number for each option
 pub command_parsed : (name : CommandName) (command : Command) (words : List Text) (found : ArgMatches) → app_of command ≡ command_app name
-    → IsParsedFrom command found → HasMatchesOf (app_of command) words found → IsExact (command_app name) words (found_of found) × FindsOptions name (found_of found)
+    → IsParsedFrom command found → HasMatchesOf (app_of command) words found
+    → IsExact (command_app name) words (found_of found) × FindsOptions (options_of name) (found_of found)
 unfolding IsExact
 command_parsed name command words found is parsed matches =
-    let simple : is_simple (app_of command) ≡ true = ap is_simple is ∙ (both _ _ (app_simple name)).0 in
-    ((matches simple).0 ∙ ap (λ (app : App). matches_of app words) is, options_found name command found is parsed)
+    let simple : is_simple (app_of command) ≡ true = ap is_simple is ∙ (both _ _ (app_simple name)).0 in (
+      (matches simple).0 ∙ ap (λ (app : App). matches_of app words) is,
+      options_found command found (command_app name) is parsed 0 (options_of name) (has_options name),
+    )

@@ -10,7 +10,7 @@ use Rattle.clap.specs.Facts.{args_of, groups_of, Entry, EntryPasses, HasId, HasR
 use Rattle.clap.specs.Built.{IsAuto, IsParsedFrom, IsPlain, SameRules}
 use Rattle.clap.specs.Matches.{first_value, found_of, matched_of, one_text}
 use Rattle.clap.specs.Values.{Accepts, read_as, reading_of}
-use Rattle.command_line.specs.Stated.{FindsText}
+use Rattle.command_line.specs.Inner.Found.{FindsText}
 use Rattle.clap.proofs.CallerLemmas.{default_present, entry_by_id, same_rules_by_id}
 use Rattle.clap.specs.declared.builder.action.ArgAction.TheVariants.{Count, Set}
 use Rattle.clap.specs.declared.builder.arg.Arg.{Arg}

@@ -17,8 +17,8 @@ use Rattle.clap.specs.declared.builder.command.Command.{Command}
 use Rattle.clap.specs.declared.builder.value_parser.ValueParser.TheVariants.{Unsigned}
 use Rattle.clap.specs.declared.parser.matches.ArgMatches.{ArgMatches}
 use Rattle.clap.proofs.WalkLemmas.{both, one_text-rows}
-use Rattle.command_line.specs.Commands.{number_option}
-use Rattle.command_line.specs.Stated.{FindsInRange, FindsNumber, FindsText, IsExact, States, number_of_text}
+use Rattle.command_line.specs.Numbers.{NumberOption, States, number_of_text, number_rule}
+use Rattle.command_line.specs.Inner.Found.{FindsInRange, FindsNumber, FindsText, IsExact}
 use Rattle.command_line.proofs.SimpleLemmas.{no_globals, plain_command, rule_at, set_option, wants_default}
 use Rattle.command_line.proofs.FoundLemmas.{default_found}
 
@@ -33,13 +33,13 @@ abbrev pub is_own_id : Text → Bool
 is_own_id id = not (is_empty id) && (not (bytes_eq id (codes "help")) && not (bytes_eq id (codes "version")))
 
 -- the command is simple, and has the number option at a place
-pub record HasNumberOption (app : App) (place : ℕ) (id default : Text) (least most : ℕ) : Type 0 where
+pub record HasNumberOption (app : App) (place : ℕ) (option : NumberOption) : Type 0 where
   pub simple : has_simple_rules app.top ≡ true
   pub free : list_all (λ rule. rule.is_free) app.top.rules ≡ true
   pub below : place < length app.top.rules
-  pub at : (other : Rule) → slice_index_or app.top.rules place other ≡ number_option id default least most
-  pub only : only_at app.top.rules place id ≡ true
-  pub own : is_own_id id ≡ true
+  pub at : (other : Rule) → slice_index_or app.top.rules place other ≡ number_rule option
+  pub only : only_at app.top.rules place option.id ≡ true
+  pub own : is_own_id option.id ≡ true
 
 not_both : (b : Bool) → not b ≡ true → b ≡ true → ⊥
 not_both true denied held = true≢false (sym denied)
@@ -78,9 +78,9 @@ module _ (c : Command) (m : ArgMatches) (app : App) (is : app_of c ≡ app) (par
   count = sym (length-map (args_of c) rule_of) ∙ ap length rules_are
 
   -- a parse finds a number in its range for a number option
-  pub option_found : (place : ℕ) (id default : Text) (least most : ℕ) → HasNumberOption app place id default least most → FindsInRange (found_of m) id least most
+  pub option_found : (place : ℕ) (option : NumberOption) → HasNumberOption app place option → FindsInRange (found_of m) option.id option.least option.most
   unfolding FindsInRange
-  option_found place id default least most has = go (args_of c) refl
+  option_found place option has = go (args_of c) refl
     where
       simple : has_simple_rules (app_of c).top ≡ true
       simple = ap (λ (a : App). has_simple_rules a.top) is ∙ has.simple
@@ -97,27 +97,27 @@ module _ (c : Command) (m : ArgMatches) (app : App) (is : app_of c ≡ app) (par
       at : (j : ℕ) (d : Arg) → rule_of (slice_index_or (args_of c) j d) ≡ slice_index_or app.top.rules j (rule_of d)
       at j d = rule_at (args_of c) j d ∙ ap (λ (rules : List Rule). slice_index_or rules j (rule_of d)) rules_are
 
-      here : (d : Arg) → rule_of (slice_index_or (args_of c) place d) ≡ number_option id default least most
+      here : (d : Arg) → rule_of (slice_index_or (args_of c) place d) ≡ number_rule option
       here d = at place d ∙ has.at (rule_of d)
 
       alone : (d : Arg) (j : ℕ) (e : Arg) → j < length (args_of c)
           → bytes_eq (slice_index_or (args_of c) j e).id.now (slice_index_or (args_of c) place d).id.now ≡ true → j ≡ place
       alone d j e low same =
           let n = count in
-          let mine : (slice_index_or (args_of c) place d).id.now ≡ id = ap (λ (rule : Rule). rule.id) (here d) in
+          let mine : (slice_index_or (args_of c) place d).id.now ≡ option.id = ap (λ (rule : Rule). rule.id) (here d) in
           let theirs : (slice_index_or (args_of c) j e).id.now ≡ (slice_index_or app.top.rules j (rule_of e)).id = ap (λ (rule : Rule). rule.id) (at j e) in
-          only_place app.top.rules place id j (rule_of e) has.only (omega arith) (rw (← theirs, ← mine) same)
+          only_place app.top.rules place option.id j (rule_of e) has.only (omega arith) (rw (← theirs, ← mine) same)
 
-      states : (d : Arg) → FindsInRange (found_of m) id least most
+      states : (d : Arg) → FindsInRange (found_of m) option.id option.least option.most
       states d =
-          let got = default_found c m parsed (plain_command c simple free) (no_globals c simple) place d (Unsigned least most)
-          (set_option c place d (number_option id default least most) (Unsigned least most) under simple (here d) refl refl refl (own_not_empty id has.own)
-          (own_not_auto id has.own) (alone d))
-          (wants_default c place d (number_option id default least most) under simple (here d) (omega arith)) in
-          subst (λ (w : Text). FindsText (found_of m) w false (Unsigned least most)) (ap (λ (rule : Rule). rule.id) (here d))
-          (subst (λ (b : Bool). FindsText (found_of m) (slice_index_or (args_of c) place d).id.now b (Unsigned least most)) (ap (λ (rule : Rule). rule.ignore_case) (here d)) got)
+          let got = default_found c m parsed (plain_command c simple free) (no_globals c simple) place d (Unsigned option.least option.most)
+          (set_option c place d (number_rule option) (Unsigned option.least option.most) under simple (here d) refl refl refl (own_not_empty option.id has.own)
+          (own_not_auto option.id has.own) (alone d))
+          (wants_default c place d (number_rule option) under simple (here d) (omega arith)) in
+          subst (λ (w : Text). FindsText (found_of m) w false (Unsigned option.least option.most)) (ap (λ (rule : Rule). rule.id) (here d))
+          (subst (λ (b : Bool). FindsText (found_of m) (slice_index_or (args_of c) place d).id.now b (Unsigned option.least option.most)) (ap (λ (rule : Rule). rule.ignore_case) (here d)) got)
 
-      go : (args : List Arg) → args_of c ≡ args → FindsInRange (found_of m) id least most
+      go : (args : List Arg) → args_of c ≡ args → FindsInRange (found_of m) option.id option.least option.most
       go [] none =
           let zero : length (args_of c) ≡ 0 = ap length none in
           let lt = under in

@@ -17,7 +17,7 @@ use Rattle.clap.proofs.ValueTestLemmas.{Accepts-accepts}
 use Rattle.clap.proofs.TakesLemmas.{leaf_takes}
 use Rattle.clap.proofs.OnLiterals.{clap_on_literals}
 use Rattle.command_line.specs.Commands.{choice_option, plain_app}
-use Rattle.command_line.specs.Stated.{States, number_of_text}
+use Rattle.command_line.specs.Numbers.{States, number_of_text, number_rule}
 
 -- ---- a word that is no flag
 
@@ -88,7 +88,7 @@ decimal_text n fits = go (decimal n) (decimal_is_IsNumeral n fits)
 -- ---- a command whose one option is `--choice N`
 
 abbrev app : Text → App
-app name = with_rule (plain_app name) choice_option
+app name = with_rule (plain_app name) (number_rule choice_option)
 
 abbrev top : Text → Shape
 top name = (built (app name)).top

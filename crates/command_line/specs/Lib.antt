@@ -1,3 +1,3 @@
 pub mod Commands
-pub mod Options
-pub mod Stated
+pub mod Inner
+pub mod Numbers

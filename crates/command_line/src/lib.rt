@@ -1,14 +1,15 @@
 //! The words of a command line, read by clap.
 #![tactic(auto)]
 
-mod clap_command;
-mod command;
+mod commands;
 mod laws;
+mod option;
+mod parse;
 mod words;
 mod words_stop;
 
-pub use command::{Command, CommandName};
-pub use laws::{law_further_words, law_one_reading};
+pub use commands::{Command, CommandName};
+pub use laws::{law_further_words, law_one_reading, law_plain_words};
 pub use words::command_of;
 pub use words_stop::WordsStop;
 

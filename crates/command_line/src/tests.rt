@@ -59,7 +59,15 @@ fn reads_words(rt: HostRuntime) -> Result<(), Fail> {
     ] {
         assert_eq!(rt; read(alloc, text)?, wanted, "at {text:?}");
     }
-    assert_eq!(rt; WordsStop::NoCommand.name(), "NoCommand");
-    assert_eq!(rt; WordsStop::Usage.name(), "Usage");
+    for (stop, text) in [
+        (
+            WordsStop::NoCommand,
+            "the first word is missing or names no command",
+        ),
+        (WordsStop::Usage, "the command does not take these words"),
+        (WordsStop::NoMemory, "memory was wanting"),
+    ] {
+        assert_eq!(rt; format!(in alloc; "{stop}")?.as_str(), text);
+    }
     Ok(())
 }

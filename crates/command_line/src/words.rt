@@ -1,13 +1,10 @@
 // From a list of words to a command.
 ghost use Rattle.std.specs.Prelude.{◌≡◌, ◌≢◌, ◌↔◌, Ok, Err, None, Some, map, string_bytes, IfOk};
-ghost use Rattle.clap.specs.Words.{found_of};
-ghost use Rattle.command_line.specs.Commands.{IsCallOf, IsUsage, TakesSpellings, command_named, name_of};
-ghost use Rattle.command_line.specs.Options.{FindsOptions, HasOptions};
+ghost use Rattle.command_line.specs.Commands.{IsCallOf, IsUsage, IsTakenUnlessMemory, command_named};
 
-use crate::clap_command::{matches_of, number_of};
-use crate::command::{Command, CommandName, name_of_word};
+use crate::commands::{Command, CommandName, command_found, command_named_by};
+use crate::parse::matches_of;
 use crate::words_stop::WordsStop;
-use clap::ArgMatches;
 use std::alloc::Global;
 
 /// The command that the words call for, as clap reads them. Nothing is printed.
@@ -19,8 +16,8 @@ pub fn command_of(alloc: Global, words: &[String]) -> Result<Command, WordsStop>
         ↔ (command_named (map string_bytes words.now) ≡ None) }
     ensures usage { result ≡ Err WordsStop.Usage → IsUsage (map string_bytes words.now) }
 
-    // The plainest words for a command are taken, or memory is wanting.
-    ensures spelled { TakesSpellings (map string_bytes words.now) result }
+    // Words that clap promises to take are taken, or memory is wanting.
+    ensures taken { IsTakenUnlessMemory (map string_bytes words.now) result }
 {
     let Some(name) = named_command(words) else {
         return Err(WordsStop::NoCommand);
@@ -33,7 +30,7 @@ fn named_command(words: &[String]) -> Option<CommandName>
     ensures { result ≡ command_named (map string_bytes words.now) }
 {
     match words.first() {
-        Some(word) => name_of_word(word.as_str()),
+        Some(word) => command_named_by(word.as_str()),
         None => None,
     }
 }
@@ -44,25 +41,8 @@ fn read_words(alloc: Global, name: CommandName, words: &[String]) -> Result<Comm
     ensures called { IfOk result (IsCallOf (map string_bytes words.now)) }
     ensures named { result ≢ Err WordsStop.NoCommand }
     ensures usage { result ≡ Err WordsStop.Usage → IsUsage (map string_bytes words.now) }
-    ensures spelled { TakesSpellings (map string_bytes words.now) result }
+    ensures taken { IsTakenUnlessMemory (map string_bytes words.now) result }
 {
     let found = matches_of(alloc, name, words)?;
-    Ok(with_options(name, &found))
-}
-
-// The command with the values of its options.
-fn with_options(name: CommandName, found: &ArgMatches) -> Command
-    requires { FindsOptions name (found_of found.now) }
-    ensures name { name_of result ≡ name }
-    ensures options { HasOptions (found_of found.now) result }
-{
-    match name {
-        CommandName::Grow => Command::Grow {
-            choice: number_of(found, "choice"),
-        },
-        CommandName::Check => Command::Check,
-        CommandName::Replay => Command::Replay,
-        CommandName::Schedule => Command::Schedule,
-        CommandName::Format => Command::Format,
-    }
+    Ok(command_found(name, &found))
 }

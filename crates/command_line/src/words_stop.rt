@@ -1,7 +1,8 @@
 // Why words are refused.
 ghost use Rattle.std.specs.Prelude.{◌≡◌};
-ghost use Rattle.command_line.specs.Commands.{words_stop_name};
+ghost use Rattle.command_line.specs.Commands.{words_stop_name, words_stop_of};
 
+use clap::error::ErrorKind;
 use std::alloc::{AllocError, AllocFailed};
 use thiserror::Error;
 
@@ -25,6 +26,16 @@ impl WordsStop {
             WordsStop::NoCommand => "NoCommand",
             WordsStop::Usage => "Usage",
             WordsStop::NoMemory => "NoMemory",
+        }
+    }
+
+    /// What an error of clap becomes: want of memory is that, all else a refusal.
+    pub(crate) fn of_kind(kind: ErrorKind) -> WordsStop
+        ensures { result ≡ words_stop_of kind }
+    {
+        match kind {
+            ErrorKind::OutOfMemory => WordsStop::NoMemory,
+            _ => WordsStop::Usage,
         }
     }
 }

@@ -1,7 +1,9 @@
-pub mod Confluent
+pub mod Endings
 pub mod Growths
+pub mod Headlines
 pub mod Looked
 pub mod Marks
-pub mod Replying
 pub mod Scheduling
+pub mod Sources
+pub mod Tops
 pub mod Writing

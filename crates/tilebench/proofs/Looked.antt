@@ -17,7 +17,7 @@ use Rattle.assembly.specs.Grids.{TileGrid}
 use Rattle.atam.proofs.Tiles.{SameTiles-put, SamePlacements-push, SamePlacements-trans}
 use Rattle.atam.proofs.Opening.{IsCandidate-same, Attaches-same, IsCandidate-push}
 use Rattle.tilebench.specs.declared.grid_growth.GridGrowth.{GridGrowth}
-use Rattle.tilebench.specs.GridGrowing.{IsInStep, IsGrownSoFar, IsClosedBut, AddsSite, AddsNeighbors, LooksAt}
+use Rattle.tilebench.specs.Inner.GridGrowing.{IsInStep, IsGrownSoFar, IsClosedBut, AddsSite, AddsNeighbors, LooksAt}
 
 -- a tile that both get keeps the grid in step
 pub IsInStep-put : (before : GridGrowth) (sequence : List Place) (grid : TileGrid) (p : Place) → IsInStep before → tile_at before.sequence p.site ≡ None →

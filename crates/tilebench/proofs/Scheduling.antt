@@ -18,7 +18,9 @@ use Rattle.grow_core.specs.declared.event.CoreStop.TheVariants.{NoMemory}
 use Rattle.grow_core.specs.Core.{CoreState, places, CoreInvariant}
 use Rattle.grow_core.specs.Steps.{place, CoreStep, CoreRun, no_such_scout, no_other_scout, same_scout, looks_outside, claims_outside, unsupported, one_number, no_memory, saw_none, saw_tile, won, held, divided, joined, stopped, stepped}
 use Rattle.seq_text.specs.SeenLines.{HasLine}
-use Rattle.tilebench.specs.ScheduleAnswer.{IsRunOf}
+use Rattle.tilebench.specs.declared.commands.schedule.Scheduled.{Scheduled}
+use Rattle.tilebench.specs.Commands.Schedule.{IsRunOf, IsScheduleAnswer, IsSystemThenEvents, are_answered, schedule_text}
+use Rattle.tilebench.specs.Inner.Rooms.{Schedules, replies_of}
 
 -- one more event
 run_more : (sys : TileSystem) (s t u : CoreState) (answered : List (Event × Result Seen CoreStop)) (event : Event) (reply : Result Seen CoreStop) →
@@ -79,4 +81,17 @@ pub core_fits : (sys : TileSystem) (s : CoreState) → CoreInvariant sys s → F
 core_fits sys s sound = record {
   types = sound.growth.history.legal.types;
   sites = All-map (λ (q : Place). InBox sys.area q.site) (λ (t : PlacedTile). t.place) s.tiles sound.growth.history.inside;
+}
+
+-- what the events of a schedule came to is the answer to its text
+pub schedule_answer : (input : List ℕ) (sys : TileSystem) (events : List Event) (scheduled : Scheduled) → IsSystemThenEvents input sys events → Schedules sys events scheduled →
+    IsScheduleAnswer input (are_answered scheduled.replies.items) (schedule_text scheduled.sys (replies_of scheduled))
+schedule_answer input sys events scheduled read done = record {
+  sys = scheduled.sys;
+  events = events;
+  read = subst (λ (s : TileSystem). IsSystemThenEvents input s events) (sym done.same) read;
+  schedule = replies_of scheduled;
+  replied = done.replied;
+  printed = refl;
+  answer = refl;
 }

@@ -1,21 +1,44 @@
--- The words of a command line, and their refusals.
-use Rattle.std.specs.Prelude.{◌≡◌, ℕ, List, [], ◌∷◌, codes, None}
-use Rattle.tile_io.specs.Lines.{line_of}
-use Rattle.command_line.specs.declared.command.Command.{Command}
-use Rattle.command_line.specs.declared.words_stop.WordsStop.{WordsStop}
-use Rattle.command_line.specs.declared.words_stop.WordsStop.TheVariants.{NoCommand, Usage, NoMemory}
-use Rattle.command_line.specs.Commands.{IsCallOf, IsUsage, command_named, words_stop_name}
+-- The table of commands: what each reads, and what it answers. Each has a room of its own below.
+use Rattle.std.specs.Prelude.{ℕ, Bool, List, Option}
+use Rattle.tile_io.specs.declared.fault.TextFault.{TextFault}
+use Rattle.seq_text.specs.GrowthText.{sequence_format, grid_format}
+use Rattle.seq_text.specs.ScheduleText.{schedule_format}
+use Rattle.command_line.specs.declared.commands.Command.{Command}
+use Rattle.command_line.specs.declared.commands.Command.TheVariants as command
+use Rattle.command_line.specs.declared.commands.CommandName.{CommandName}
+use Rattle.command_line.specs.declared.commands.CommandName.TheVariants as name
+use Rattle.tilebench.specs.Inputs.{AnswersInput, FailsInput, FailsWithin, IsReadable, alone}
+use Rattle.tilebench.specs.Commands.Grow.{IsGrowthAnswer}
+use Rattle.tilebench.specs.Commands.Check.{IsCheckAnswer}
+use Rattle.tilebench.specs.Commands.Replay.{IsReplayAnswer}
+use Rattle.tilebench.specs.Commands.Schedule.{IsScheduleAnswer}
+use Rattle.tilebench.specs.Commands.Format.{IsFormatAnswer}
+pub mod Check
+pub mod Format
+pub mod Grow
+pub mod Replay
+pub mod Schedule
 
--- the words call for some command
-abbrev pub IsCall : List (List ℕ) → Type 0
-IsCall words = (command : Command) × IsCallOf words command
+-- what a command answers to what is left of the source, and what is left afterwards
+abbrev pub Answers : Command → Option (List ℕ) → Option (List ℕ) → Bool → List ℕ → Type 0
+Answers (command.Grow choice) = AnswersInput IsGrowthAnswer
+Answers command.Check = AnswersInput IsCheckAnswer
+Answers command.Replay = AnswersInput IsReplayAnswer
+Answers command.Schedule = AnswersInput IsScheduleAnswer
+Answers command.Format = AnswersInput IsFormatAnswer
 
--- why the words are refused: the first names no command, or clap finds a fault in the list; want of memory is no refusal
-abbrev pub IsRefusedAs : List (List ℕ) → WordsStop → Type 0
-IsRefusedAs words NoCommand = command_named words ≡ None
-IsRefusedAs words Usage = IsUsage words
-IsRefusedAs words NoMemory = ⊥
+-- the inputs that a command takes
+abbrev pub Takes : CommandName → List ℕ → Type 0
+Takes name.Grow = IsReadable alone
+Takes name.Check = IsReadable sequence_format
+Takes name.Replay = IsReadable grid_format
+Takes name.Schedule = IsReadable schedule_format
+Takes name.Format = IsReadable alone
 
--- the line that tells it
-abbrev pub refused_words : WordsStop → List ℕ
-refused_words stop = line_of (codes "refused" ∷ codes "words" ∷ words_stop_name stop ∷ [])
+-- the first fault of what is left of the source
+abbrev pub Fails : CommandName → Option (List ℕ) → Option (List ℕ) → TextFault → Type 0
+Fails name.Grow = FailsInput (FailsWithin alone)
+Fails name.Check = FailsInput (FailsWithin sequence_format)
+Fails name.Replay = FailsInput (FailsWithin grid_format)
+Fails name.Schedule = FailsInput (FailsWithin schedule_format)
+Fails name.Format = FailsInput (FailsWithin alone)

@@ -1,11 +1,12 @@
 // Growth on one thread, over a grid.
 ghost use Rattle.std.specs.Prelude.{◌≡◌, ◌<◌, ◌≤◌, [], ◌∷◌, ◌++◌, length, None, All, Contains, OnOk, IfOk};
 ghost use Rattle.atam.specs.declared.site.Site.{Site};
+ghost use Rattle.atam.specs.declared.limits.TheConstants.{MOST_TYPES};
 ghost use Rattle.atam.specs.Sites.{InBox, IsBox, IsNearSite};
 ghost use Rattle.atam.specs.Placements.{tile_at};
 ghost use Rattle.atam.specs.Assembly.{Fits};
 ghost use Rattle.atam.specs.Growth.{IsClosedInBox, IsLegal};
-ghost use Rattle.tilebench.specs.GridGrowing.{IsInStep, IsGrownSoFar, IsClosedBut, AddsSite, AddsNeighbors, LooksAt};
+ghost use Rattle.tilebench.specs.Inner.GridGrowing.{IsInStep, IsGrownSoFar, IsClosedBut, AddsSite, AddsNeighbors, LooksAt};
 
 use crate::picker::Picker;
 use assembly::{Grid, Sequence, site_of_index};
@@ -25,7 +26,7 @@ impl GridGrowth {
     fn add(&mut self, place: Place) -> Result<(), NoMemory>
         requires inside { InBox self.old.grid.area place.site }
         requires empty { tile_at self.old.sequence place.site ≡ None }
-        requires small { place.tile.0 < 16384 }
+        requires small { place.tile.0 < MOST_TYPES }
         requires step { IsInStep self.old }
         ensures sequence { OnOk result (self.new.sequence ≡ self.old.sequence ++ place ∷ []) }
         ensures area { OnOk result (self.new.grid.area ≡ self.old.grid.area) }
@@ -100,7 +101,8 @@ fn look<C: Chooser + Drop>(
     requires site { InBox sys.now.area site }
     requires inside { All (InBox sys.now.area) sites.old.items }
     requires closed { IsClosedBut sys.now growth.old.sequence (sites.old.items ++ site ∷ []) }
-    ensures looked { OnOk result (LooksAt sys.now growth.old growth.new sites.old.items sites.new.items) }
+    ensures looked { OnOk result
+        (LooksAt sys.now growth.old growth.new sites.old.items sites.new.items) }
     ensures room { picker.new.found.room ≡ picker.old.found.room }
 {
     let area = sys.area();

@@ -2,7 +2,7 @@
 ghost use Rattle.std.specs.Prelude.{◌≡◌, ◌≤◌, length, IfOk};
 ghost use Rattle.atam.specs.Sites.{IsNearSite};
 ghost use Rattle.atam.specs.Assembly.{Fits};
-ghost use Rattle.tilebench.specs.GridGrowing.{IsOpenType};
+ghost use Rattle.tilebench.specs.Inner.GridGrowing.{IsOpenType};
 
 use assembly::Grid;
 use attach_rule::{TypeList, candidates};

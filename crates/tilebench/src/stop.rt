@@ -1,4 +1,5 @@
 // Why there is no answer.
+use crate::status::Status;
 use command_line::WordsStop;
 use thiserror::Error;
 use tile_io::{Cause, ReadStop, TextFault, TextStop};
@@ -17,9 +18,26 @@ pub enum Stop {
     NoMemory,
 }
 
+impl Stop {
+    ghost use Rattle.std.specs.Prelude.{◌≡◌};
+    ghost use Rattle.tilebench.specs.Inner.Stops.{status_of};
+
+    /// The status that tells it, where its line could be written if it has one.
+    pub fn status(self) -> Status
+        ensures { result ≡ status_of self }
+    {
+        match self {
+            Stop::Words(_) => Status::Words,
+            Stop::Text(_) => Status::Text,
+            Stop::ReadFault => Status::ReadFault,
+            Stop::NoMemory => Status::NoMemory,
+        }
+    }
+}
+
 impl From<WordsStop> for Stop {
     ghost use Rattle.std.specs.Prelude.{◌≡◌};
-    ghost use Rattle.tilebench.specs.Causes.{stop_of_words};
+    ghost use Rattle.tilebench.specs.Inner.Stops.{stop_of_words};
 
     ghost from_gives = { λ words stop. stop ≡ stop_of_words words };
 
@@ -33,7 +51,7 @@ impl From<WordsStop> for Stop {
 
 impl From<ReadStop> for Stop {
     ghost use Rattle.std.specs.Prelude.{◌≡◌};
-    ghost use Rattle.tilebench.specs.Causes.{stop_of_read};
+    ghost use Rattle.tilebench.specs.Inner.Stops.{stop_of_read};
 
     ghost from_gives = { λ read stop. stop ≡ stop_of_read read };
 
@@ -51,7 +69,7 @@ impl From<ReadStop> for Stop {
 
 impl From<TextStop> for Stop {
     ghost use Rattle.std.specs.Prelude.{◌≡◌};
-    ghost use Rattle.tilebench.specs.Causes.{stop_of_text};
+    ghost use Rattle.tilebench.specs.Inner.Stops.{stop_of_text};
 
     ghost from_gives = { λ text stop. stop ≡ stop_of_text text };
 

@@ -1,7 +1,7 @@
 use Rattle.std.proofs.Common.{◌≤◌, ◌+◌, ◌-◌, ◌*◌, All, length}
 use Rattle.atam.specs.Sites.{InBox}
 use Rattle.assembly.specs.Cells.{cell_count}
-use Rattle.tilebench.specs.GridGrowing.{IsGrownSoFar, IsClosedBut}
+use Rattle.tilebench.specs.Inner.GridGrowing.{IsGrownSoFar, IsClosedBut}
 use Rattle.tilebench.proofs.grid_growth.grow_grid.Given as goal
 
 -- what may be open is listed

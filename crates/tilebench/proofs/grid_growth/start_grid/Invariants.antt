@@ -1,5 +1,5 @@
 use Rattle.std.proofs.Common.{◌≡◌, take}
-use Rattle.tilebench.specs.GridGrowing.{IsInStep}
+use Rattle.tilebench.specs.Inner.GridGrowing.{IsInStep}
 use Rattle.tilebench.proofs.grid_growth.start_grid.Given as goal
 
 -- the seeds so far

@@ -1,60 +1,89 @@
-use Rattle.std.proofs.Common.{◌≢◌, ℕ, Bool, List, map, string_bytes, refl, inl, inr}
-use Rattle.tilebench.specs.AnswerText.{is_yes, answer_text}
-use Rattle.tilebench.specs.Inputs.{refused_text}
-use Rattle.tilebench.specs.Replies.{IsAnswer, IsRefusal}
-use Rattle.tilebench.specs.declared.status.Status.TheVariants.{Done, No, Words, Text, WriteFault}
-use Rattle.tilebench.proofs.Replying.{answer_told, answer_whole, tells_yes, tells_no, cut_text, answer_no_fault, answer_or_refusal, spelled_or_refused, refused_uncalled}
+use Rattle.std.proofs.Common.{◌≡◌, ap, refl, subst, inr, Err, map, string_bytes, arith}
+use Rattle.command_line.specs.declared.words_stop.WordsStop.TheVariants.{NoCommand}
+use Rattle.tilebench.specs.declared.stop.Stop.{Stop}
+use Rattle.tilebench.specs.Inner.Stops.{stop_of_words}
+use Rattle.tilebench.specs.Inner.Tells.{Refuses}
+use Rattle.tilebench.proofs.Tops.{call_ended, call_grown, call_named, call_complete, same_stop, stop_ended, stop_no_read_fault, stop_no_answer, stop_unnamed, stop_later, stop_complete}
 use Rattle.tilebench.proofs.top.tilebench.Goals as goal
 
-pub returns-in-Ok-clause-done : goal.returns-in-Ok-clause-done
-returns-in-Ok-clause-done g c =
-    tells_yes _ _ _ _ _ _ _ (is_yes c.in-Ok.answer) (answer_text c.in-Ok.answer) c.print_answer-status.result c.in-Ok.ensures.answer.0 c.print_answer-status.ensures
+pub returns-in-Ok-clause-ends : goal.returns-in-Ok-clause-ends
+returns-in-Ok-clause-ends g c = call_ended _ _ _ _ _ _ _ _ _ _ _ _ _ c.in-Ok.command c.in-Ok.ensures.called c.run_command-status.result c.run_command-status.ensures
 
-pub returns-in-Ok-clause-no : goal.returns-in-Ok-clause-no
-returns-in-Ok-clause-no g c =
-    tells_no _ _ _ _ _ _ _ (is_yes c.in-Ok.answer) (answer_text c.in-Ok.answer) c.print_answer-status.result c.in-Ok.ensures.answer.0 c.print_answer-status.ensures
+pub returns-in-Ok-clause-growth : goal.returns-in-Ok-clause-growth
+returns-in-Ok-clause-growth g c = call_grown _ _ _ _ _ _ _ _ _ _ _ _ _ c.in-Ok.command c.in-Ok.ensures.called c.run_command-status.result c.run_command-status.ensures
 
-pub returns-in-Ok-clause-cut_off : goal.returns-in-Ok-clause-cut_off
-returns-in-Ok-clause-cut_off g c = λ fault.
-    let left = g.S.Source.left c.args.source.now in
-    let left_after = g.S.Source.left c.answer_to.new.source in
-    let IsSaid : List ℕ → Type 0 = λ text. (yes_or_no : Bool) × IsAnswer (map string_bytes c.args.words.now) left left_after yes_or_no text in
-    let answer = c.in-Ok.answer in
-    inl (cut_text IsSaid _ _ _ _ _ c.print_answer-status.result (answer_text answer) (answer_no_fault (is_yes answer)) (is_yes answer, c.in-Ok.ensures.answer.0) c.print_answer-status.ensures fault, refl)
+pub returns-in-Ok-clause-unread : goal.returns-in-Ok-clause-unread
+returns-in-Ok-clause-unread g c = λ uncalled. absurd (uncalled (c.in-Ok.command, c.in-Ok.ensures.called))
 
-pub returns-in-Err-Words-clause-words_unread : goal.returns-in-Err-Words-clause-words_unread
-returns-in-Err-Words-clause-words_unread g c = λ _.
-    c.in-Err-Words.ensures.unread (refused_uncalled _ c.in-Err-Words.stop (rw c.in-Err-Words.field-0-is at c.in-Err-Words.ensures.answer))
+pub returns-in-Ok-clause-read_fault : goal.returns-in-Ok-clause-read_fault
+returns-in-Ok-clause-read_fault g c = λ _. (c.in-Ok.command, c.in-Ok.ensures.called)
 
-pub returns-in-Err-Words-clause-complete : goal.returns-in-Err-Words-clause-complete
-returns-in-Err-Words-clause-complete g c = λ can _ _ _.
-    absurd (spelled_or_refused _ can.command c.in-Err-Words.stop can.spelled (rw c.in-Err-Words.field-0-is at c.in-Err-Words.ensures.answer))
+pub returns-in-Ok-clause-no_memory : goal.returns-in-Ok-clause-no_memory
+returns-in-Ok-clause-no_memory g c = λ _. inr (c.in-Ok.command, c.in-Ok.ensures.called)
 
-pub returns-in-Err-Text-clause-complete : goal.returns-in-Err-Text-clause-complete
-returns-in-Err-Text-clause-complete g c = λ can _ _ _. absurd (answer_or_refusal _ _ _ _ can (rw c.in-Err-Text.field-0-is at c.in-Err-Text.ensures.answer))
+pub returns-in-Ok-clause-no_command : goal.returns-in-Ok-clause-no_command
+returns-in-Ok-clause-no_command g c = λ unnamed. absurd (call_named _ _ _ _ _ _ _ _ _ _ _ _ _ c.in-Ok.command c.in-Ok.ensures.called c.run_command-status.result c.run_command-status.ensures unnamed)
 
-pub returns-in-Err-Text-clause-cut_off : goal.returns-in-Err-Text-clause-cut_off
-returns-in-Err-Text-clause-cut_off g c = λ fault.
-    let left = g.S.Source.left c.args.source.now in
-    let left_after = g.S.Source.left c.answer_to.new.source in
-    let IsSaid : List ℕ → Type 0 = IsRefusal (map string_bytes c.args.words.now) left left_after in
-    let other : Text ≢ WriteFault = λ same. cc in
-    inr (cut_text IsSaid _ _ _ _ Text c.refuse_text-status.result (refused_text c.in-Err-Text.fault) other (inr (rw c.in-Err-Text.field-0-is at c.in-Err-Text.ensures.answer)) c.refuse_text-status.ensures fault, refl)
+pub returns-in-Ok-clause-faults : goal.returns-in-Ok-clause-faults
+returns-in-Ok-clause-faults g c =
+    let run = c.run_command-status.ensures in
+    (run.source_later, run.out_later, run.err_later)
 
-pub returns-in-Ok-clause-words : goal.returns-in-Ok-clause-words
-returns-in-Ok-clause-words g c = λ is.
-    let not_done : Done ≢ Words = λ same. cc in
-    let not_no : No ≢ Words = λ same. cc in
-    let not_fault : WriteFault ≢ Words = λ same. cc in
-    absurd (answer_told _ _ _ _ (is_yes c.in-Ok.answer) c.print_answer-status.result Words (answer_text c.in-Ok.answer) not_done not_no not_fault c.print_answer-status.ensures is)
-
-pub returns-in-Ok-clause-text : goal.returns-in-Ok-clause-text
-returns-in-Ok-clause-text g c = λ is.
-    let not_done : Done ≢ Text = λ same. cc in
-    let not_no : No ≢ Text = λ same. cc in
-    let not_fault : WriteFault ≢ Text = λ same. cc in
-    absurd (answer_told _ _ _ _ (is_yes c.in-Ok.answer) c.print_answer-status.result Text (answer_text c.in-Ok.answer) not_done not_no not_fault c.print_answer-status.ensures is)
+pub returns-in-Ok-clause-quiet : goal.returns-in-Ok-clause-quiet
+returns-in-Ok-clause-quiet g c = c.run_command-status.ensures.quiet
 
 pub returns-in-Ok-clause-complete : goal.returns-in-Ok-clause-complete
-returns-in-Ok-clause-complete g c = λ can source_quiet out_quiet err_quiet.
-    inl (answer_whole _ _ _ _ (is_yes c.in-Ok.answer) c.print_answer-status.result (answer_text c.in-Ok.answer) c.print_answer-status.ensures out_quiet)
+returns-in-Ok-clause-complete g c = call_complete _ _ _ _ _ _ _ _ _ _ _ _ _ c.in-Ok.command c.in-Ok.ensures.called c.run_command-status.result c.run_command-status.ensures
+
+pub returns-in-Err-clause-ends : goal.returns-in-Err-clause-ends
+returns-in-Err-clause-ends g c =
+    let stop = c.in-Err.stop in
+    let status = c.refuse-status.result in
+    let Told : Stop → Type 0 = λ told. Refuses g.E.Sink.written g.E.Sink.faults c.args.err.now c.refuse-status.new.err told status in
+    let refuses : Refuses g.E.Sink.written g.E.Sink.faults c.args.err.now c.refuse-status.new.err (stop_of_words stop) status = subst Told c.from.ensures c.refuse-status.ensures in
+    stop_ended g.S.Source.left g.S.Source.faults g.K.Sink.written g.K.Sink.faults g.E.Sink.written g.E.Sink.faults (map string_bytes c.args.words.now)
+    c.args.source.now c.args.source.now c.args.out.now c.args.out.now c.args.err.now c.refuse-status.new.err
+    stop (λ is. c.in-Err.ensures.no_command.0 (ap Err is)) (λ is. c.in-Err.ensures.usage (ap Err is)) status refuses refl
+
+pub returns-in-Err-clause-growth : goal.returns-in-Err-clause-growth
+returns-in-Err-clause-growth g c = λ choice is_yes _ is.
+    let stop = c.in-Err.stop in
+    let status = c.refuse-status.result in
+    let Told : Stop → Type 0 = λ told. Refuses g.E.Sink.written g.E.Sink.faults c.args.err.now c.refuse-status.new.err told status in
+    let refuses : Refuses g.E.Sink.written g.E.Sink.faults c.args.err.now c.refuse-status.new.err (stop_of_words stop) status = subst Told c.from.ensures c.refuse-status.ensures in
+    absurd (stop_no_answer g.E.Sink.written g.E.Sink.faults (map string_bytes c.args.words.now) c.args.err.now c.refuse-status.new.err stop status is_yes refuses is)
+
+pub returns-in-Err-clause-read_fault : goal.returns-in-Err-clause-read_fault
+returns-in-Err-clause-read_fault g c = λ is.
+    let stop = c.in-Err.stop in
+    let status = c.refuse-status.result in
+    let Told : Stop → Type 0 = λ told. Refuses g.E.Sink.written g.E.Sink.faults c.args.err.now c.refuse-status.new.err told status in
+    let refuses : Refuses g.E.Sink.written g.E.Sink.faults c.args.err.now c.refuse-status.new.err (stop_of_words stop) status = subst Told c.from.ensures c.refuse-status.ensures in
+    absurd (stop_no_read_fault g.E.Sink.written g.E.Sink.faults (map string_bytes c.args.words.now) c.args.err.now c.refuse-status.new.err stop status refuses is)
+
+pub returns-in-Err-clause-no_command : goal.returns-in-Err-clause-no_command
+returns-in-Err-clause-no_command g c = λ unnamed.
+    let stop = c.in-Err.stop in
+    let status = c.refuse-status.result in
+    let Told : Stop → Type 0 = λ told. Refuses g.E.Sink.written g.E.Sink.faults c.args.err.now c.refuse-status.new.err told status in
+    let refuses : Refuses g.E.Sink.written g.E.Sink.faults c.args.err.now c.refuse-status.new.err (stop_of_words stop) status = subst Told c.from.ensures c.refuse-status.ensures in
+    let is : stop ≡ NoCommand = same_stop stop NoCommand (c.in-Err.ensures.no_command.1 unnamed) in
+    stop_unnamed g.E.Sink.written g.E.Sink.faults (map string_bytes c.args.words.now) c.args.err.now c.refuse-status.new.err stop status refuses is
+
+pub returns-in-Err-clause-faults : goal.returns-in-Err-clause-faults
+returns-in-Err-clause-faults g c =
+    let stop = c.in-Err.stop in
+    let status = c.refuse-status.result in
+    let Told : Stop → Type 0 = λ told. Refuses g.E.Sink.written g.E.Sink.faults c.args.err.now c.refuse-status.new.err told status in
+    let refuses : Refuses g.E.Sink.written g.E.Sink.faults c.args.err.now c.refuse-status.new.err (stop_of_words stop) status = subst Told c.from.ensures c.refuse-status.ensures in
+    let later = stop_later g.E.Sink.written g.E.Sink.faults (map string_bytes c.args.words.now) c.args.err.now c.refuse-status.new.err stop status refuses in
+    (omega arith, omega arith, later)
+
+pub returns-in-Err-clause-complete : goal.returns-in-Err-clause-complete
+returns-in-Err-clause-complete g c = λ due _ _ _.
+    let stop = c.in-Err.stop in
+    let status = c.refuse-status.result in
+    let Told : Stop → Type 0 = λ told. Refuses g.E.Sink.written g.E.Sink.faults c.args.err.now c.refuse-status.new.err told status in
+    let refuses : Refuses g.E.Sink.written g.E.Sink.faults c.args.err.now c.refuse-status.new.err (stop_of_words stop) status = subst Told c.from.ensures c.refuse-status.ensures in
+    inr (stop_complete g.E.Sink.written g.E.Sink.faults (map string_bytes c.args.words.now) c.args.err.now c.refuse-status.new.err stop status
+    (λ is. c.in-Err.ensures.no_command.0 (ap Err is)) (λ is. c.in-Err.ensures.usage (ap Err is)) refuses due.name due.taken)

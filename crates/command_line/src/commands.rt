@@ -1,0 +1,106 @@
+// The table of commands: their words, their options, and what a parse makes of them.
+ghost use Rattle.std.specs.Prelude.{◌≡◌, false, IfOk};
+ghost use Rattle.clap.specs.Words.{app_of, found_of, rule_of};
+ghost use Rattle.command_line.specs.Commands.{choice_option, command_app, command_named_by, command_word, name_of, options_of, plain_app, values_of};
+ghost use Rattle.command_line.specs.Numbers.{number_rule};
+ghost use Rattle.command_line.specs.Inner.Found.{FindsOptions, HasValues};
+
+use crate::option::{number_of, number_option};
+use clap::{Arg, ArgMatches};
+use std::alloc::{AllocError, Global};
+
+/// A command of the program, with what its options say.
+#[derive(Clone, Copy, Debug, PartialEq, Eq)]
+pub enum Command {
+    Grow { choice: u64 },
+    Check,
+    Replay,
+    Schedule,
+    Format,
+}
+
+/// Which command the first word names.
+#[derive(Clone, Copy, Debug, PartialEq, Eq)]
+pub enum CommandName {
+    Grow,
+    Check,
+    Replay,
+    Schedule,
+    Format,
+}
+
+const NAMES: [CommandName; 5] = [
+    CommandName::Grow,
+    CommandName::Check,
+    CommandName::Replay,
+    CommandName::Schedule,
+    CommandName::Format,
+];
+
+const CHOICE: &str = "choice";
+
+impl CommandName {
+    /// The word that names the command.
+    pub fn word(self) -> &'static str
+        ensures { result.now ≡ command_word self }
+    {
+        match self {
+            CommandName::Grow => "grow",
+            CommandName::Check => "check",
+            CommandName::Replay => "replay",
+            CommandName::Schedule => "schedule",
+            CommandName::Format => "format",
+        }
+    }
+}
+
+// The command that a word names.
+pub fn command_named_by(word: &str) -> Option<CommandName>
+    ensures { result ≡ command_named_by word.now }
+{
+    NAMES.iter().copied().find(|name| name.word() == word)
+}
+
+// The command as clap reads it.
+#[tactic(auto, unfolding(crate::specs::Commands::command_app))]
+pub fn clap_command<'a>(alloc: Global, name: CommandName) -> Result<clap::Command<'a>, AllocError>
+    ensures { IfOk result (λ command. app_of command ≡ command_app name) }
+{
+    let word: &'a str = name.word();
+    match name {
+        CommandName::Grow => plain_command(alloc, word).arg(choice_option(alloc)),
+        _ => Ok(plain_command(alloc, word)),
+    }
+}
+
+// The command of a name, with the values that a parse found for its options.
+pub fn command_found(name: CommandName, found: &ArgMatches) -> Command
+    requires { FindsOptions (options_of name) (found_of found.now) }
+    ensures name { name_of result ≡ name }
+    ensures values { HasValues (options_of name) (values_of result) (found_of found.now) }
+{
+    match name {
+        CommandName::Grow => Command::Grow {
+            choice: number_of(found, CHOICE),
+        },
+        CommandName::Check => Command::Check,
+        CommandName::Replay => Command::Replay,
+        CommandName::Schedule => Command::Schedule,
+        CommandName::Format => Command::Format,
+    }
+}
+
+// A command without arguments, and with neither clap's help flag nor a version flag.
+fn plain_command(alloc: Global, name: &str) -> clap::Command<'_>
+    ensures { app_of result ≡ plain_app name.entry.now }
+{
+    clap::Command::new(alloc, name).disable_help_flag(true)
+}
+
+// The option `--choice N`.
+fn choice_option<'a>(alloc: Global) -> Arg<'a>
+    ensures rule { rule_of result ≡ number_rule choice_option }
+    ensures local { result.global ≡ false }
+{
+    number_option(alloc, CHOICE, "0", 0, u64::MAX)
+}

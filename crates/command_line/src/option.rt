@@ -1,0 +1,40 @@
+// Options that take a number.
+ghost use Rattle.std.specs.Prelude.{◌≡◌, ◌^◌, ◌-◌, false};
+ghost use Rattle.clap.specs.Words.{found_of, rule_of};
+ghost use Rattle.command_line.specs.Numbers.{number_rule};
+ghost use Rattle.command_line.specs.Inner.Found.{FindsInRange, FindsNumber};
+
+use clap::builder::ValueParser;
+use clap::{Arg, ArgAction, ArgMatches};
+use std::alloc::Global;
+
+// An option `--id N` with a default.
+pub fn number_option<'a>(
+    alloc: Global,
+    id: &'a str,
+    default: &'a str,
+    least: u64,
+    most: u64,
+) -> Arg<'a>
+    ensures rule { rule_of result ≡ number_rule (record {
+      id = id.entry.now;
+      default = default.entry.now;
+      least = least;
+      most = most;
+    }) }
+    ensures local { result.global ≡ false }
+{
+    Arg::new(alloc, id)
+        .long(id)
+        .action(ArgAction::Set)
+        .value_parser(ValueParser::unsigned(least, most))
+        .default_value(default)
+}
+
+// The number that a parse found.
+pub fn number_of(found: &ArgMatches, id: &str) -> u64
+    requires { FindsInRange (found_of found.now) id.now 0 (2 ^ 64 - 1) }
+    ensures { FindsNumber (found_of found.now) id.now result }
+{
+    found.get_one::<u64>(id).unwrap()
+}

@@ -1,0 +1,483 @@
+// Worked examples, case by case.
+use crate::run::{Case, run_cases};
+use std::test::Fail;
+use tilebench::Status;
+use worked_systems::{
+    CHAIN, COUNTER, FLIPPER, FULL, LIMITS, MISMATCH, NULL_GLUES, RIVALS, SINGLE, SQUARE,
+};
+
+const GROWN: [Case; 10] = [
+    Case {
+        words: &["grow"],
+        system: SINGLE,
+        behind: "",
+        status: Status::Done,
+        out: "place 0 0 S\nclosed terminal\nunique yes\n",
+        err: "",
+    },
+    Case {
+        words: &["grow"],
+        system: CHAIN,
+        behind: "",
+        status: Status::Done,
+        out: "place 0 0 S\nplace 1 0 B\nplace 2 0 C\nclosed terminal\nunique yes\n",
+        err: "",
+    },
+    Case {
+        words: &["grow"],
+        system: "tiles 1\ntau 2\nglue a 2\nglue b 2\ntile S - a - -\ntile B - b - a\n\
+             tile C - - - b\nbox 0 0 1 0\nseed 0 0 S\nend\n",
+        behind: "",
+        status: Status::No,
+        out: "place 0 0 S\nplace 1 0 B\nclosed clipped 2 0 C\nunique no 3 2 0 C\n",
+        err: "",
+    },
+    Case {
+        words: &["grow"],
+        system: SQUARE,
+        behind: "",
+        status: Status::No,
+        out: "place 0 0 S\nplace 1 0 E\nplace 0 1 N\nplace 1 1 C\nclosed terminal\n\
+             unique no 1 1 1 2\n",
+        err: "",
+    },
+    Case {
+        words: &["grow"],
+        system: NULL_GLUES,
+        behind: "",
+        status: Status::Done,
+        out: "place 0 0 S\nclosed terminal\nunique yes\n",
+        err: "",
+    },
+    Case {
+        words: &["grow"],
+        system: LIMITS,
+        behind: "",
+        status: Status::Done,
+        out: "place 0 0 S\nclosed terminal\nunique yes\n",
+        err: "",
+    },
+    Case {
+        words: &["grow"],
+        system: MISMATCH,
+        behind: "",
+        status: Status::Done,
+        out: "place 0 0 S\nplace 1 0 B\nplace 2 0 D\nplace 0 1 L\nplace 1 1 T\nplace 2 1 R\n\
+             closed terminal\nunique yes\n",
+        err: "",
+    },
+    Case {
+        words: &["grow"],
+        system: COUNTER,
+        behind: "",
+        status: Status::Done,
+        out: "place 0 0 t:0\nplace 1 0 t:1\nplace 1 1 ie:0\nplace 0 1 iw:00\nplace 0 2 cw:0\n\
+             place 1 2 ce:1\nplace 1 3 ie:1\nplace 0 3 iw:01\nplace 0 4 cw:1\nplace 1 4 ce:0\n\
+             place 1 5 ie:0\nplace 0 5 iw:10\nplace 0 6 cw:1\nplace 1 6 ce:1\nplace 1 7 ie:1\n\
+             place 0 7 iw:11\nclosed terminal\nunique yes\n",
+        err: "",
+    },
+    Case {
+        words: &["grow"],
+        system: FLIPPER,
+        behind: "",
+        status: Status::Done,
+        out: "place 0 0 t:0\nplace 1 0 t:1\nplace 2 0 t:2\nplace 0 1 a:F:1\nplace 1 1 R:F:0\n\
+             place 2 1 r:1\nplace 1 2 a:F:0\nplace 0 2 l:0\nplace 2 2 R:F:1\nplace 2 3 a:F:1\n\
+             place 1 3 l:1\nplace 0 3 l:0\nclosed terminal\nunique yes\n",
+        err: "",
+    },
+    Case {
+        words: &["grow"],
+        system: "tiles 1\ntau 1\nglue a 1\nglue b 1\ntile S - a - b\ntile A - - - a\n\
+             tile B - b - -\nbox -3 -7 -1 -7\nseed -2 -7 S\nend\n",
+        behind: "",
+        status: Status::Done,
+        out: "place -2 -7 S\nplace -3 -7 B\nplace -1 -7 A\nclosed terminal\nunique yes\n",
+        err: "",
+    },
+];
+
+const CHECKED: [Case; 9] = [
+    Case {
+        words: &["check"],
+        system: CHAIN,
+        behind: "place 0 0 S\nplace 1 0 B\nplace 2 0 C\n",
+        status: Status::Done,
+        out: "legal yes\nunique yes\n",
+        err: "",
+    },
+    Case {
+        words: &["check"],
+        system: CHAIN,
+        behind: "place 0 0 S\nplace 1 0 B\nplace 2 0 C\nclosed terminal\nunique yes\n",
+        status: Status::Done,
+        out: "legal yes\nunique yes\n",
+        err: "",
+    },
+    Case {
+        words: &["check"],
+        system: CHAIN,
+        behind: "place 0 0 S\nplace 1 0 B\n",
+        status: Status::No,
+        out: "legal yes\nunique no 3 2 0 C\n",
+        err: "",
+    },
+    Case {
+        words: &["check"],
+        system: CHAIN,
+        behind: "place 0 0 S\nplace 1 0 B\nplace 2 0 C\nplace 1 0 B\n",
+        status: Status::No,
+        out: "legal no 2 3\n",
+        err: "",
+    },
+    Case {
+        words: &["check"],
+        system: CHAIN,
+        behind: "place 1 0 B\n",
+        status: Status::No,
+        out: "legal no 1\n",
+        err: "",
+    },
+    Case {
+        words: &["check"],
+        system: CHAIN,
+        behind: "",
+        status: Status::No,
+        out: "legal no 1\n",
+        err: "",
+    },
+    Case {
+        words: &["check"],
+        system: MISMATCH,
+        behind: "place 0 0 S\nplace 1 0 B\nplace 1 1 T\n",
+        status: Status::No,
+        out: "legal no 3 2 1\n",
+        err: "",
+    },
+    Case {
+        words: &["check"],
+        system: MISMATCH,
+        behind: "place 0 0 S\nplace 1 0 B\nplace 2 0 D\nplace 0 1 L\nplace 2 1 R\nplace 1 1 T\n",
+        status: Status::Done,
+        out: "legal yes\nunique yes\n",
+        err: "",
+    },
+    Case {
+        words: &["check"],
+        system: RIVALS,
+        behind: "place 0 0 S\nplace 1 0 B\n",
+        status: Status::No,
+        out: "legal yes\nunique no 2 1 0 A\n",
+        err: "",
+    },
+];
+
+const REPLAYED: [Case; 4] = [
+    Case {
+        words: &["replay"],
+        system: MISMATCH,
+        behind: "place 2 1 R\nplace 1 1 T\nplace 0 1 L\nplace 2 0 D\nplace 1 0 B\nplace 0 0 S\n",
+        status: Status::Done,
+        out: "place 0 0 S\nplace 1 0 B\nplace 2 0 D\nplace 0 1 L\nplace 1 1 T\nplace 2 1 R\n",
+        err: "",
+    },
+    Case {
+        words: &["replay"],
+        system: MISMATCH,
+        behind: "place 0 0 S\nplace 2 0 D\nplace 2 1 R\n",
+        status: Status::No,
+        out: "stuck 2 2 0\n",
+        err: "",
+    },
+    Case {
+        words: &["replay"],
+        system: MISMATCH,
+        behind: "place 1 0 B\n",
+        status: Status::No,
+        out: "stuck seed 0 0\n",
+        err: "",
+    },
+    Case {
+        words: &["replay"],
+        system: FULL,
+        behind: "place 0 0 T\nplace 5 5 T\n",
+        status: Status::No,
+        out: "stuck 1 5 5\n",
+        err: "",
+    },
+];
+
+const SCHEDULED: [Case; 3] = [
+    Case {
+        words: &["schedule"],
+        system: CHAIN,
+        behind: "claim 0 1 0 B\nlook 0 1 0\nsplit 0\njoin 63 0\n",
+        status: Status::Done,
+        out: "won\nsaw B\nsplit 63\njoined 0\nplace 0 0 S\nplace 1 0 B\n",
+        err: "",
+    },
+    Case {
+        words: &["schedule"],
+        system: RIVALS,
+        behind: "split 0\nclaim 0 1 0 A\nclaim 63 1 0 B\nclaim 63 0 0 B\n",
+        status: Status::No,
+        out: "split 63\nwon\nheld A\nrefused 2 0\nplace 0 0 S\nplace 1 0 A\n",
+        err: "",
+    },
+    Case {
+        words: &["schedule"],
+        system: MISMATCH,
+        behind: "claim 0 1 0 B\nclaim 0 1 1 T\nlook 0 2 0\nclaim 1 1 0 B\nlook 0 3 0\nsplit 0\n\
+             split 63\njoin 63 0\n",
+        status: Status::No,
+        out: "won\nrefused 2 1\nsaw -\nrefused 1\nrefused 3\nsplit 63\nrefused 4\njoined 0\n\
+             place 0 0 S\nplace 1 0 B\n",
+        err: "",
+    },
+];
+
+const FORMATTED: [Case; 2] = [
+    Case {
+        words: &["format"],
+        system: "# two words\n\ntiles 1\ntau  01\ntile S - - - -\nbox 0 0 -0 00\nseed 0 0   S\nend\n",
+        behind: "",
+        status: Status::Done,
+        out: SINGLE,
+        err: "",
+    },
+    Case {
+        words: &["format"],
+        system: CHAIN,
+        behind: "",
+        status: Status::Done,
+        out: CHAIN,
+        err: "",
+    },
+];
+
+const REFUSED_TEXTS: [Case; 9] = [
+    Case {
+        words: &["replay"],
+        system: CHAIN,
+        behind: "place 0 0 S\nplace 0 0 S\n",
+        status: Status::Text,
+        out: "",
+        err: "refused text line 12 DoubleSite\n",
+    },
+    Case {
+        words: &["replay"],
+        system: CHAIN,
+        behind: "place 3 0 C\n",
+        status: Status::Text,
+        out: "",
+        err: "refused text line 11 OutsideBox\n",
+    },
+    Case {
+        words: &["check"],
+        system: CHAIN,
+        behind: "place 3 0 C\n",
+        status: Status::Text,
+        out: "",
+        err: "refused text line 11 OutsideBox\n",
+    },
+    Case {
+        words: &["replay"],
+        system: CHAIN,
+        behind: "place 0 0 S\nplace 1 0",
+        status: Status::Text,
+        out: "",
+        err: "refused text line 12 NoEnd\n",
+    },
+    Case {
+        words: &["grow"],
+        system: CHAIN,
+        behind: "place 0 0 S\n",
+        status: Status::Text,
+        out: "",
+        err: "refused text line 11 AfterEnd\n",
+    },
+    Case {
+        words: &["format"],
+        system: CHAIN,
+        behind: "tau 1\n",
+        status: Status::Text,
+        out: "",
+        err: "refused text line 11 AfterEnd\n",
+    },
+    Case {
+        words: &["grow"],
+        system: "",
+        behind: "",
+        status: Status::Text,
+        out: "",
+        err: "refused text line 1 NoHeader\n",
+    },
+    Case {
+        words: &["grow"],
+        system: "tiles 1\ntau 0\n",
+        behind: "",
+        status: Status::Text,
+        out: "",
+        err: "refused text line 2 OutOfRange\n",
+    },
+    Case {
+        words: &["grow"],
+        system: "tiles 1\ntau 1\ntile S - - - -\nbox 0 0 0 0\nseed 0 0 S\nend\n\n# behind\ntau 1\n",
+        behind: "",
+        status: Status::Text,
+        out: "",
+        err: "refused text line 9 AfterEnd\n",
+    },
+];
+
+const REFUSED_WORDS: [Case; 17] = [
+    Case {
+        words: &[],
+        system: CHAIN,
+        behind: "",
+        status: Status::Words,
+        out: "",
+        err: "refused words NoCommand\n",
+    },
+    Case {
+        words: &["gorw"],
+        system: CHAIN,
+        behind: "",
+        status: Status::Words,
+        out: "",
+        err: "refused words NoCommand\n",
+    },
+    Case {
+        words: &[""],
+        system: CHAIN,
+        behind: "",
+        status: Status::Words,
+        out: "",
+        err: "refused words NoCommand\n",
+    },
+    Case {
+        words: &["grow "],
+        system: CHAIN,
+        behind: "",
+        status: Status::Words,
+        out: "",
+        err: "refused words NoCommand\n",
+    },
+    Case {
+        words: &["--help"],
+        system: CHAIN,
+        behind: "",
+        status: Status::Words,
+        out: "",
+        err: "refused words NoCommand\n",
+    },
+    Case {
+        words: &["--version"],
+        system: CHAIN,
+        behind: "",
+        status: Status::Words,
+        out: "",
+        err: "refused words NoCommand\n",
+    },
+    Case {
+        words: &["-h"],
+        system: CHAIN,
+        behind: "",
+        status: Status::Words,
+        out: "",
+        err: "refused words NoCommand\n",
+    },
+    Case {
+        words: &["grow", "x"],
+        system: CHAIN,
+        behind: "",
+        status: Status::Words,
+        out: "",
+        err: "refused words Usage\n",
+    },
+    Case {
+        words: &["check", "x"],
+        system: CHAIN,
+        behind: "",
+        status: Status::Words,
+        out: "",
+        err: "refused words Usage\n",
+    },
+    Case {
+        words: &["replay", ""],
+        system: CHAIN,
+        behind: "",
+        status: Status::Words,
+        out: "",
+        err: "refused words Usage\n",
+    },
+    Case {
+        words: &["format", "--help"],
+        system: CHAIN,
+        behind: "",
+        status: Status::Words,
+        out: "",
+        err: "refused words Usage\n",
+    },
+    Case {
+        words: &["grow", "-h"],
+        system: CHAIN,
+        behind: "",
+        status: Status::Words,
+        out: "",
+        err: "refused words Usage\n",
+    },
+    Case {
+        words: &["grow", "--version"],
+        system: CHAIN,
+        behind: "",
+        status: Status::Words,
+        out: "",
+        err: "refused words Usage\n",
+    },
+    Case {
+        words: &["grow", "--choice"],
+        system: CHAIN,
+        behind: "",
+        status: Status::Words,
+        out: "",
+        err: "refused words Usage\n",
+    },
+    Case {
+        words: &["grow", "--choice", "18446744073709551616"],
+        system: CHAIN,
+        behind: "",
+        status: Status::Words,
+        out: "",
+        err: "refused words Usage\n",
+    },
+    Case {
+        words: &["check", "--choice", "1"],
+        system: CHAIN,
+        behind: "",
+        status: Status::Words,
+        out: "",
+        err: "refused words Usage\n",
+    },
+    Case {
+        words: &["grow", "--workers", "2"],
+        system: CHAIN,
+        behind: "",
+        status: Status::Words,
+        out: "",
+        err: "refused words Usage\n",
+    },
+];
+
+#[test]
+fn answers_each_case(rt: HostRuntime) -> Result<(), Fail> {
+    run_cases(&rt, rt.alloc(), &GROWN)?;
+    run_cases(&rt, rt.alloc(), &CHECKED)?;
+    run_cases(&rt, rt.alloc(), &REPLAYED)?;
+    run_cases(&rt, rt.alloc(), &SCHEDULED)?;
+    run_cases(&rt, rt.alloc(), &FORMATTED)?;
+    run_cases(&rt, rt.alloc(), &REFUSED_TEXTS)?;
+    run_cases(&rt, rt.alloc(), &REFUSED_WORDS)?;
+    Ok(())
+}

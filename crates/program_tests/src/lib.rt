@@ -1,0 +1,15 @@
+//! Tests of the program over memory: from words and a text to a status and bytes.
+#![tactic(auto)]
+
+#[cfg(test)]
+mod cases;
+#[cfg(test)]
+mod changed_lines;
+#[cfg(test)]
+mod faults;
+#[cfg(test)]
+mod growths;
+#[cfg(test)]
+mod limits;
+#[cfg(test)]
+mod run;

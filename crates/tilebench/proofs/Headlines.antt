@@ -1,0 +1,96 @@
+-- What the laws of confluence say of growth answers.
+use Rattle.std.proofs.Common.{◌≡◌, ◌∙◌, ℕ, Bool, true, true≢false, List, refl, sym, ap, subst}
+use Rattle.tile_io.specs.declared.mark.Mark.{Mark}
+use Rattle.tile_io.specs.Formats.{Reads}
+use Rattle.atam.specs.declared.place.Place.{Place}
+use Rattle.atam.specs.Placements.{HasDistinctSites, SamePlacements}
+use Rattle.atam.specs.TileSystem.{TileSystem, IsValid}
+use Rattle.atam.specs.Growth.{IsProducible}
+use Rattle.atam.specs.Determinism.{IsDeterministicInBox}
+use Rattle.atam.proofs.Sequences.{IsLegal-distinct}
+use Rattle.atam.proofs.Open.{least_open_same}
+use Rattle.atam.proofs.Tiles.{SamePlacements-trans, SameTiles-from}
+use Rattle.tile_text.specs.SystemText.{ReadsSystem, SystemItem, system_format, system_items}
+use Rattle.tile_text.proofs.OneSystem.{reads_one_system}
+use Rattle.tile_text.proofs.Valid.{reads_valid}
+use Rattle.local_check.specs.declared.verdict.Verdict.{Verdict}
+use Rattle.local_check.specs.declared.verdict.Verdict.TheVariants.{Yes, NotExact, Rival, NotTerminal}
+use Rattle.local_check.proofs.Verdicts.{verdict_yes}
+use Rattle.unique_law.specs.Outcomes.{Outcome}
+use Rattle.unique_law.proofs.OneOutcome.{canonical_too, one_full_growth, one_outcome, yes_in_some_order, grows_into_outcome}
+use Rattle.tilebench.specs.Commands.Grow.{IsGrowth, IsGrowthAnswer, growth_text, is_unique}
+use Rattle.tilebench.specs.Headline.{IsHeadline}
+
+-- a system that was read is valid
+valid_system : (text : List ℕ) (from to : Mark) (sys : TileSystem) → ReadsSystem text from sys to → IsValid sys
+valid_system text from to sys reads =
+    let valid = reads_valid text from to (system_items sys) reads.items in
+    let Read : List SystemItem → Type 0 = λ items. Reads system_format text from items to in
+    let other : ReadsSystem text from valid.0 to = record { items = subst Read valid.1 reads.items; no_pairs = valid.2 } in
+    subst IsValid (sym (reads_one_system text from to to sys valid.0 reads other).0) valid.3
+
+-- a verdict is a yes exactly where it is `Yes`
+unique_yes : (verdict : Verdict) → is_unique verdict ≡ true → verdict ≡ Yes
+unique_yes Yes positive = refl
+unique_yes (NotExact m sum) positive = absurd (true≢false (sym positive))
+unique_yes (Rival m t) positive = absurd (true≢false (sym positive))
+unique_yes (NotTerminal m t) positive = absurd (true≢false (sym positive))
+
+-- an outcome is that of each locally deterministic list in the box
+growth_of_deterministic : (sys : TileSystem) → HasDistinctSites sys.seeds → (tiles : List Place) (outcome : Outcome) → IsGrowth sys tiles outcome → (s : List Place) →
+    IsDeterministicInBox sys s → IsGrowth sys s outcome
+growth_of_deterministic sys seeds tiles outcome grown s found =
+    let is = grown.outcome_is in
+    let same : SamePlacements tiles s = one_full_growth sys seeds s tiles found.deterministic found.inside is.full.distinct is.full.producible is.full.closed in
+    let distinct : HasDistinctSites s = IsLegal-distinct sys s seeds found.deterministic.legal in
+    let canonical = canonical_too sys tiles s same outcome.order is.canonical in
+    let producible : IsProducible sys s = record { sequence = s; legal = found.deterministic.legal; same = record { part = λ p h. h; whole = λ p h. h } } in
+    record {
+      outcome_is = record {
+        full = record {
+          distinct = distinct;
+          inside = found.inside;
+          producible = producible;
+          closed = λ m t within grows. found.deterministic.terminal m t grows;
+        };
+        canonical = canonical;
+        least = least_open_same sys tiles s _ outcome.outside (SameTiles-from tiles s is.full.distinct same) is.least;
+        judged = is.judged;
+      };
+      ordered = record {
+        canonical = canonical;
+        legal = grown.ordered.legal;
+        same = SamePlacements-trans outcome.order tiles s grown.ordered.same same;
+        fits = grown.ordered.fits;
+        producible = producible;
+      };
+    }
+
+pub headline : (input : List ℕ) (is_yes : Bool) (text : List ℕ) → IsGrowthAnswer input is_yes text → IsHeadline input is_yes text
+headline input is_yes text answer =
+    let sys = answer.sys in
+    let seeds : HasDistinctSites sys.seeds = (valid_system input _ answer.read.end sys answer.read.reads).distinct_seeds in
+    let outcome = answer.outcome in
+    let is = answer.grown.outcome_is in
+    let tells = verdict_yes sys outcome.order outcome.verdict is.judged in
+    let tells_some = yes_in_some_order sys seeds answer.tiles outcome.order outcome.verdict is.full.distinct is.full.producible is.canonical is.judged in
+    let yes_it_is : is_yes ≡ true → outcome.verdict ≡ Yes = λ positive. unique_yes outcome.verdict (sym answer.answer ∙ positive) in
+    record {
+      sys = sys;
+      read = answer.read;
+      tiles = answer.tiles;
+      outcome = outcome;
+      grown = answer.grown;
+      printed = answer.printed;
+      legal = answer.grown.ordered.legal;
+      same = answer.grown.ordered.same;
+      closed = is.full.closed;
+      outside = is.least;
+      yes = (λ positive. tells.0 (yes_it_is positive), λ deterministic. answer.answer ∙ ap is_unique (tells.1 deterministic));
+      some_order = (λ positive. tells_some.0 (yes_it_is positive), λ order. answer.answer ∙ ap is_unique (tells_some.1 order));
+      only = λ positive b legal. grows_into_outcome sys seeds answer.tiles b outcome is (yes_it_is positive) legal;
+      same_bytes = λ positive others other grown.
+          let one = one_outcome sys seeds answer.tiles others outcome other is (yes_it_is positive) grown.outcome_is in
+          ap (growth_text sys) (sym one.1) ∙ sym answer.printed;
+      determined = growth_of_deterministic sys seeds answer.tiles outcome answer.grown;
+    }

@@ -1,0 +1,149 @@
+-- From the run of a command, or a stop at the words, to the clauses of the top call.
+use Rattle.std.proofs.Common.{◌≡◌, ◌⊎◌, ◌≤◌, ◌∙◌, ℕ, Bool, true, false, List, Option, Some, None, Result, Err, refl, sym, ap, subst, arith, unwrap_or, inl, inr}
+use Rattle.tile_io.specs.Faults.{Rose}
+use Rattle.command_line.specs.declared.commands.Command.{Command}
+use Rattle.command_line.specs.declared.commands.Command.TheVariants.{Grow}
+use Rattle.command_line.specs.declared.commands.CommandName.{CommandName}
+use Rattle.command_line.specs.declared.words_stop.WordsStop.{WordsStop}
+use Rattle.command_line.specs.declared.words_stop.WordsStop.TheVariants.{NoCommand, Usage, NoMemory}
+use Rattle.command_line.specs.Commands.{IsCallOf, IsTaken, IsUsage, command_named, name_of}
+use Rattle.command_line.proofs.CallLemmas.{call_once, taken_not_usage}
+use Rattle.tilebench.specs.declared.status.Status.{Status}
+use Rattle.tilebench.specs.declared.status.Status.TheVariants as status
+use Rattle.tilebench.specs.Gains.{Gains}
+use Rattle.tilebench.specs.Headline.{Ends, IsAnswer, IsDue, IsHeadline, IsTextRefusal, IsWordsRefusal}
+use Rattle.tilebench.specs.Inputs.{AnswersInput}
+use Rattle.tilebench.specs.Commands.{Answers, Fails, Takes}
+use Rattle.tilebench.specs.Commands.Grow.{IsGrowthAnswer}
+use Rattle.tilebench.specs.Refusals.{IsRefusedAs, refused_words}
+use Rattle.tilebench.specs.Inner.Stops.{stop_of_words}
+use Rattle.tilebench.specs.Statuses.{IsAnswered, answer_status}
+use Rattle.tilebench.specs.Inner.Runs.{EndsCommand, IsFaultLine}
+use Rattle.tilebench.specs.Inner.Tells.{Refuses, Writes}
+use Rattle.tilebench.proofs.Endings.{Ends-map, written_later}
+use Rattle.tilebench.proofs.Headlines.{headline}
+
+-- the growth answer to what was left of the source
+headline_of : (left left_after : Option (List ℕ)) (is_yes : Bool) (text : List ℕ) → AnswersInput IsGrowthAnswer left left_after is_yes text →
+    AnswersInput IsHeadline left left_after is_yes text
+headline_of left left_after is_yes text answer = record { input = answer.input; whole = answer.whole; answer = headline answer.input is_yes text answer.answer }
+
+-- a name that the words name
+same_name : (words : List (List ℕ)) (a b : CommandName) → command_named words ≡ Some a → command_named words ≡ Some b → a ≡ b
+same_name words a b is other = ap (λ (o : Option CommandName). unwrap_or o a) (sym is ∙ other)
+
+module _ {S K E : Type 0} (left : S → Option (List ℕ)) (read_faults : S → ℕ) (written : K → Option (List ℕ)) (out_faults : K → ℕ) (told : E → Option (List ℕ)) (err_faults : E → ℕ)
+    (words : List (List ℕ)) (source after : S) (out out_after : K) (err err_after : E) where
+  abbrev Ended : S → Status → Type 0
+  Ended later = Ends read_faults written out_faults told err_faults (IsAnswer words (left source) (left later)) (IsTextRefusal words (left source) (left later)) (IsWordsRefusal words)
+      source later out out_after err err_after
+
+  -- where the words call for a command
+  module _ (command : Command) (called : IsCallOf words command) (s : Status)
+      (run : EndsCommand left read_faults written out_faults told err_faults (Answers command) (Takes (name_of command)) (Fails (name_of command)) source after out out_after err err_after s) where
+    pub call_ended : Ended after s
+    call_ended =
+        Ends-map read_faults written out_faults told err_faults source after out out_after err err_after
+        (Answers command (left source) (left after)) (IsAnswer words (left source) (left after))
+        (IsFaultLine (Fails (name_of command) (left source) (left after))) (IsTextRefusal words (left source) (left after)) (λ text. ⊥) (IsWordsRefusal words)
+        (λ is_yes text answer. record { command = command; called = called; answer = answer })
+        (λ text line. record { command = command; called = called; fault = line.fault; fails = line.is; told = line.told })
+        (λ text never. absurd never) s run.ends
+
+    abbrev Run : Status → Type 0
+    Run = Ends read_faults written out_faults told err_faults (Answers command (left source) (left after)) (IsFaultLine (Fails (name_of command) (left source) (left after))) (λ text. ⊥)
+        source after out out_after err err_after
+
+    pub call_grown : (choice : ℕ) (is_yes : Bool) → IsCallOf words (Grow choice) → s ≡ answer_status is_yes →
+        Gains written out_faults (AnswersInput IsHeadline (left source) (left after) is_yes) out out_after
+    call_grown choice is_yes grows is = go is_yes (subst Run is run.ends)
+      where
+        grown : (is_yes : Bool) → Gains written out_faults (Answers command (left source) (left after) is_yes) out out_after →
+            Gains written out_faults (AnswersInput IsHeadline (left source) (left after) is_yes) out out_after
+        grown is_yes gained =
+            let same : command ≡ Grow choice = call_once words command (Grow choice) called grows in
+            let Said : Command → Type 0 = λ c. Answers c (left source) (left after) is_yes gained.text in
+            record {
+              text = gained.text;
+              said = headline_of (left source) (left after) is_yes gained.text (subst Said same gained.said);
+              whole = gained.whole;
+              quiet = gained.quiet;
+            }
+
+        go : (is_yes : Bool) → Run (answer_status is_yes) → Gains written out_faults (AnswersInput IsHeadline (left source) (left after) is_yes) out out_after
+        go true ends = grown true ends.0
+        go false ends = grown false ends.0
+
+    pub call_named : command_named words ≡ None → ⊥
+    call_named unnamed = let other : None ≡ Some (name_of command) = sym unnamed ∙ called.named in cc
+
+    pub call_complete : IsDue words (left source) → ¬ Rose (read_faults source) (read_faults after) → ¬ Rose (out_faults out) (out_faults out_after) →
+        ¬ Rose (err_faults err) (err_faults err_after) → IsAnswered s ⊎ (s ≡ status.NoMemory)
+    call_complete due source_quiet out_quiet err_quiet =
+        let same = same_name words due.name (name_of command) due.taken.named called.named in
+        let Taken : CommandName → Type 0 = λ name. Takes name due.input in
+        run.complete (record { input = due.input; known = due.known; short = due.short; takes = subst Taken same due.takes }) source_quiet out_quiet err_quiet
+
+  -- where they are refused, or memory is wanting while they are read
+  words_ended : (stop : WordsStop) → IsRefusedAs words stop → (s : Status) → Writes told err_faults err err_after status.Words s (refused_words stop) → out_after ≡ out → Ended source s
+  words_ended stop refused s (inl whole) same =
+      subst (Ended source) (sym whole.is)
+      (record { text = refused_words stop; said = record { stop = stop; refused = refused; told = refl }; whole = whole.whole; quiet = whole.quiet }, same, refl)
+  words_ended stop refused s (inr cut) same =
+      subst (Ended source) (sym cut.is)
+      (inr (record { text = refused_words stop; said = inr (record { stop = stop; refused = refused; told = refl }); front = cut.front; fault = cut.fault }, same))
+
+  pub stop_ended : (stop : WordsStop) → (stop ≡ NoCommand → command_named words ≡ None) → (stop ≡ Usage → IsUsage words) → (s : Status) →
+      Refuses told err_faults err err_after (stop_of_words stop) s → out_after ≡ out → Ended source s
+  stop_ended NoCommand unnamed usage s refuses same = words_ended NoCommand (unnamed refl) s refuses same
+  stop_ended Usage unnamed usage s refuses same = words_ended Usage (usage refl) s refuses same
+  stop_ended NoMemory unnamed usage s (is, same_err) same = subst (Ended source) (sym is) (same, same_err)
+
+module _ {E : Type 0} (told : E → Option (List ℕ)) (err_faults : E → ℕ) (words : List (List ℕ)) (err err_after : E) where
+  -- no stop at the words is told as an answer or a read fault
+  stop_status : (stop : WordsStop) (s : Status) → Refuses told err_faults err err_after (stop_of_words stop) s → (s ≡ status.Words) ⊎ ((s ≡ status.WriteFault) ⊎ (s ≡ status.NoMemory))
+  stop_status NoCommand s (inl whole) = inl whole.is
+  stop_status NoCommand s (inr cut) = inr (inl cut.is)
+  stop_status Usage s (inl whole) = inl whole.is
+  stop_status Usage s (inr cut) = inr (inl cut.is)
+  stop_status NoMemory s (is, same) = inr (inr is)
+
+  pub stop_no_read_fault : (stop : WordsStop) (s : Status) → Refuses told err_faults err err_after (stop_of_words stop) s → s ≡ status.ReadFault → ⊥
+  stop_no_read_fault stop s refuses is = elim (stop_status stop s refuses) [
+    | inl other ↦ cc
+    | inr (inl other) ↦ cc
+    | inr (inr other) ↦ cc
+  ]
+
+  pub stop_no_answer : (stop : WordsStop) (s : Status) (is_yes : Bool) → Refuses told err_faults err err_after (stop_of_words stop) s → s ≡ answer_status is_yes → ⊥
+  stop_no_answer stop s true refuses is = elim (stop_status stop s refuses) [
+    | inl other ↦ cc
+    | inr (inl other) ↦ cc
+    | inr (inr other) ↦ cc
+  ]
+  stop_no_answer stop s false refuses is = elim (stop_status stop s refuses) [
+    | inl other ↦ cc
+    | inr (inl other) ↦ cc
+    | inr (inr other) ↦ cc
+  ]
+
+  pub stop_unnamed : (stop : WordsStop) (s : Status) → Refuses told err_faults err err_after (stop_of_words stop) s → stop ≡ NoCommand → (s ≡ status.Words) ⊎ (s ≡ status.WriteFault)
+  stop_unnamed NoCommand s (inl whole) is = inl whole.is
+  stop_unnamed NoCommand s (inr cut) is = inr cut.is
+  stop_unnamed Usage s refuses is = cc
+  stop_unnamed NoMemory s refuses is = cc
+
+  pub stop_later : (stop : WordsStop) (s : Status) → Refuses told err_faults err err_after (stop_of_words stop) s → err_faults err ≤ err_faults err_after
+  stop_later NoCommand s writes = written_later told err_faults err err_after status.Words s (refused_words NoCommand) writes
+  stop_later Usage s writes = written_later told err_faults err err_after status.Words s (refused_words Usage) writes
+  stop_later NoMemory s (is, same) = let equal : err_faults err_after ≡ err_faults err = ap err_faults same in omega arith
+
+  pub stop_complete : (stop : WordsStop) (s : Status) → (stop ≡ NoCommand → command_named words ≡ None) → (stop ≡ Usage → IsUsage words) →
+      Refuses told err_faults err err_after (stop_of_words stop) s → (name : CommandName) → IsTaken words name → s ≡ status.NoMemory
+  stop_complete NoCommand s unnamed usage refuses name taken = let other : None ≡ Some name = sym (unnamed refl) ∙ taken.named in cc
+  stop_complete Usage s unnamed usage refuses name taken = absurd (taken_not_usage words name taken (usage refl))
+  stop_complete NoMemory s unnamed usage (is, same) name taken = is
+
+-- an error is of one stop
+pub same_stop : {T : Type 0} (stop other : WordsStop) → (let Stopped : WordsStop → Result T WordsStop = λ s. Err s in Stopped stop ≡ Stopped other) → stop ≡ other
+same_stop stop other same = cc

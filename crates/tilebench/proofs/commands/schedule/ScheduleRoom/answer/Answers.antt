@@ -1,0 +1,14 @@
+use Rattle.std.proofs.Common.{List, subst}
+use Rattle.grow_core.specs.declared.event.Event.{Event}
+use Rattle.tilebench.specs.Inner.Rooms.{Schedules}
+use Rattle.tilebench.proofs.Scheduling.{schedule_answer}
+use Rattle.tilebench.proofs.commands.schedule.ScheduleRoom.answer.Goals as goal
+
+pub returns : goal.returns
+returns c =
+    let Done : List Event → Type 0 = λ events. Schedules c.in_ok-sys.sys events c.in_ok-schedule_of.field-0 in
+    let done = subst Done c.deref.ensures.value c.in_ok-schedule_of.ensures in
+    record {
+      answer = schedule_answer c.args.input.now c.in_ok-sys.sys c.in_ok-sys.events.items c.in_ok-schedule_of.field-0 c.in_ok-sys.ensures done;
+      prints = done.lines;
+    }

@@ -1,0 +1,58 @@
+-- What `schedule` answers.
+use Rattle.std.specs.Prelude.{◌≡◌, ◌++◌, ℕ, Bool, List, map, All, Result, is_ok}
+use Rattle.std.specs.List.{list_all}
+use Rattle.atam.specs.declared.place.Place.{Place}
+use Rattle.atam.specs.TileSystem.{TileSystem}
+use Rattle.atam.specs.Canonical.{IsCanonical}
+use Rattle.grow_core.specs.declared.event.Event.{Event}
+use Rattle.grow_core.specs.declared.event.Seen.{Seen}
+use Rattle.grow_core.specs.declared.event.CoreStop.{CoreStop}
+use Rattle.grow_core.specs.Core.{CoreState, places}
+use Rattle.grow_core.specs.Steps.{CoreRun, IsStart}
+use Rattle.seq_text.specs.GrowthLines.{place_lines}
+use Rattle.seq_text.specs.ScheduleText.{ReadsEvents}
+use Rattle.seq_text.specs.SeenLines.{seen_lines, HasLine}
+use Rattle.tilebench.specs.Inputs.{IsSystemThen}
+
+-- the events one after another on the growth core, each with its reply
+pub record IsRunOf (sys : TileSystem) (start : CoreState) (events : List Event) (replies : List (Result Seen CoreStop)) (end : CoreState) : Type 0 where
+  pub answered : List (Event × Result Seen CoreStop)
+  pub events_are : map (λ p. p.0) answered ≡ events
+  pub replies_are : map (λ p. p.1) answered ≡ replies
+  pub run : CoreRun sys start answered end
+
+-- the replies to the events of a schedule, and the tiles that came of them
+pub record Replies : Type 0 where
+  pub replies : List (Result Seen CoreStop)
+  pub order : List Place
+
+-- From the start of the core, the replies to the events, none of which is want of memory; and then the canonical sequence of the core's tiles.
+pub record AreReplies (sys : TileSystem) (events : List Event) (schedule : Replies) : Type 0 where
+  pub start : CoreState
+  pub starts : IsStart sys start
+  pub end : CoreState
+  pub run : IsRunOf sys start events schedule.replies end
+  pub told : All (HasLine sys) schedule.replies
+  pub canonical : IsCanonical sys (places end.tiles) schedule.order
+
+-- their text
+abbrev pub schedule_text : TileSystem → Replies → List ℕ
+schedule_text sys schedule = seen_lines sys schedule.replies ++ place_lines sys schedule.order
+
+-- no event was refused
+abbrev pub are_answered : List (Result Seen CoreStop) → Bool
+are_answered replies = list_all is_ok replies
+
+-- the input is the text of a system and then of these events
+abbrev pub IsSystemThenEvents : List ℕ → TileSystem → List Event → Type 0
+IsSystemThenEvents input sys events = IsSystemThen (λ s end. ReadsEvents s input end events) input sys
+
+-- and this is the text of the replies to them
+pub record IsScheduleAnswer (input : List ℕ) (is_yes : Bool) (text : List ℕ) : Type 0 where
+  pub sys : TileSystem
+  pub events : List Event
+  pub read : IsSystemThenEvents input sys events
+  pub schedule : Replies
+  pub replied : AreReplies sys events schedule
+  pub printed : text ≡ schedule_text sys schedule
+  pub answer : is_yes ≡ are_answered schedule.replies

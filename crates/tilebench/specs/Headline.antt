@@ -1,0 +1,73 @@
+-- What the top call promises.
+use Rattle.std.specs.Prelude.{◌≡◌, ◌↔◌, ◌⊎◌, ◌≤◌, ℕ, Bool, true, false, List, length, Option, Some}
+use Rattle.tilebench.specs.declared.status.Status.TheVariants.{Done, No, Words, Text, ReadFault, WriteFault, NoMemory}
+use Rattle.tilebench.specs.Terms.{Command, CommandName, WordsStop, IsCallOf, IsTaken, IsRefusedAs, name_of, refused_words}
+use Rattle.tilebench.specs.Terms.{Status, TextFault, MOST_INPUT, Rose, Gains, GainsFront, Answers, Fails, Takes, refused_text}
+use Rattle.tilebench.specs.Terms.{Outcome, Place, TileSystem, IsSystemAlone, IsGrowth, IsLegal, SamePlacements, growth_text}
+use Rattle.tilebench.specs.Terms.{IsClosedInBox, IsLeastOpenOutside, IsLocallyDeterministic, IsDeterministicInBox, IsDeterministicInSomeOrder, GrowsInto}
+
+-- An answer: the words call for a command, as clap reads them, and this is what it answers to what was left of the source.
+pub record IsAnswer (words : List (List ℕ)) (left left_after : Option (List ℕ)) (is_yes : Bool) (text : List ℕ) : Type 0 where
+  pub command : Command
+  pub called : IsCallOf words command
+  pub answer : Answers command left left_after is_yes text
+
+-- A refusal of the words: the first names no command, or clap finds a fault in the list and does not promise to take it.
+pub record IsWordsRefusal (words : List (List ℕ)) (text : List ℕ) : Type 0 where
+  pub stop : WordsStop
+  pub refused : IsRefusedAs words stop
+  pub told : text ≡ refused_words stop
+
+-- A refusal of the input: the words call for a command, and this is the first fault of what was left of the source.
+pub record IsTextRefusal (words : List (List ℕ)) (left left_after : Option (List ℕ)) (text : List ℕ) : Type 0 where
+  pub command : Command
+  pub called : IsCallOf words command
+  pub fault : TextFault
+  pub fails : Fails (name_of command) left left_after fault
+  pub told : text ≡ refused_text fault
+
+-- How a run ends, by its status: `out` gained an answer, or `err` a refusal, or a count of faults rose, or memory was wanting.
+module _ {S K E : Type 0} (read_faults : S → ℕ) (written : K → Option (List ℕ)) (out_faults : K → ℕ) (told : E → Option (List ℕ)) (err_faults : E → ℕ)
+    (Answer : Bool → List ℕ → Type 0) (Refusal WordsRefusal : List ℕ → Type 0) (source source_after : S) (out out_after : K) (err err_after : E) where
+  abbrev pub Ends : Status → Type 0
+  Ends Done = Gains written out_faults (Answer true) out out_after × (err_after ≡ err)
+  Ends No = Gains written out_faults (Answer false) out out_after × (err_after ≡ err)
+  Ends Words = Gains told err_faults WordsRefusal err err_after × (out_after ≡ out) × (source_after ≡ source)
+  Ends Text = Gains told err_faults Refusal err err_after × (out_after ≡ out)
+  Ends ReadFault = Rose (read_faults source) (read_faults source_after) × (out_after ≡ out) × (err_after ≡ err)
+  Ends WriteFault =
+      (GainsFront written out_faults (λ text. (is_yes : Bool) × Answer is_yes text) out out_after × (err_after ≡ err))
+      ⊎ (GainsFront told err_faults (λ text. Refusal text ⊎ WordsRefusal text) err err_after × (out_after ≡ out))
+  Ends NoMemory = (out_after ≡ out) × (err_after ≡ err)
+
+-- An answer is due: clap promises to take the words, and what is left of the source is known, short, and an input that the command takes.
+pub record IsDue (words : List (List ℕ)) (left : Option (List ℕ)) : Type 0 where
+  pub name : CommandName
+  pub taken : IsTaken words name
+  pub input : List ℕ
+  pub known : left ≡ Some input
+  pub short : length input ≤ MOST_INPUT
+  pub takes : Takes name input
+
+-- The growth answer: the input is the text of one system, and the text is that of a growth of it, of which this holds.
+pub record IsHeadline (input : List ℕ) (is_yes : Bool) (text : List ℕ) : Type 0 where
+  pub sys : TileSystem
+  pub read : IsSystemAlone input sys
+  pub tiles : List Place
+  pub outcome : Outcome
+  pub grown : IsGrowth sys tiles outcome
+  pub printed : text ≡ growth_text sys outcome
+  -- its places are a legal sequence from the seed, with exactly the placements of an assembly
+  pub legal : IsLegal sys outcome.order
+  pub same : SamePlacements outcome.order tiles
+  -- nothing extends the assembly in the box, nor outside it unless a site is named
+  pub closed : IsClosedInBox sys tiles
+  pub outside : IsLeastOpenOutside sys tiles outcome.outside
+  -- it says `unique yes` exactly where the three conditions of local determinism hold of the sequence, and so of some order of its places
+  pub yes : (is_yes ≡ true) ↔ IsLocallyDeterministic sys outcome.order
+  pub some_order : (is_yes ≡ true) ↔ IsDeterministicInSomeOrder sys tiles
+  -- then every legal sequence extends to the assembly, and every growth of the system prints the same bytes
+  pub only : is_yes ≡ true → (b : List Place) → IsLegal sys b → GrowsInto sys b tiles
+  pub same_bytes : is_yes ≡ true → (others : List Place) (other : Outcome) → IsGrowth sys others other → growth_text sys other ≡ text
+  -- and where any sequence in the box is locally deterministic, this is the growth of its placements
+  pub determined : (s : List Place) → IsDeterministicInBox sys s → IsGrowth sys s outcome

@@ -1,0 +1,31 @@
+-- What the steps towards an answer hand back: a value, or why there is none.
+use Rattle.std.specs.Prelude.{◌≡◌, ℕ, Bool, List, Result, Ok, Err}
+use Rattle.tile_io.specs.declared.fault.TextFault.{TextFault}
+use Rattle.tile_io.specs.Faults.{Rose}
+use Rattle.tilebench.specs.declared.stop.Stop.{Stop}
+use Rattle.tilebench.specs.declared.stop.Stop.TheVariants.{Words, Text, ReadFault, NoMemory}
+
+-- a value with a fact, or a fault of the input with its fact; or no memory
+abbrev pub Gives : {T : Type 0} → (T → Type 0) → (TextFault → Type 0) → Result T Stop → Type 0
+Gives Holds Fails (Ok value) = Holds value
+Gives Holds Fails (Err (Text fault)) = Fails fault
+Gives Holds Fails (Err NoMemory) = Unit {0}
+Gives Holds Fails (Err (Words stop)) = ⊥
+Gives Holds Fails (Err ReadFault) = ⊥
+
+-- an answer that can be printed, and whose text and yes are these
+pub record Replies {A : Type 0} (positive : A → Bool) (text : A → List ℕ) (printable : A → Type 0) (Answers : Bool → List ℕ → Type 0) (reply : A) : Type 0 where
+  pub answer : Answers (positive reply) (text reply)
+  pub prints : printable reply
+
+abbrev pub GivesReply : {A : Type 0} → (A → Bool) → (A → List ℕ) → (A → Type 0) → (Bool → List ℕ → Type 0) → (TextFault → Type 0) → Result A Stop → Type 0
+GivesReply positive text printable Answers Fails result = Gives (Replies positive text printable Answers) Fails result
+
+-- the same of what was left of the source; or the source failed
+module _ {S A : Type 0} (faults : S → ℕ) (positive : A → Bool) (text : A → List ℕ) (printable : A → Type 0) where
+  abbrev pub GivesFromSource : (Bool → List ℕ → Type 0) → (TextFault → Type 0) → S → S → Result A Stop → Type 0
+  GivesFromSource Answers Fails source after (Ok reply) = Replies positive text printable Answers reply × (faults after ≡ faults source)
+  GivesFromSource Answers Fails source after (Err (Text fault)) = Fails fault × (faults after ≡ faults source)
+  GivesFromSource Answers Fails source after (Err ReadFault) = Rose (faults source) (faults after)
+  GivesFromSource Answers Fails source after (Err NoMemory) = faults after ≡ faults source
+  GivesFromSource Answers Fails source after (Err (Words stop)) = ⊥

@@ -1,0 +1,58 @@
+-- What the rooms of the commands hand from one step to the next: outcomes that can be printed.
+use Rattle.std.specs.Prelude.{◌≡◌, List, All, IfSome}
+use Rattle.atam.specs.declared.place.Place.{Place}
+use Rattle.atam.specs.TileSystem.{TileSystem, IsType}
+use Rattle.grow_core.specs.declared.event.Event.{Event}
+use Rattle.seq_text.specs.SeenLines.{HasLine}
+use Rattle.seq_text.specs.VerdictLines.{NamesTypes}
+use Rattle.unique_law.specs.Outcomes.{Outcome}
+use Rattle.tilebench.specs.declared.commands.check.Judgement.{Judgement}
+use Rattle.tilebench.specs.declared.commands.check.Judgement.TheVariants.{Legal, Breach}
+use Rattle.tilebench.specs.declared.commands.grow.Growth.{Growth}
+use Rattle.tilebench.specs.declared.commands.replay.Reordering.{Reordering}
+use Rattle.tilebench.specs.declared.commands.replay.Reordering.TheVariants.{Whole}
+use Rattle.tilebench.specs.declared.commands.schedule.Scheduled.{Scheduled}
+use Rattle.tilebench.specs.Commands.Grow.{IsGrowth}
+use Rattle.tilebench.specs.Commands.Schedule.{AreReplies, Replies}
+
+-- the types of an outcome are those of the system
+pub record HasTypes (sys : TileSystem) (outcome : Outcome) : Type 0 where
+  pub order : All (λ p. IsType sys p.tile) outcome.order
+  pub outside : IfSome outcome.outside (λ found. IsType sys found.1)
+  pub verdict : NamesTypes sys outcome.verdict
+
+-- the outcome of a growth
+abbrev pub outcome_of : Growth → Outcome
+outcome_of growth = record { order = growth.order; outside = growth.outside; verdict = growth.verdict }
+
+-- a growth of this system
+pub record GrowsTo (sys : TileSystem) (growth : Growth) : Type 0 where
+  pub same : growth.sys ≡ sys
+  pub tiles : List Place
+  pub grown : IsGrowth growth.sys tiles (outcome_of growth)
+  pub types : HasTypes growth.sys (outcome_of growth)
+
+-- the types of a judgement are those of the system
+abbrev pub NamesItsTypes : TileSystem → Judgement → Type 0
+NamesItsTypes sys (Legal verdict) = NamesTypes sys verdict
+NamesItsTypes sys (Breach breach) = Unit {0}
+
+-- the types of the order are those of the system
+abbrev pub OrdersTypes : TileSystem → Reordering → Type 0
+OrdersTypes sys (Whole order) = All (λ p. IsType sys p.tile) order
+OrdersTypes sys _ = Unit {0}
+
+-- each reply has a line, and the tiles are of types of the system
+pub record HasLines (sys : TileSystem) (schedule : Replies) : Type 0 where
+  pub replies : All (HasLine sys) schedule.replies
+  pub order : All (λ p. IsType sys p.tile) schedule.order
+
+-- the replies and the tiles of a schedule that was run
+abbrev pub replies_of : Scheduled → Replies
+replies_of scheduled = record { replies = scheduled.replies.items; order = scheduled.order }
+
+-- a run of these events on this system
+pub record Schedules (sys : TileSystem) (events : List Event) (scheduled : Scheduled) : Type 0 where
+  pub same : scheduled.sys ≡ sys
+  pub replied : AreReplies scheduled.sys events (replies_of scheduled)
+  pub lines : HasLines scheduled.sys (replies_of scheduled)

@@ -1,0 +1,20 @@
+-- The words of the headline, from one place.
+pub use Rattle.tile_io.specs.declared.fault.TextFault.{TextFault}
+pub use Rattle.tile_io.specs.declared.limits.TheConstants.{MOST_INPUT}
+pub use Rattle.tile_io.specs.Faults.{Rose}
+pub use Rattle.atam.specs.declared.place.Place.{Place}
+pub use Rattle.atam.specs.TileSystem.{TileSystem}
+pub use Rattle.atam.specs.Placements.{SamePlacements}
+pub use Rattle.atam.specs.Growth.{IsLegal, IsClosedInBox, IsLeastOpenOutside, GrowsInto}
+pub use Rattle.atam.specs.Determinism.{IsDeterministicInBox, IsLocallyDeterministic}
+pub use Rattle.unique_law.specs.Outcomes.{Outcome, IsDeterministicInSomeOrder}
+pub use Rattle.command_line.specs.declared.commands.Command.{Command}
+pub use Rattle.command_line.specs.declared.commands.CommandName.{CommandName}
+pub use Rattle.command_line.specs.declared.words_stop.WordsStop.{WordsStop}
+pub use Rattle.command_line.specs.Commands.{IsCallOf, IsTaken, name_of}
+pub use Rattle.tilebench.specs.declared.status.Status.{Status}
+pub use Rattle.tilebench.specs.Commands.{Answers, Fails, Takes}
+pub use Rattle.tilebench.specs.Commands.Grow.{IsGrowth, growth_text}
+pub use Rattle.tilebench.specs.Inputs.{IsSystemAlone}
+pub use Rattle.tilebench.specs.Gains.{Gains, GainsFront}
+pub use Rattle.tilebench.specs.Refusals.{IsRefusedAs, refused_words, refused_text}

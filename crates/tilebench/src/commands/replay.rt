@@ -1,0 +1,112 @@
+// `replay`: an assembly in canonical order.
+ghost use Rattle.std.specs.Prelude.{◌≡◌, ◌≤◌, List, length, IfOk};
+ghost use Rattle.tile_io.specs.declared.limits.TheConstants.{MOST_INPUT};
+ghost use Rattle.atam.specs.declared.place.Place.{Place};
+ghost use Rattle.atam.specs.Assembly.{Fits};
+ghost use Rattle.seq_text.specs.GrowthText.{grid_format};
+ghost use Rattle.tilebench.specs.Inner.Gives.{Gives};
+ghost use Rattle.tilebench.specs.Inputs.{FailsWithin, IsReadable};
+ghost use Rattle.tilebench.specs.Commands.Replay.{IsAssemblyOf, IsReordering, IsReplayAnswer, IsSystemThenPlacements, is_whole, reordering_text};
+ghost use Rattle.tilebench.specs.Inner.Rooms.{OrdersTypes};
+ghost use Rattle.tilebench.specs.Inner.Readings.{taken_or_faulty};
+
+use crate::input::read_front;
+use crate::room::{Reply, Room};
+use crate::stop::Stop;
+use assembly::{Grid, Sequence};
+use replay_order::{ReplayStop, replay};
+use seq_text::{print_places, print_stuck, print_stuck_seed, read_grid};
+use std::alloc::Global;
+use tile_io::{Failed, Sink};
+use tile_system::{NoMemory, Site, System};
+
+/// The command.
+#[derive(Clone, Copy)]
+pub struct Replay;
+
+impl Room for Replay {
+    type Answer = Replayed;
+
+    ghost answers = { λ room. IsReplayAnswer };
+
+    ghost takes = { λ room. IsReadable grid_format };
+
+    ghost fails = { λ room. FailsWithin grid_format };
+
+    fn answer(&self, alloc: Global, input: &[u8]) -> Result<Replayed, Stop> {
+        let (sys, grid) = system_and_grid(alloc, input)?;
+        let reordering = reordering_of(alloc, &sys, &grid)?;
+        Ok(Replayed { sys, reordering })
+    }
+
+    ghost one_of_two = { λ room. taken_or_faulty grid_format };
+}
+
+/// The canonical order of an assembly of a system, or what keeps it from having one.
+#[derive(Drop)]
+pub struct Replayed {
+    pub sys: System,
+    pub reordering: Reordering,
+}
+
+/// The canonical order of an assembly, or what keeps it from having one.
+#[derive(Drop)]
+pub enum Reordering {
+    /// The tiles in canonical order.
+    Whole(Sequence),
+    /// The site of a seed that the assembly lacks.
+    SeedMissing(Site),
+    /// How many tiles can't be reached from the seeds, and the least site of theirs.
+    Stuck { left: u32, least: Site },
+}
+
+impl Reply for Replayed {
+    ghost text = { λ replayed. reordering_text replayed.sys replayed.reordering };
+
+    ghost yes = { λ replayed. is_whole replayed.reordering };
+
+    ghost printable = { λ replayed. OrdersTypes replayed.sys replayed.reordering };
+
+    fn is_yes(&self) -> bool {
+        matches!(self.reordering, Reordering::Whole(_))
+    }
+
+    fn print<K: Sink>(&self, out: &mut K) -> Result<(), Failed> {
+        match &self.reordering {
+            Reordering::Whole(order) => print_places(&self.sys, order.as_slice(), out),
+            Reordering::SeedMissing(site) => print_stuck_seed(*site, out),
+            Reordering::Stuck { left, least } => print_stuck(*left, *least, out),
+        }
+    }
+}
+
+// The system and the assembly whose texts the input is.
+fn system_and_grid(alloc: Global, input: &[u8]) -> Result<(System, Grid), Stop>
+    requires { length input.now ≤ MOST_INPUT }
+    ensures read { Gives (λ found. (places : List Place)
+        × IsSystemThenPlacements input.now found.0 places × IsAssemblyOf places found.1.tiles)
+        (FailsWithin grid_format input.now) result }
+    ensures area { IfOk result (λ found. found.1.area ≡ found.0.area) }
+    ensures fits { IfOk result (λ found. Fits found.0 found.1.tiles) }
+{
+    let (sys, end) = read_front(alloc, input)?;
+    let grid = read_grid(alloc, &sys, input, end)?;
+    Ok((sys, grid))
+}
+
+// The canonical order of an assembly, or what keeps it from having one.
+fn reordering_of(alloc: Global, sys: &System, grid: &Grid) -> Result<Reordering, NoMemory>
+    requires area { grid.now.area ≡ sys.now.area }
+    requires fits { Fits sys.now grid.now.tiles }
+    ensures reordered { IfOk result (IsReordering sys.now grid.now.tiles) }
+    ensures types { IfOk result (OrdersTypes sys.now) }
+{
+    let _area = sys.area();
+    match replay(alloc, sys, grid) {
+        Ok(order) => Ok(Reordering::Whole(order)),
+        // a system has one seed
+        Err(ReplayStop::NoSeedThere) => Ok(Reordering::SeedMissing(sys.seed().site)),
+        Err(ReplayStop::Stuck { left, least }) => Ok(Reordering::Stuck { left, least }),
+        Err(ReplayStop::NoMemory) => Err(NoMemory),
+    }
+}

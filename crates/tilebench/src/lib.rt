@@ -1,0 +1,20 @@
+//! tilebench: a workbench for the abstract Tile Assembly Model.
+//!
+//! The top call [`tilebench`] reads words and a source, and writes to two sinks. Each command has a
+//! room under `commands`: what it reads, what it answers, and the text of that.
+#![tactic(auto)]
+
+mod commands;
+mod grid_growth;
+mod input;
+mod order;
+mod picker;
+mod room;
+mod run;
+mod status;
+mod stop;
+mod telling;
+mod top;
+
+pub use status::{Ran, Status};
+pub use top::tilebench;

@@ -1,0 +1,55 @@
+// What a command is to the top call: it answers an input, and its answer has a text.
+ghost use Rattle.std.specs.Prelude.{◌≡◌, ◌≤◌, ℕ, Bool, List, length};
+ghost use Rattle.tile_io.specs.declared.fault.TextFault.{TextFault};
+ghost use Rattle.tile_io.specs.declared.limits.TheConstants.{MOST_INPUT};
+ghost use Rattle.tile_io.specs.Prints.{Prints};
+ghost use Rattle.tilebench.specs.Inner.Gives.{GivesReply};
+
+use crate::stop::Stop;
+use std::alloc::Global;
+use tile_io::{Failed, Sink};
+
+/// What a command answers.
+pub trait Reply {
+    /// Its text.
+    ghost text: { Self → List ℕ };
+
+    /// Whether it is a yes.
+    ghost yes: { Self → Bool };
+
+    /// Whether each type in it is one of its system.
+    ghost printable: { Self → Type 0 };
+
+    /// Whether it is a yes.
+    fn is_yes(&self) -> bool
+        ensures { result ≡ yes self.now };
+
+    /// Writes its text.
+    fn print<K: Sink>(&self, out: &mut K) -> Result<(), Failed>
+        requires { printable self.now }
+        ensures { Prints K.written K.faults out.old out.new result (text self.now) };
+}
+
+/// A command that reads the whole input, with what its options say.
+pub trait Room {
+    type Answer: Reply + Drop;
+
+    /// What it answers to an input: whether it is a yes, and the text.
+    ghost answers: { Self → List ℕ → Bool → List ℕ → Type 0 };
+
+    /// Whether it takes the input.
+    ghost takes: { Self → List ℕ → Type 0 };
+
+    /// The first fault of the input.
+    ghost fails: { Self → List ℕ → TextFault → Type 0 };
+
+    /// Its answer to an input. The other `Err` is want of memory.
+    fn answer(&self, alloc: Global, input: &[u8]) -> Result<Self::Answer, Stop>
+        requires { length input.now ≤ MOST_INPUT }
+        ensures { GivesReply Self.Answer.yes Self.Answer.text Self.Answer.printable
+            (answers self.now input.now) (fails self.now input.now) result };
+
+    /// An input that it takes has no fault.
+    ghost one_of_two: { (room : Self) (input : List ℕ) (fault : TextFault) →
+        takes room input → fails room input fault → ⊥ };
+}

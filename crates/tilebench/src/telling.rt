@@ -1,0 +1,84 @@
+// What is told of an answer or a stop.
+ghost use Rattle.std.specs.Prelude.{◌≡◌, IfOk};
+ghost use Rattle.tile_io.specs.Prints.{Prints};
+ghost use Rattle.tilebench.specs.Inner.Tells.{Tells, Refuses, Writes, written_status};
+ghost use Rattle.tilebench.specs.Refusals.{refused_text, refused_words};
+ghost use Rattle.tilebench.specs.Statuses.{answer_status};
+
+use crate::room::Reply;
+use crate::status::Status;
+use crate::stop::Stop;
+use command_line::WordsStop;
+use itoa::Buffer;
+use tile_io::{Failed, Sink, TextFault, print_line};
+
+/// Writes the text of an answer, or the refusal where there is none.
+pub fn tell<A: Reply + Drop, K: Sink, E: Sink>(
+    answer: Result<A, Stop>,
+    out: &mut K,
+    err: &mut E,
+) -> Status
+    requires { IfOk answer A.printable }
+    ensures { Tells A.yes A.text K.written K.faults E.written E.faults
+        out.old out.new err.old err.new answer result }
+{
+    match answer {
+        Ok(reply) => print_reply(&reply, out),
+        Err(stop) => refuse(stop, err),
+    }
+}
+
+// Writes the text of an answer.
+fn print_reply<A: Reply, K: Sink>(reply: &A, out: &mut K) -> Status
+    requires { A.printable reply.now }
+    ensures { Writes K.written K.faults out.old out.new
+        (answer_status (A.yes reply.now)) result (A.text reply.now) }
+{
+    let told = answer_status(reply.is_yes());
+    written(reply.print(out), told)
+}
+
+// The status of an answer.
+fn answer_status(is_yes: bool) -> Status
+    ensures { result ≡ answer_status is_yes }
+{
+    if is_yes { Status::Done } else { Status::No }
+}
+
+/// Writes the line of a stop, if it has one.
+pub fn refuse<E: Sink>(stop: Stop, err: &mut E) -> Status
+    ensures { Refuses E.written E.faults err.old err.new stop result }
+{
+    match stop {
+        Stop::Words(words) => written(print_words_stop(words, err), stop.status()),
+        Stop::Text(fault) => written(print_fault(fault, err), stop.status()),
+        Stop::ReadFault | Stop::NoMemory => stop.status(),
+    }
+}
+
+// The line of a refusal of the words.
+fn print_words_stop<E: Sink>(stop: WordsStop, err: &mut E) -> Result<(), Failed>
+    ensures { Prints E.written E.faults err.old err.new result (refused_words stop) }
+{
+    print_line(err, b"refused", &[b"words", stop.name().as_bytes()])
+}
+
+// The line of a fault of the input.
+fn print_fault<E: Sink>(fault: TextFault, err: &mut E) -> Result<(), Failed>
+    ensures { Prints E.written E.faults err.old err.new result (refused_text fault) }
+{
+    let mut line = Buffer::new();
+    let line = line.format(fault.line).as_bytes();
+    let cause = fault.cause.name().as_bytes();
+    print_line(err, b"refused", &[b"text", b"line", line, cause])
+}
+
+// The status of a text that was to be written.
+fn written(done: Result<(), Failed>, told: Status) -> Status
+    ensures { result ≡ written_status done told }
+{
+    match done {
+        Ok(()) => told,
+        Err(Failed) => Status::WriteFault,
+    }
+}
