@@ -1,5 +1,5 @@
 -- A line by its row in a table of keywords, and the cause of a line that fails.
-use Rattle.std.proofs.Common.{◌≡◌, ℕ, ◌<◌, Bool, true, false, List, [], ◌∷◌, length, Some, Result, Ok, Err, refl, sym, ap, ◌∙◌, arith}
+use Rattle.std.proofs.Common.{◌≡◌, ℕ, ◌<◌, Bool, true, false, List, [], ◌∷◌, length, Option, Some, None, Result, Ok, Err, refl, sym, ap, ◌∙◌, arith}
 use Rattle.std.specs.Prelude.{bytes_eq, find}
 use Rattle.tile_io.specs.declared.fault.Cause.{Cause}
 use Rattle.tile_io.specs.Formats.{missing_cause}
@@ -30,3 +30,14 @@ module _ {Item : Type 0} where
   header_fails false items check missing cause m e = e
   header_fails true [] check missing cause m e = ap (λ c. by_header true [] c) e ∙ ap (λ n. Err (first_cause true n cause)) (sym m)
   header_fails true (first ∷ others) check missing cause m e = e ∙ ap (λ n. Err (first_cause true n cause)) (sym m)
+
+  -- a line that passed is that of a row
+  pub header_ok : (has_header : Bool) (items : List Item) (check : Result Item Cause) (item : Item) → by_header has_header items check ≡ Ok item → check ≡ Ok item
+  header_ok false items check item e = e
+  header_ok true [] (Ok other) item e = e
+  header_ok true [] (Err cause) item e = absurd (cc e)
+  header_ok true (first ∷ others) check item e = e
+
+  pub found_row : (row : Option (Keyword Item)) (items : List Item) (words : List (List ℕ)) (item : Item) → check_keyword row items words ≡ Ok item → (found : Keyword Item) × (row ≡ Some found) × (check_keyword (Some found) items words ≡ Ok item)
+  found_row None items words item e = absurd (cc e)
+  found_row (Some row) items words item e = (row, refl, e)

@@ -1,6 +1,6 @@
 -- A printed system reads as itself, whatever follows.
 use Rattle.std.proofs.Common.{◌≡◌, ◌≢◌, ℕ, ◌+◌, ◌^◌, ◌≤◌, ◌<◌, Bool, true, false, List, [], ◌∷◌, ◌++◌, length, map, get_or, slice_get, codes, decimal, pos, Option, Some, None, Ok, All, refl, sym, ap, subst, ◌∙◌, arith, append_assoc, append-nil, length-append}
-use Rattle.std.specs.Prelude.{ℤ, negsuc, nat_abs, int_le, bytes_eq, filter_map, position, flat_map, drop, AllPairs, IfSome, nat_le, ◌==◌, ◌&&◌, ◌||◌, ◌≤ℤ◌}
+use Rattle.std.specs.Prelude.{ℤ, negsuc, nat_abs, int_le, bytes_eq, position, flat_map, drop, AllPairs, IfSome, nat_le, ◌==◌, ◌&&◌, ◌||◌, ◌≤ℤ◌}
 use Rattle.std.specs.Fmt.{signed_decimal}
 use Rattle.std.specs.List.{list_any, list_all, position_or_len}
 use Rattle.std.specs.Option.{option_map_or}
@@ -27,16 +27,14 @@ use Rattle.atam.specs.declared.site.Side.{Side}
 use Rattle.atam.specs.declared.site.Side.TheVariants.{North, East, South, West}
 use Rattle.atam.specs.Sites.{InBox, IsBox}
 use Rattle.atam.specs.TileSystem.{TileSystem, Glue, TileType, IsName, IsValid, IsType, side_of, glue_name, type_name, is_name, is_name_byte}
-use Rattle.tile_text.specs.SystemText.{SystemItem, ReadsSystem, system_format, system_items, system_check, glue_names, type_names, type_of, area_of, side, is_in_boxes, follows_tau_or_glue, follows_tau_glue_or_tile, follows_tile, follows_box, follows_seed}
+use Rattle.tile_text.specs.SystemText.{SystemItem, ReadsSystem, system_format, system_table, header_fields, system_items, glue_names, type_names, type_of, box_before, side, is_inside, follows_tau_or_glue, follows_tau_glue_or_tile, follows_tile, follows_box, follows_seed}
 use Rattle.tile_text.specs.SystemText.SystemItem.{Header, TauLine, GlueLine, TileLine, BoxLine, SeedLine, EndLine}
 use Rattle.tile_text.specs.Spelling.{glue_words, side_word, tile_words, box_words, seed_words, printed_words, spelling, end_of_print}
-use Rattle.tile_text.specs.Drafts.{head_items}
 use Rattle.tile_io.proofs.Checking.{last_push}
-use Rattle.tile_text.proofs.DraftLemmas.{last_map, glues_first, glues_then, types_then}
-use Rattle.tile_text.proofs.TileLemmas.{position_map}
-use Rattle.tile_text.proofs.FieldLemmas.{no_areas, holds_one}
-use Rattle.tile_text.proofs.Inverse.{and_both}
-use Rattle.tile_text.proofs.Soundness.{le_z, box_passes, inside_passes}
+use Rattle.tile_text.proofs.Lists.{head_items, last_map, glues_first, glues_then, types_then}
+use Rattle.tile_text.proofs.Built.{position_map, area_after}
+use Rattle.tile_text.proofs.Boxes.{and_both, le_z, box_passes, inside_passes}
+use Rattle.tile_text.proofs.OneSystem.{sole_seed}
 use Rattle.tile_text.proofs.LinesSpelled.{glue_check-spelled, tile_check-spelled, box_check-spelled, seed_check-spelled, tau_check-spelled, end_check-spelled, side-none, side-spelled, coordinate-spelled}
 
 -- Names that differ, and the place of one of them.
@@ -123,7 +121,7 @@ after_types tau glues (t ∷ types) = let last = last_map TileLine (head_items t
 
 glues_check : (tau : ℕ) (todo done : List Glue) → length (done ++ todo) ≤ 8192 → All (λ g. IsName g.name) (done ++ todo) → AllPairs (λ g h. g.name ≢ h.name) (done ++ todo) → All (λ g. g.strength ≤ 250) (done ++ todo) →
     ChecksAs system_format (head_items tau ++ map GlueLine done) (map glue_words todo) (map GlueLine todo)
-unfolding system_format
+unfolding system_table
 glues_check tau [] done few named distinct weak = tt
 glues_check tau (g ∷ todo) done few named distinct weak =
     let before = head_items tau ++ map GlueLine done in
@@ -162,7 +160,7 @@ side_checks sys before (Some g) names named distinct below =
 types_check : (sys : TileSystem) (todo done : List TileType) → IsValid sys → length (done ++ todo) ≤ 16384 → All (λ t. IsName t.name) (done ++ todo) → AllPairs (λ t u. t.name ≢ u.name) (done ++ todo) →
     All (λ t. (d : Side) → IfSome (side_of t d) (λ g. g.0 < length sys.glues)) (done ++ todo) →
     ChecksAs system_format (head_items sys.tau ++ map GlueLine sys.glues ++ map TileLine done) (map (tile_words sys) todo) (map TileLine todo)
-unfolding system_format
+unfolding system_table
 types_check sys [] done valid few named distinct sides = tt
 types_check sys (t ∷ todo) done valid few named distinct sides =
     let front = head_items sys.tau ++ map GlueLine sys.glues in
@@ -367,35 +365,31 @@ module _ (sys : TileSystem) (seed : Place) (valid : IsValid sys) (typed : IsType
   after_box : follows_tile (last_of (head_items sys.tau ++ map GlueLine sys.glues ++ map TileLine sys.types)) ≡ true
   after_box = let last = last_map TileLine (head_items sys.tau ++ map GlueLine sys.glues) sys.types valid.some_type in rw last.1 refl
 
-  areas_are : filter_map area_of (head_items sys.tau ++ map GlueLine sys.glues ++ map TileLine sys.types ++ (BoxLine sys.area ∷ [])) ≡ sys.area ∷ []
-  areas_are =
-      filter_map-append area_of (head_items sys.tau ++ map GlueLine sys.glues ++ map TileLine sys.types) (BoxLine sys.area ∷ []) ∙ ap (λ l. l ++ sys.area ∷ []) (no_areas sys.tau sys.glues sys.types)
-
   types_are : type_names (head_items sys.tau ++ map GlueLine sys.glues ++ map TileLine sys.types ++ (BoxLine sys.area ∷ [])) ≡ map (λ t. t.name) sys.types
   unfolding type_names
   types_are =
       ap (map (λ (t : TileType). t.name)) (filter_map-append type_of (head_items sys.tau ++ map GlueLine sys.glues ++ map TileLine sys.types) (BoxLine sys.area ∷ []) ∙ append-nil _ ∙ types_then sys.tau sys.glues sys.types)
 
   seed_checks : ChecksAs system_format (head_items sys.tau ++ map GlueLine sys.glues ++ map TileLine sys.types ++ (BoxLine sys.area ∷ [])) (seed_words sys seed ∷ []) (SeedLine seed ∷ [])
-  unfolding system_format
+  unfolding system_table
   seed_checks =
       let before = head_items sys.tau ++ map GlueLine sys.glues ++ map TileLine sys.types ++ (BoxLine sys.area ∷ []) in
       let p = plain_seed sys.area seed valid.box inside in
       let named = named_seed sys seed valid.type_names valid.distinct_types typed in
       let follows : follows_box (last_of before) ≡ true = rw (last_push (head_items sys.tau ++ map GlueLine sys.glues ++ map TileLine sys.types) (BoxLine sys.area)) refl in
       let placed : position (bytes_eq (type_name sys seed.tile)) (type_names before) ≡ Some seed.tile.0 = ap (position (bytes_eq (type_name sys seed.tile))) types_are ∙ named.placed in
-      let In : List BoxArea → Type 0 = λ l. is_in_boxes l seed.site ≡ true in
-      let held : In (filter_map area_of before) = subst In (sym areas_are) (holds_one sys.area seed.site ∙ inside_passes sys.area seed.site inside) in
+      let held : is_inside (box_before before) seed.site ≡ true =
+      ap (λ o. is_inside o seed.site) (area_after (head_items sys.tau ++ map GlueLine sys.glues ++ map TileLine sys.types) sys.area) ∙ inside_passes sys.area seed.site inside in
       (seed_check-spelled seed (type_name sys seed.tile) Header (TauLine sys.tau ∷ (map GlueLine sys.glues ++ map TileLine sys.types ++ (BoxLine sys.area ∷ []))) follows p.x.reads p.y.reads named.named placed held, refl, tt)
 
   box_checks : ChecksAs system_format (head_items sys.tau ++ map GlueLine sys.glues ++ map TileLine sys.types) (box_words sys.area ∷ []) (BoxLine sys.area ∷ [])
-  unfolding system_format
+  unfolding system_table
   box_checks =
       let p = plain_box sys.area valid.box in
       (box_check-spelled Header (TauLine sys.tau ∷ (map GlueLine sys.glues ++ map TileLine sys.types)) sys.area after_box p.x0.reads p.y0.reads p.x1.reads p.y1.reads (box_passes sys.area valid.box), refl, tt)
 
   head_checks : ChecksAs system_format [] ((codes "tiles" ∷ codes "1" ∷ []) ∷ (codes "tau" ∷ decimal sys.tau ∷ []) ∷ []) (head_items sys.tau)
-  unfolding system_format system_check
+  unfolding system_table header_fields
   head_checks = (refl, refl, (tau_check-spelled Header [] sys.tau refl valid.some_tau valid.tau, refl, tt))
 
   all_check : ChecksAs system_format [] (lines_before sys seed) (items_before sys seed)
@@ -424,20 +418,15 @@ module _ (sys : TileSystem) (seed : Place) (valid : IsValid sys) (typed : IsType
       All-append IsSpelled (second ++ (box_words sys.area ∷ [])) (seed_words sys seed ∷ [])
       (All-append IsSpelled second (box_words sys.area ∷ []) (All-append IsSpelled first (map (tile_words sys) sys.types) (All-append IsSpelled start (map glue_words sys.glues) head glues) types) box) seeds
 
-  end_checks : system_check (items_before sys seed) (codes "end" ∷ []) ≡ Ok EndLine
+  end_checks : system_format.check (items_before sys seed) (codes "end" ∷ []) ≡ Ok EndLine
   end_checks =
       let follows : follows_seed (last_of (items_before sys seed)) ≡ true = rw (last_push (head_items sys.tau ++ map GlueLine sys.glues ++ map TileLine sys.types ++ (BoxLine sys.area ∷ [])) (SeedLine seed)) refl in
       end_check-spelled Header (TauLine sys.tau ∷ (map GlueLine sys.glues ++ map TileLine sys.types ++ (BoxLine sys.area ∷ []) ++ (SeedLine seed ∷ []))) follows
 
   reads_before : (text : List ℕ) (from : Mark) (rest : List ℕ) → drop from.at text ≡ flat_map line_of (lines_before sys seed) ++ (line_of (codes "end" ∷ []) ++ rest) →
       Reads system_format text from (items_before sys seed ++ EndLine ∷ []) (record { at = from.at + length (flat_map line_of (lines_before sys seed) ++ line_of (codes "end" ∷ [])); line = from.line + (length (lines_before sys seed) + 1) })
-  unfolding system_format
+  unfolding system_table
   reads_before text from rest e = reads_spelled system_format text from (lines_before sys seed) (items_before sys seed) (codes "end" ∷ []) EndLine rest e all_spelled spelled_end all_check end_checks refl
-
-sole_seed : (seeds : List Place) → length seeds ≡ 1 → (seed : Place) × (seeds ≡ seed ∷ [])
-sole_seed [] one = absurd (omega (arith, one))
-sole_seed (seed ∷ []) one = (seed, refl)
-sole_seed (seed ∷ next ∷ seeds) one = absurd (omega (arith, one))
 
 module _ (sys : TileSystem) (seed : Place) (sole : sys.seeds ≡ seed ∷ []) where
   words_are : printed_words sys ≡ lines_before sys seed ++ ((codes "end" ∷ []) ∷ [])

@@ -1,17 +1,16 @@
 -- The text of a system: what each kept line is, which checks it has to pass, and the items of a system.
-use Rattle.std.specs.Prelude.{◌≡◌, ℕ, ◌==◌, Bool, true, false, ◌&&◌, nat_lt, List, [], ◌∷◌, ◌++◌, length, map, filter_map, codes, bytes_eq, Option, Some, None, Result, Ok, Err, pos, ◌+ℤ◌, int_le, nat_abs}
-use Rattle.std.specs.List.{list_all}
-use Rattle.std.specs.Cmp.Lexicographic.{pointwise}
+use Rattle.std.specs.Prelude.{◌≡◌, ℕ, ◌==◌, Bool, true, false, ◌&&◌, nat_lt, List, [], ◌∷◌, ◌++◌, length, map, filter_map, codes, bytes_eq, Option, Some, None, Result, Ok, pos, ◌+ℤ◌, int_le}
 use Rattle.tile_io.specs.declared.fault.Cause.{Cause}
-use Rattle.tile_io.specs.declared.fault.Cause.TheVariants.{NoHeader, BadLine, OutOfRange, SeedOutside}
+use Rattle.tile_io.specs.declared.fault.Cause.TheVariants.{NoHeader, OutOfRange, SeedOutside}
 use Rattle.tile_io.specs.declared.mark.Mark.{Mark}
 use Rattle.tile_io.specs.Formats.{Format, Reads}
-use Rattle.tile_io.specs.Checks.{◌>>=◌, require, number_in, coordinate, declared, referred, Keyword, check_line}
+use Rattle.tile_io.specs.Checks.{◌>>=◌, require, field, count_in, declared, referred, last_of, Keyword, Table, table_format}
 use Rattle.atam.specs.declared.site.Site.{Site}
 use Rattle.atam.specs.declared.place.GlueId.{GlueId}
 use Rattle.atam.specs.declared.place.Place.{Place}
 use Rattle.atam.specs.declared.area.BoxArea.{BoxArea}
 use Rattle.atam.specs.TileSystem.{TileSystem, Glue, TileType, is_name}
+use Rattle.tile_text.specs.Fields.{box_field, place_field}
 
 -- what a kept line of a system text is
 pub data SystemItem : Type 0 where
@@ -46,13 +45,7 @@ glue_names earlier = map (λ g. g.name) (filter_map glue_of earlier)
 unfoldable pub type_names : List SystemItem → List (List ℕ)
 type_names earlier = map (λ t. t.name) (filter_map type_of earlier)
 
--- a number field that isn't negative
-abbrev pub count_in : ℕ → ℕ → List ℕ → Result ℕ Cause
-count_in least most word = do
-  n ← number_in (pos least) (pos most) word
-  Ok (nat_abs n)
-
--- the glue of a side, or none where the word is `-`
+-- a side: the glue of this name, or none where the word is `-`
 abbrev pub side_unless : Bool → List SystemItem → List ℕ → Result (Option GlueId) Cause
 side_unless true earlier word = Ok None
 side_unless false earlier word = do
@@ -69,58 +62,56 @@ is_box area = int_le area.x0 area.x1 && int_le area.y0 area.y1 && int_le area.x1
 abbrev pub is_in_box : BoxArea → Site → Bool
 is_in_box area m = int_le area.x0 m.x && int_le m.x area.x1 && int_le area.y0 m.y && int_le m.y area.y1
 
--- whether the site is in the box that is declared before the line
-abbrev pub is_in_boxes : List BoxArea → Site → Bool
-is_in_boxes areas m = list_all (λ area. is_in_box area m) areas
+-- the box that is declared before a line
+unfoldable pub box_before : List SystemItem → Option BoxArea
+box_before earlier = last_of (filter_map area_of earlier)
 
--- The fields of each keyword. A line that isn't of its keyword's number of words is refused before.
+abbrev pub is_inside : Option BoxArea → Site → Bool
+is_inside None m = true
+is_inside (Some area) m = is_in_box area m
+
+-- The fields of each keyword, and then the checks of the whole line.
+unfoldable pub header_fields : List SystemItem → List (List ℕ) → Result SystemItem Cause
+header_fields earlier words = do
+  _ ← require (bytes_eq (field words 1) (codes "1")) NoHeader
+  Ok Header
+
 unfoldable pub tau_fields : List SystemItem → List (List ℕ) → Result SystemItem Cause
-tau_fields earlier (_ ∷ tau ∷ _) = do
-  n ← count_in 1 1000 tau
+tau_fields earlier words = do
+  n ← count_in 1 1000 (field words 1)
   Ok (TauLine n)
-tau_fields earlier _ = Err BadLine
 
 unfoldable pub glue_fields : List SystemItem → List (List ℕ) → Result SystemItem Cause
-glue_fields earlier (_ ∷ name ∷ strength ∷ _) = do
-  new ← declared is_name (glue_names earlier) name
-  n ← count_in 0 250 strength
-  Ok (GlueLine (record { name = new; strength = n }))
-glue_fields earlier _ = Err BadLine
+glue_fields earlier words = do
+  name ← declared is_name (glue_names earlier) (field words 1)
+  n ← count_in 0 250 (field words 2)
+  Ok (GlueLine (record { name = name; strength = n }))
 
 unfoldable pub tile_fields : List SystemItem → List (List ℕ) → Result SystemItem Cause
-tile_fields earlier (_ ∷ name ∷ north ∷ east ∷ south ∷ west ∷ _) = do
-  new ← declared is_name (type_names earlier) name
-  n ← side earlier north
-  e ← side earlier east
-  s ← side earlier south
-  w ← side earlier west
-  Ok (TileLine (record { name = new; north = n; east = e; south = s; west = w }))
-tile_fields earlier _ = Err BadLine
+tile_fields earlier words = do
+  name ← declared is_name (type_names earlier) (field words 1)
+  n ← side earlier (field words 2)
+  e ← side earlier (field words 3)
+  s ← side earlier (field words 4)
+  w ← side earlier (field words 5)
+  Ok (TileLine (record { name = name; north = n; east = e; south = s; west = w }))
 
 unfoldable pub box_fields : List SystemItem → List (List ℕ) → Result SystemItem Cause
-box_fields earlier (_ ∷ left ∷ bottom ∷ right ∷ top ∷ _) = do
-  x0 ← coordinate left
-  y0 ← coordinate bottom
-  x1 ← coordinate right
-  y1 ← coordinate top
-  let area : BoxArea = record { x0 = x0; y0 = y0; x1 = x1; y1 = y1 }
+box_fields earlier words = do
+  area ← box_field (field words 1) (field words 2) (field words 3) (field words 4)
   _ ← require (is_box area) OutOfRange
   Ok (BoxLine area)
-box_fields earlier _ = Err BadLine
 
 unfoldable pub seed_fields : List SystemItem → List (List ℕ) → Result SystemItem Cause
-seed_fields earlier (_ ∷ column ∷ row ∷ name ∷ _) = do
-  x ← coordinate column
-  y ← coordinate row
-  t ← referred is_name (type_names earlier) name
-  let site : Site = record { x = x; y = y }
-  _ ← require (is_in_boxes (filter_map area_of earlier) site) SeedOutside
-  Ok (SeedLine (record { site = site; tile = record { 0 = t } }))
-seed_fields earlier _ = Err BadLine
+seed_fields earlier words = do
+  seed ← place_field (type_names earlier) (field words 1) (field words 2) (field words 3)
+  _ ← require (is_inside (box_before earlier) seed.site) SeedOutside
+  Ok (SeedLine seed)
 
 -- what may stand before what
-abbrev pub follows_nothing : Option SystemItem → Bool
-follows_nothing before = false
+abbrev pub stands_first : Option SystemItem → Bool
+stands_first None = true
+stands_first _ = false
 
 abbrev pub follows_header : Option SystemItem → Bool
 follows_header (Some Header) = true
@@ -156,35 +147,47 @@ glue_room earlier words = nat_lt (length (glue_names earlier)) 8192
 abbrev pub tile_room : List SystemItem → List (List ℕ) → Bool
 tile_room earlier words = nat_lt (length (type_names earlier)) 16384
 
+-- the rows of the table: word, number of words, what it may stand after, limit, fields
 abbrev pub keyword : List ℕ → ℕ → (Option SystemItem → Bool) → (List SystemItem → List (List ℕ) → Bool) → (List SystemItem → List (List ℕ) → Result SystemItem Cause) → Keyword SystemItem
 keyword word n follows room fields = record { word = word; has_words = λ m. m == n; may_follow = follows; has_room = room; fields = fields }
 
--- the table of keywords: word, number of words, what it may stand after, limit, fields
-unfoldable pub system_keywords : List (Keyword SystemItem)
-system_keywords =
-    keyword (codes "tiles") 2 follows_nothing always_room (λ earlier words. Ok Header)
-    ∷ keyword (codes "tau") 2 follows_header always_room tau_fields
-    ∷ keyword (codes "glue") 3 follows_tau_or_glue glue_room glue_fields
-    ∷ keyword (codes "tile") 6 follows_tau_glue_or_tile tile_room tile_fields
-    ∷ keyword (codes "box") 5 follows_tile always_room box_fields
-    ∷ keyword (codes "seed") 4 follows_box always_room seed_fields
-    ∷ keyword (codes "end") 1 follows_seed always_room (λ earlier words. Ok EndLine)
-    ∷ []
+abbrev pub tiles_row : Keyword SystemItem
+tiles_row = keyword (codes "tiles") 2 stands_first always_room header_fields
 
--- the first kept line is the header, to the word
-unfoldable pub system_check : List SystemItem → List (List ℕ) → Result SystemItem Cause
-system_check [] words = do
-  _ ← require (pointwise bytes_eq words (codes "tiles" ∷ codes "1" ∷ [])) NoHeader
-  Ok Header
-system_check (first ∷ others) words = check_line system_keywords (first ∷ others) words
+abbrev pub tau_row : Keyword SystemItem
+tau_row = keyword (codes "tau") 2 follows_header always_room tau_fields
+
+abbrev pub glue_row : Keyword SystemItem
+glue_row = keyword (codes "glue") 3 follows_tau_or_glue glue_room glue_fields
+
+abbrev pub tile_row : Keyword SystemItem
+tile_row = keyword (codes "tile") 6 follows_tau_glue_or_tile tile_room tile_fields
+
+abbrev pub box_row : Keyword SystemItem
+box_row = keyword (codes "box") 5 follows_tile always_room box_fields
+
+abbrev pub seed_row : Keyword SystemItem
+seed_row = keyword (codes "seed") 4 follows_box always_room seed_fields
+
+abbrev pub end_row : Keyword SystemItem
+end_row = keyword (codes "end") 1 follows_seed always_room (λ earlier words. Ok EndLine)
 
 abbrev pub is_end_line : SystemItem → Bool
 is_end_line EndLine = true
 is_end_line _ = false
 
--- the format of system texts: only the end line completes one
-unfoldable pub system_format : Format SystemItem
-system_format = record { check = system_check; is_end = is_end_line; is_complete = λ items. false }
+-- the table of keywords; only the end line completes a text
+unfoldable pub system_table : Table SystemItem
+system_table = record {
+  keywords = tiles_row ∷ tau_row ∷ glue_row ∷ tile_row ∷ box_row ∷ seed_row ∷ end_row ∷ [];
+  has_header = true;
+  is_end = is_end_line;
+  is_complete = λ items. false;
+}
+
+-- the format of system texts
+abbrev pub system_format : Format SystemItem
+system_format = table_format system_table
 
 -- The text from a mark on is a version-1 text of this system, up to the mark after its end line. Such a text has no pairs.
 pub record ReadsSystem (text : List ℕ) (from : Mark) (sys : TileSystem) (to : Mark) : Type 0 where
