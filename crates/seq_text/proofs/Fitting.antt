@@ -1,5 +1,5 @@
 -- What a growth text reads as: types of the system at sites of its box, and for a grid at distinct sites.
-use Rattle.std.proofs.Common.{◌≡◌, ℕ, ◌≤◌, Bool, true, false, cond, List, [], ◌∷◌, ◌++◌, length, codes, Some, None, Ok, sym, ap, subst, ◌∙◌, arith}
+use Rattle.std.proofs.Common.{◌≡◌, ℕ, ◌≤◌, Bool, true, false, cond, List, [], ◌∷◌, ◌++◌, length, codes, Some, None, Ok, refl, sym, ap, subst, ◌∙◌, arith}
 use Rattle.std.specs.Prelude.{bytes_eq, filter_map}
 use Rattle.std.proofs.lemmas.List.{append-nil}
 use Rattle.std.proofs.lemmas.List.Elements.{All-nil, filter_map-append}
@@ -19,11 +19,12 @@ use Rattle.atam.proofs.Placements.{HasDistinctSites-push}
 use Rattle.atam.proofs.Sequences.{Fits-push}
 use Rattle.assembly.specs.Grids.{TileGrid}
 use Rattle.atam.proofs.Opening.{Fits-part}
-use Rattle.tile_text.proofs.Soundness.{inside_is}
-use Rattle.seq_text.specs.GrowthText.{GrowthItem, growth_format, growth_keywords, place_of, places_of, may_stand, place_row, closed_row, unique_row, ReadsPlaces}
+use Rattle.tile_text.proofs.Boxes.{inside_is}
+use Rattle.seq_text.specs.GrowthText.{GrowthItem, growth_format, growth_table, place_of, places_of, may_stand, place_row, closed_row, unique_row, ReadsPlaces}
 use Rattle.seq_text.specs.GrowthText.GrowthItem.{PlaceLine, ClosedLine, UniqueLine}
-use Rattle.seq_text.specs.GrowthReading.{ReadsGrid}
+use Rattle.seq_text.specs.GrowthText.{ReadsGrid}
 use Rattle.seq_text.proofs.Fields.{MayStand, place_item}
+use Rattle.seq_text.proofs.Growths.{places-push, places-same}
 use Rattle.seq_text.proofs.Scratch.{empty_is}
 
 -- the places so far fit the system, and where they have to differ their sites do
@@ -52,7 +53,7 @@ module _ (distinct : Bool) (sys : TileSystem) where
       check_keyword (cond a (Some (place_row distinct sys)) (cond b (Some closed_row) (cond d (Some unique_row) None))) earlier words ≡ Ok item → IsPassed distinct sys (places_of earlier) item
   passed_by true b d earlier words item e =
       let found = place_item distinct sys earlier words item (row_ok (place_row distinct sys) earlier words item e).3 in
-      subst (IsPassed distinct sys (places_of earlier)) (sym found.1) found.2
+      subst (IsPassed distinct sys (places_of earlier)) found.1 found.2
   passed_by false true d earlier words item e =
       let same : ClosedLine ≡ item = cc ((row_ok closed_row earlier words item e).3) in
       subst (IsPassed distinct sys (places_of earlier)) same tt
@@ -62,16 +63,14 @@ module _ (distinct : Bool) (sys : TileSystem) where
   passed_by false false false earlier words item e = absurd (cc e)
 
   passed : (earlier : List GrowthItem) (words : List (List ℕ)) (item : GrowthItem) → (growth_format distinct sys).check earlier words ≡ Ok item → IsPassed distinct sys (places_of earlier) item
-  unfolding growth_format growth_keywords
+  unfolding growth_table
   passed earlier [] item e = absurd (cc e)
   passed earlier (word ∷ rest) item e = passed_by (bytes_eq word (codes "place")) (bytes_eq word (codes "closed")) (bytes_eq word (codes "unique")) earlier (word ∷ rest) item e
 
   push_places : (earlier : List GrowthItem) (item : GrowthItem) → FitSoFar distinct sys (places_of earlier) → IsPassed distinct sys (places_of earlier) item → FitSoFar distinct sys (places_of (earlier ++ item ∷ []))
-  unfolding places_of
-  push_places earlier (PlaceLine p) h good =
-      subst (FitSoFar distinct sys) (sym (filter_map-append place_of earlier (PlaceLine p ∷ []))) (fit_more distinct sys (places_of earlier) p h good)
-  push_places earlier ClosedLine h good = subst (FitSoFar distinct sys) (sym (filter_map-append place_of earlier (ClosedLine ∷ []) ∙ append-nil (filter_map place_of earlier))) h
-  push_places earlier UniqueLine h good = subst (FitSoFar distinct sys) (sym (filter_map-append place_of earlier (UniqueLine ∷ []) ∙ append-nil (filter_map place_of earlier))) h
+  push_places earlier (PlaceLine p) h good = subst (FitSoFar distinct sys) (sym (places-push earlier p)) (fit_more distinct sys (places_of earlier) p h good)
+  push_places earlier ClosedLine h good = subst (FitSoFar distinct sys) (sym (places-same earlier ClosedLine refl)) h
+  push_places earlier UniqueLine h good = subst (FitSoFar distinct sys) (sym (places-same earlier UniqueLine refl)) h
 
   none_yet : FitSoFar distinct sys (places_of [])
   unfolding places_of

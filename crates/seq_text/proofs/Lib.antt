@@ -1,7 +1,5 @@
-pub mod Keywords
 pub mod Fields
-pub mod Lines
-pub mod Scratch
 pub mod Fitting
+pub mod Growths
 pub mod Printed
-pub mod Events
+pub mod Scratch

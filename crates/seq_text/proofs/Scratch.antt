@@ -10,10 +10,8 @@ use Rattle.atam.specs.TileSystem.{TileSystem}
 use Rattle.atam.proofs.Placements.{at_site, tile_at-here, tile_at-past, tile_at-append, tile_at-append_past}
 use Rattle.assembly.specs.Grids.{TileGrid}
 use Rattle.atam.proofs.Tiles.{SamePlacements-push, SamePlacements-trans}
-use Rattle.seq_text.specs.declared.ending.Ending.{Ending}
-use Rattle.seq_text.specs.GrowthText.{may_stand, places_of}
-use Rattle.seq_text.specs.GrowthDrafts.{IsScratchOf, items_of}
-use Rattle.seq_text.proofs.Keywords.{places_read}
+use Rattle.seq_text.specs.GrowthText.{may_stand}
+use Rattle.seq_text.specs.Inner.SoFar.{IsScratchOf}
 
 -- an empty grid has no places
 pub scratch_none : (sys : TileSystem) (grid : TileGrid) → grid.area ≡ sys.area → grid.tiles ≡ [] → IsScratchOf sys [] grid
@@ -56,8 +54,7 @@ scratch_put sys places old new p h empty area here others same = record {
 }
 
 -- where sites have to differ, a site that is free is empty
-pub free_is : (scratch : Option TileGrid) (grid : TileGrid) (places : List Place) (ending : Ending) (m : Site) → scratch ≡ Some grid → may_stand (is_some scratch) (places_of (items_of places ending)) m ≡ true → tile_at places m ≡ None
-free_is scratch grid places ending m is free =
-    let Stands : Option TileGrid → Type 0 = λ s. may_stand (is_some s) (places_of (items_of places ending)) m ≡ true in
-    let Read : List Place → Type 0 = λ l. may_stand true l m ≡ true in
-    empty_is places m (subst Read (places_read places ending) (subst Stands is free))
+pub free_is : (scratch : Option TileGrid) (grid : TileGrid) (places : List Place) (m : Site) → scratch ≡ Some grid → may_stand (is_some scratch) places m ≡ true → tile_at places m ≡ None
+free_is scratch grid places m is free =
+    let Stands : Option TileGrid → Type 0 = λ s. may_stand (is_some s) places m ≡ true in
+    empty_is places m (subst Stands is free)

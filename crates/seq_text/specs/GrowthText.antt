@@ -1,14 +1,16 @@
 -- The text of a growth: what each kept line is, and which checks it has to pass. It follows a system text, and names the types of that system.
 use Rattle.std.specs.Prelude.{◌≡◌, ℕ, ◌==◌, Bool, true, false, nat_le, List, [], ◌∷◌, map, filter_map, codes, is_none, Option, Some, None, Result, Ok, Err}
 use Rattle.tile_io.specs.declared.fault.Cause.{Cause}
-use Rattle.tile_io.specs.declared.fault.Cause.TheVariants.{BadLine, OutsideBox, DoubleSite}
+use Rattle.tile_io.specs.declared.fault.Cause.TheVariants.{OutsideBox, DoubleSite}
 use Rattle.tile_io.specs.declared.mark.Mark.{Mark}
 use Rattle.tile_io.specs.Formats.{Format, Reads}
-use Rattle.tile_io.specs.Checks.{◌>>=◌, require, coordinate, referred, Keyword, check_line}
+use Rattle.tile_io.specs.Checks.{◌>>=◌, require, field, Keyword, Table, table_format}
 use Rattle.atam.specs.declared.site.Site.{Site}
 use Rattle.atam.specs.declared.place.Place.{Place}
-use Rattle.atam.specs.Placements.{tile_at}
-use Rattle.atam.specs.TileSystem.{TileSystem, is_name}
+use Rattle.atam.specs.Placements.{tile_at, SamePlacements}
+use Rattle.atam.specs.TileSystem.{TileSystem}
+use Rattle.assembly.specs.Grids.{TileGrid}
+use Rattle.tile_text.specs.Fields.{place_field}
 use Rattle.tile_text.specs.SystemText.{is_in_box}
 
 -- what a kept line of a growth text is
@@ -30,23 +32,22 @@ abbrev pub may_stand : Bool → List Place → Site → Bool
 may_stand false earlier m = true
 may_stand true earlier m = is_none (tile_at earlier m)
 
--- the fields of a `place` line, and the checks of the whole line
-unfoldable pub place_in : Bool → TileSystem → List Place → List ℕ → List ℕ → List ℕ → Result Place Cause
-place_in distinct sys earlier column row name = do
-  x ← coordinate column
-  y ← coordinate row
-  t ← referred is_name (map (λ t. t.name) sys.types) name
-  let site : Site = record { x = x; y = y }
-  _ ← require (is_in_box sys.area site) OutsideBox
-  _ ← require (may_stand distinct earlier site) DoubleSite
-  Ok (record { site = site; tile = record { 0 = t } })
+-- the names of the types of a system
+abbrev pub names_of : TileSystem → List (List ℕ)
+names_of sys = map (λ t. t.name) sys.types
 
--- A line that isn't of its keyword's number of words is refused before.
-abbrev pub place_fields : Bool → TileSystem → List GrowthItem → List (List ℕ) → Result GrowthItem Cause
-place_fields distinct sys earlier (_ ∷ column ∷ row ∷ name ∷ _) = do
-  p ← place_in distinct sys (places_of earlier) column row name
+-- the fields of a `place` line, and the checks of the whole line
+unfoldable pub place_in : Bool → TileSystem → List Place → List (List ℕ) → Result Place Cause
+place_in distinct sys earlier words = do
+  p ← place_field (names_of sys) (field words 1) (field words 2) (field words 3)
+  _ ← require (is_in_box sys.area p.site) OutsideBox
+  _ ← require (may_stand distinct earlier p.site) DoubleSite
+  Ok p
+
+unfoldable pub place_fields : Bool → TileSystem → List GrowthItem → List (List ℕ) → Result GrowthItem Cause
+place_fields distinct sys earlier words = do
+  p ← place_in distinct sys (places_of earlier) words
   Ok (PlaceLine p)
-place_fields distinct sys earlier _ = Err BadLine
 
 -- what may stand before what
 abbrev pub follows_place : Option GrowthItem → Bool
@@ -71,12 +72,17 @@ closed_row = record { word = codes "closed"; has_words = λ n. nat_le 2 n; may_f
 abbrev pub unique_row : Keyword GrowthItem
 unique_row = record { word = codes "unique"; has_words = λ n. nat_le 2 n; may_follow = follows_place_or_closed; has_room = always_room; fields = λ earlier words. Ok UniqueLine }
 
-unfoldable pub growth_keywords : Bool → TileSystem → List (Keyword GrowthItem)
-growth_keywords distinct sys = place_row distinct sys ∷ closed_row ∷ unique_row ∷ []
+-- the table of the growth texts of a system: there is no header and no end line, and the input may end after any line
+unfoldable pub growth_table : Bool → TileSystem → Table GrowthItem
+growth_table distinct sys = record {
+  keywords = place_row distinct sys ∷ closed_row ∷ unique_row ∷ [];
+  has_header = false;
+  is_end = λ item. false;
+  is_complete = λ items. true;
+}
 
--- the format of the growth texts of a system: there is no end line, and the input may end after any line
-unfoldable pub growth_format : Bool → TileSystem → Format GrowthItem
-growth_format distinct sys = record { check = check_line (growth_keywords distinct sys); is_end = λ item. false; is_complete = λ items. true }
+abbrev pub growth_format : Bool → TileSystem → Format GrowthItem
+growth_format distinct sys = table_format (growth_table distinct sys)
 
 -- as a sequence, whose sites may repeat
 abbrev pub sequence_format : TileSystem → Format GrowthItem
@@ -98,3 +104,10 @@ ReadsSequence sys text from places = ReadsPlaces (sequence_format sys) text from
 
 abbrev pub ReadsPlacements : TileSystem → List ℕ → Mark → List Place → Type 0
 ReadsPlacements sys text from places = ReadsPlaces (grid_format sys) text from places
+
+-- the grid has the system's box and exactly the placements that the text reads as
+pub record ReadsGrid (sys : TileSystem) (text : List ℕ) (from : Mark) (grid : TileGrid) : Type 0 where
+  pub area : grid.area ≡ sys.area
+  pub places : List Place
+  pub reads : ReadsPlacements sys text from places
+  pub same : SamePlacements places grid.tiles

@@ -3,8 +3,7 @@ pub mod LegalityLines
 pub mod VerdictLines
 pub mod StuckLines
 pub mod GrowthText
-pub mod GrowthReading
-pub mod GrowthDrafts
+pub mod PrintedGrowths
 pub mod ScheduleText
-pub mod ScheduleReading
 pub mod SeenLines
+pub mod Inner

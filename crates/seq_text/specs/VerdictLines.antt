@@ -1,4 +1,4 @@
--- The line on whether another assembly can grow.
+-- The line on local determinism.
 use Rattle.std.specs.Prelude.{ℕ, List, [], ◌∷◌, codes, decimal}
 use Rattle.std.specs.Fmt.{signed_decimal}
 use Rattle.tile_io.specs.Lines.{line_of}

@@ -1,10 +1,8 @@
 // The keywords of a schedule text.
 ghost use Rattle.std.specs.Prelude.{◌≡◌, option_map, find, bytes_eq};
 ghost use Rattle.atam.specs.TileSystem.{TileSystem};
-ghost use Rattle.seq_text.specs.ScheduleText.{schedule_keywords};
-ghost use Rattle.seq_text.specs.ScheduleReading.{action_row, action_has_words};
-
-use tile_io::is_word;
+ghost use Rattle.seq_text.specs.ScheduleText.{schedule_table};
+ghost use Rattle.seq_text.specs.Inner.Kinds.{action_row};
 
 /// A keyword.
 #[derive(Clone, Copy, Debug, PartialEq, Eq)]
@@ -15,30 +13,25 @@ pub(crate) enum Action {
     Join,
 }
 
-/// The keyword that a word is.
-pub(crate) fn action_of(word: &[u8]) -> Option<Action>
-    ensures { (sys : TileSystem) → option_map (action_row sys) result
-        ≡ find (λ row. bytes_eq word.now row.word) (schedule_keywords sys) }
-{
-    if is_word(word, b"look") {
-        return Some(Action::Look);
-    }
-    if is_word(word, b"claim") {
-        return Some(Action::Claim);
-    }
-    if is_word(word, b"split") {
-        return Some(Action::Split);
-    }
-    if is_word(word, b"join") {
-        return Some(Action::Join);
-    }
-    None
-}
-
 impl Action {
-    /// Whether its lines may have so many words.
+    /// The keyword that a word is.
+    #[tactic(auto, unfolding(crate::specs::ScheduleText::schedule_table))]
+    pub(crate) fn of(word: &[u8]) -> Option<Action>
+        ensures { (sys : TileSystem) → option_map (action_row sys) result
+            ≡ find (λ row. bytes_eq word.now row.word) (schedule_table sys).keywords }
+    {
+        match word {
+            b"look" => Some(Action::Look),
+            b"claim" => Some(Action::Claim),
+            b"split" => Some(Action::Split),
+            b"join" => Some(Action::Join),
+            _ => None,
+        }
+    }
+
+    /// Whether its lines have so many words.
     pub(crate) fn has_words(self, count: usize) -> bool
-        ensures { result ≡ action_has_words self count }
+        ensures { (sys : TileSystem) → result ≡ (action_row sys self).has_words count }
     {
         match self {
             Action::Look => count == 4,

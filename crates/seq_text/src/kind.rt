@@ -1,10 +1,7 @@
 // The keywords of a growth text.
-ghost use Rattle.std.specs.Prelude.{◌≡◌, Bool, option_map, find, bytes_eq};
+ghost use Rattle.std.specs.Prelude.{◌≡◌, Bool};
 ghost use Rattle.atam.specs.TileSystem.{TileSystem};
-ghost use Rattle.seq_text.specs.GrowthText.{growth_keywords};
-ghost use Rattle.seq_text.specs.GrowthDrafts.{row_of, kind_has_words};
-
-use tile_io::is_word;
+ghost use Rattle.seq_text.specs.Inner.Kinds.{row_of, kind_named, may_stand_after};
 
 /// A keyword.
 #[derive(Clone, Copy, Debug, PartialEq, Eq)]
@@ -14,31 +11,38 @@ pub(crate) enum LineKind {
     Unique,
 }
 
-/// The keyword that a word is.
-pub(crate) fn kind_of(word: &[u8]) -> Option<LineKind>
-    ensures { (distinct : Bool) (sys : TileSystem) → option_map (row_of distinct sys) result
-        ≡ find (λ row. bytes_eq word.now row.word) (growth_keywords distinct sys) }
-{
-    if is_word(word, b"place") {
-        return Some(LineKind::Place);
-    }
-    if is_word(word, b"closed") {
-        return Some(LineKind::Closed);
-    }
-    if is_word(word, b"unique") {
-        return Some(LineKind::Unique);
-    }
-    None
-}
-
 impl LineKind {
+    /// The keyword that a word is.
+    pub(crate) fn of(word: &[u8]) -> Option<LineKind>
+        ensures { result ≡ kind_named word.now }
+    {
+        match word {
+            b"place" => Some(LineKind::Place),
+            b"closed" => Some(LineKind::Closed),
+            b"unique" => Some(LineKind::Unique),
+            _ => None,
+        }
+    }
+
     /// Whether its lines may have so many words.
     pub(crate) fn has_words(self, count: usize) -> bool
-        ensures { result ≡ kind_has_words self count }
+        ensures { (distinct : Bool) (sys : TileSystem) →
+            result ≡ (row_of distinct sys self).has_words count }
     {
         match self {
             LineKind::Place => count == 4,
             LineKind::Closed | LineKind::Unique => count >= 2,
+        }
+    }
+
+    /// Whether it may stand right after a line of another one, or first.
+    pub(crate) fn may_stand(self, last: Option<LineKind>) -> bool
+        ensures { result ≡ may_stand_after self last }
+    {
+        match (self, last) {
+            (_, None | Some(LineKind::Place)) => true,
+            (LineKind::Unique, Some(LineKind::Closed)) => true,
+            _ => false,
         }
     }
 }

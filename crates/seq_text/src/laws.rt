@@ -1,16 +1,18 @@
 // Laws of growth and schedule texts.
-ghost use Rattle.std.specs.Prelude.{◌≡◌, ◌≤◌, ◌⊎◌, ◌++◌, ℕ, List, Bool, Option, IfSome, length, drop};
+ghost use Rattle.std.specs.Prelude.{◌≡◌, ◌≤◌, ◌⊎◌, ◌++◌, ℕ, List, Bool, Option, length, drop};
 ghost use Rattle.tile_io.specs.declared.mark.Mark.{Mark};
 ghost use Rattle.tile_io.specs.declared.fault.Cause.{Cause};
 ghost use Rattle.tile_io.specs.Formats.{Fault, IsRead, IsFaulty};
 ghost use Rattle.atam.specs.declared.place.Place.{Place};
 ghost use Rattle.atam.specs.declared.place.TypeId.{TypeId};
 ghost use Rattle.atam.specs.declared.site.Site.{Site};
-ghost use Rattle.atam.specs.Sites.{IsNearSite};
 ghost use Rattle.atam.specs.Assembly.{Fits};
 ghost use Rattle.atam.specs.Placements.{HasDistinctSites};
-ghost use Rattle.atam.specs.TileSystem.{TileSystem, IsType, IsValid};
-ghost use Rattle.seq_text.specs.GrowthLines.{place_lines, closed_line};
+ghost use Rattle.atam.specs.TileSystem.{TileSystem, IsValid};
+ghost use Rattle.local_check.specs.declared.verdict.Verdict.{Verdict};
+ghost use Rattle.tile_text.specs.SystemText.{ReadsSystem};
+ghost use Rattle.tile_text.specs.Spelling.{spelling, end_of_print};
+ghost use Rattle.seq_text.specs.PrintedGrowths.{growth_lines, start_mark, MayBePrinted};
 ghost use Rattle.grow_core.specs.declared.event.Event.{Event};
 ghost use Rattle.seq_text.specs.GrowthText.{growth_format, ReadsPlaces, ReadsSequence, ReadsPlacements};
 ghost use Rattle.seq_text.specs.ScheduleText.{schedule_format, ReadsEvents};
@@ -43,19 +45,36 @@ pub fn law_growth_fits()
         ReadsPlaces (growth_format distinct sys) text from places → length places ≤ length text }
 {}
 
-/// The lines of places that fit a valid system, and then the `closed` line of what is open near its box, read as these
-/// places, to the end of the text.
+/// The lines of places that fit a valid system, then maybe a `closed` line and then maybe the line on local determinism, read
+/// as these places, to the end of the text, whatever stands before them. As a grid they do where their sites differ.
 pub fn law_growth_reads_printed()
-    ensures sequence { (sys : TileSystem) (places : List Place) (found : Option (Site × TypeId))
-        (text : List ℕ) (from : Mark) → IsValid sys → Fits sys places →
-        IfSome found (λ open_site. IsType sys open_site.1 × IsNearSite open_site.0) →
-        drop from.at text ≡ place_lines sys places ++ closed_line sys found →
+    ensures sequence { (sys : TileSystem) (places : List Place)
+        (closed : Option (Option (Site × TypeId))) (verdict : Option Verdict)
+        (text : List ℕ) (from : Mark) → IsValid sys → MayBePrinted sys places closed verdict →
+        drop from.at text ≡ growth_lines sys places closed verdict →
         ReadsSequence sys text from places }
-    ensures grid { (sys : TileSystem) (places : List Place) (found : Option (Site × TypeId))
-        (text : List ℕ) (from : Mark) → IsValid sys → Fits sys places → HasDistinctSites places →
-        IfSome found (λ open_site. IsType sys open_site.1 × IsNearSite open_site.0) →
-        drop from.at text ≡ place_lines sys places ++ closed_line sys found →
+    ensures grid { (sys : TileSystem) (places : List Place)
+        (closed : Option (Option (Site × TypeId))) (verdict : Option Verdict)
+        (text : List ℕ) (from : Mark) → IsValid sys → MayBePrinted sys places closed verdict →
+        HasDistinctSites places → drop from.at text ≡ growth_lines sys places closed verdict →
         ReadsPlacements sys text from places }
+{}
+
+/// A growth that is printed behind its system's one text reads, from the start of the input, as this system and then as
+/// its places.
+pub fn law_input_reads_printed()
+    ensures system { (sys : TileSystem) (tail : List ℕ) → IsValid sys →
+        ReadsSystem (spelling sys ++ tail) start_mark sys (end_of_print sys start_mark) }
+    ensures sequence { (sys : TileSystem) (places : List Place)
+        (closed : Option (Option (Site × TypeId))) (verdict : Option Verdict) → IsValid sys →
+        MayBePrinted sys places closed verdict →
+        ReadsSequence sys (spelling sys ++ growth_lines sys places closed verdict)
+            (end_of_print sys start_mark) places }
+    ensures grid { (sys : TileSystem) (places : List Place)
+        (closed : Option (Option (Site × TypeId))) (verdict : Option Verdict) → IsValid sys →
+        MayBePrinted sys places closed verdict → HasDistinctSites places →
+        ReadsPlacements sys (spelling sys ++ growth_lines sys places closed verdict)
+            (end_of_print sys start_mark) places }
 {}
 
 /// Each text, from each start, either reads as one list of events or has one fault.

@@ -3,8 +3,6 @@
 
 mod action;
 mod closed;
-mod draft;
-mod ending;
 mod kind;
 mod laws;
 mod legality;
@@ -19,7 +17,8 @@ mod verdict;
 
 pub use closed::print_closed;
 pub use laws::{
-    law_growth_fits, law_growth_one_of_two, law_growth_reads_printed, law_schedule_one_of_two,
+    law_growth_fits, law_growth_one_of_two, law_growth_reads_printed, law_input_reads_printed,
+    law_schedule_one_of_two,
 };
 pub use legality::print_legality;
 pub use places::print_places;

@@ -1,15 +1,22 @@
 // A growth is read from its text.
-ghost use Rattle.std.specs.Prelude.{◌≤◌, ◌<◌, ◌^◌, length, IfOk};
-ghost use Rattle.tile_io.specs.NextLine.{IsMark};
+ghost use Rattle.std.specs.Prelude.{◌≡◌, ◌≤◌, ◌<◌, ◌^◌, ◌++◌, ◌∷◌, [], List, true, false, Some, length, is_some, IfOk, OnOk, OnErr};
+ghost use Rattle.atam.specs.Sites.{InBox};
 ghost use Rattle.atam.specs.Assembly.{Fits};
 ghost use Rattle.atam.specs.Placements.{HasDistinctSites};
-ghost use Rattle.seq_text.specs.GrowthReading.{ReadsSequenceOrStops, ReadsGridOrStops};
+ghost use Rattle.tile_io.specs.NextLine.{IsMark};
+ghost use Rattle.tile_io.specs.Formats.{ReadsOrStops};
+ghost use Rattle.tile_io.specs.LineReader.{TakesItem};
+ghost use Rattle.seq_text.specs.GrowthText.{GrowthItem, sequence_format, grid_format, ReadsSequence, ReadsGrid, place_fields, place_in, may_stand};
+ghost use Rattle.seq_text.specs.Inner.SoFar.{HasScratch};
 
-use crate::draft::Draft;
+use crate::kind::LineKind;
 use assembly::{Grid, Sequence};
 use std::alloc::Global;
-use tile_io::{Mark, TextStop, read_lines};
-use tile_system::System;
+use tile_io::{
+    Cause, LineReader, LineStop, LineWords, MOST_INPUT, Mark, TextStop, read_text,
+};
+use tile_system::{NoMemory, Place, Placed, Site, System};
+use tile_text::read_place;
 
 /// Reads a growth text to the end of the input, as the sequence of its places, in time that grows with its length and the
 /// logarithm of the number of types.
@@ -19,30 +26,191 @@ pub fn read_sequence(
     text: &[u8],
     from: Mark,
 ) -> Result<Sequence, TextStop>
-    requires short { length text.now ≤ 67108864 }
+    requires short { length text.now ≤ MOST_INPUT }
     requires mark { IsMark text.now from }
-    ensures read { ReadsSequenceOrStops sys.now text.now from result }
+    ensures read { ReadsOrStops (sequence_format sys.now) text.now from
+        (ReadsSequence sys.now text.now from) result }
     ensures fits { IfOk result (Fits sys.now) }
     ensures count { IfOk result (λ sequence. length sequence < 2 ^ 32) }
 {
-    let mut draft = Draft::new(sys, Sequence::make(alloc), None);
-    read_lines(&mut draft, text, from)?;
-    Ok(draft.into_sequence())
+    let mut reader = GrowthReader {
+        system: sys,
+        places: Sequence::make(alloc),
+        scratch: None,
+        last: None,
+    };
+    read_text(&mut reader, text, from)?;
+    Ok(reader.places)
 }
 
 /// Reads a growth text to the end of the input, as a grid over the system's box. The places have to differ in their sites.
 /// Their sequence is kept beside the grid until the end.
 pub fn read_grid(alloc: Global, sys: &System, text: &[u8], from: Mark) -> Result<Grid, TextStop>
-    requires short { length text.now ≤ 67108864 }
+    requires short { length text.now ≤ MOST_INPUT }
     requires mark { IsMark text.now from }
-    ensures read { ReadsGridOrStops sys.now text.now from result }
+    ensures read { ReadsOrStops (grid_format sys.now) text.now from
+        (ReadsGrid sys.now text.now from) result }
     ensures fits { IfOk result (λ grid. Fits sys.now grid.tiles) }
     ensures distinct { IfOk result (λ grid. HasDistinctSites grid.tiles) }
 {
     let Ok(grid) = Grid::make(alloc, sys.area()) else {
         return Err(TextStop::NoMemory);
     };
-    let mut draft = Draft::new(sys, Sequence::make(alloc), Some(grid));
-    read_lines(&mut draft, text, from)?;
-    Ok(draft.into_grid())
+    let mut reader = GrowthReader {
+        system: sys,
+        places: Sequence::make(alloc),
+        scratch: Some(grid),
+        last: None,
+    };
+    read_text(&mut reader, text, from)?;
+    let grid = reader.scratch.unwrap();
+    prove!(grid.area() == sys.area());
+    Ok(grid)
+}
+
+// What was read so far: the places, the keyword of the last line, and where sites have to differ a grid of the same places.
+#[derive(Drop)]
+struct GrowthReader<'a> {
+    system: &'a System,
+    places: Sequence,
+    scratch: Option<Grid>,
+    last: Option<LineKind>,
+}
+
+#[tactic(auto, unfolding(crate::specs::GrowthText::growth_table))]
+impl<'a> LineReader for GrowthReader<'a> {
+    ghost use Rattle.std.specs.Prelude.{Bool, is_some};
+    ghost use Rattle.atam.specs.TileSystem.{TileSystem};
+    ghost use Rattle.seq_text.specs.GrowthText.{GrowthItem, growth_table};
+    ghost use Rattle.seq_text.specs.Inner.Kinds.{row_of};
+    ghost use Rattle.seq_text.specs.Inner.SoFar.{HoldsLines};
+
+    type Kind = LineKind;
+
+    ghost Item = { GrowthItem };
+
+    ghost Context = { Bool × TileSystem };
+
+    ghost context = { λ r. (is_some r.scratch, r.system.now) };
+
+    ghost table = { λ context. growth_table context.0 context.1 };
+
+    ghost row = { λ context. row_of context.0 context.1 };
+
+    ghost holds = { λ r. HoldsLines r.system.now r.places r.scratch r.last };
+
+    fn has_header(&self) -> bool {
+        false
+    }
+
+    fn kind_of(&self, word: &[u8]) -> Option<LineKind> {
+        LineKind::of(word)
+    }
+
+    fn has_words(&self, kind: LineKind, count: usize) -> bool {
+        kind.has_words(count)
+    }
+
+    fn may_stand(&self, kind: LineKind) -> bool {
+        kind.may_stand(self.last)
+    }
+
+    fn has_room(&self, kind: LineKind) -> bool {
+        match kind {
+            LineKind::Place | LineKind::Closed | LineKind::Unique => true,
+        }
+    }
+
+    fn take_fields(&mut self, kind: LineKind, words: &LineWords) -> Result<bool, LineStop> {
+        match kind {
+            LineKind::Place => self.take_place(words),
+            LineKind::Closed | LineKind::Unique => {
+                self.last = Some(kind);
+                Ok(false)
+            }
+        }
+    }
+
+    fn is_complete(&self) -> bool {
+        true
+    }
+}
+
+impl<'a> GrowthReader<'a> {
+    ghost use Rattle.seq_text.specs.Inner.SoFar.{HoldsLines};
+
+    // Takes the fields of a `place` line.
+    fn take_place(&mut self, words: &LineWords) -> Result<bool, LineStop>
+        requires words { length words.now ≡ 4 }
+        requires grid { HasScratch self.old.system.now self.old.places self.old.scratch }
+        ensures taken { (items : List GrowthItem) →
+            HoldsLines self.old.system.now self.old.places self.old.scratch self.old.last items →
+            TakesItem (λ item. false)
+                (HoldsLines self.new.system.now self.new.places self.new.scratch self.new.last) items
+                (place_fields (is_some self.old.scratch) self.old.system.now items words.now) result }
+        ensures distinct { is_some self.new.scratch ≡ is_some self.old.scratch }
+        ensures system { self.new.system.now ≡ self.old.system.now }
+    {
+        let place = self.read_fields(words)?;
+        match self.hold(place) {
+            Ok(()) => Ok(false),
+            Err(NoMemory) => Err(LineStop::NoMemory),
+        }
+    }
+
+    // The fields of a `place` line, and the checks of the whole line.
+    fn read_fields(&self, words: &LineWords) -> Result<Place, Cause>
+        requires words { length words.now ≡ 4 }
+        requires grid { HasScratch self.now.system.now self.now.places self.now.scratch }
+        ensures place { result
+            ≡ place_in (is_some self.now.scratch) self.now.system.now self.now.places words.now }
+        ensures inside { IfOk result (λ p. InBox self.now.system.now.area p.site) }
+        ensures small { IfOk result (λ p. p.tile.0 < 16384) }
+        ensures free { IfOk result (λ p.
+            may_stand (is_some self.now.scratch) self.now.places p.site ≡ true) }
+    {
+        let name = words.word(3);
+        let found = self.system.find_type(name);
+        let place = read_place(words.word(1), words.word(2), name, found)?;
+        if !self.system.area().holds(place.site) {
+            return Err(Cause::OutsideBox);
+        }
+        if !self.is_free(place.site) {
+            return Err(Cause::DoubleSite);
+        }
+        Ok(place)
+    }
+
+    // Whether a tile may be placed at a site after those that were read.
+    fn is_free(&self, site: Site) -> bool
+        requires { HasScratch self.now.system.now self.now.places self.now.scratch }
+        ensures { result ≡ may_stand (is_some self.now.scratch) self.now.places site }
+    {
+        match &self.scratch {
+            Some(grid) => grid.at(site).is_none(),
+            None => true,
+        }
+    }
+
+    // Adds a place that may stand here.
+    fn hold(&mut self, place: Place) -> Result<(), NoMemory>
+        requires grid { HasScratch self.old.system.now self.old.places self.old.scratch }
+        requires inside { InBox self.old.system.now.area place.site }
+        requires small { place.tile.0 < 16384 }
+        requires free {
+            may_stand (is_some self.old.scratch) self.old.places place.site ≡ true }
+        ensures added { OnOk result (self.new.places ≡ self.old.places ++ place ∷ []) }
+        ensures last { OnOk result (self.new.last ≡ Some LineKind.Place) }
+        ensures grid { HasScratch self.new.system.now self.new.places self.new.scratch }
+        ensures distinct { is_some self.new.scratch ≡ is_some self.old.scratch }
+        ensures system { self.new.system.now ≡ self.old.system.now }
+        ensures unchanged { OnErr result (self.new ≡ self.old) }
+    {
+        self.places.push(place)?;
+        if let Some(grid) = &mut self.scratch {
+            grid.put(place);
+        }
+        self.last = Some(LineKind::Place);
+        Ok(())
+    }
 }

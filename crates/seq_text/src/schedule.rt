@@ -1,21 +1,20 @@
 // A schedule is read from its text.
-ghost use Rattle.std.specs.Prelude.{◌≡◌, ◌≤◌, Some, IfOk, List, ℕ, length};
-ghost use Rattle.tile_io.specs.Checks.{check_keyword};
-ghost use Rattle.tile_io.specs.Lines.{words_of};
+ghost use Rattle.std.specs.Prelude.{◌≡◌, ◌≤◌, true, IfOk, List, length};
+ghost use Rattle.atam.specs.TileSystem.{TileSystem};
 ghost use Rattle.tile_io.specs.NextLine.{IsMark};
+ghost use Rattle.tile_io.specs.Formats.{ReadsOrStops};
 ghost use Rattle.grow_core.specs.declared.event.Event.{Event};
-ghost use Rattle.seq_text.specs.ScheduleText.{schedule_format, scout, look_in, claim_in, split_in, join_in};
-ghost use Rattle.seq_text.specs.ScheduleReading.{action_row, ReadsEventsOrStops};
+ghost use Rattle.seq_text.specs.ScheduleText.{schedule_format, ReadsEvents, scout, look_fields, claim_fields, split_fields, join_fields};
+ghost use Rattle.seq_text.specs.Inner.Kinds.{action_row};
 
-use crate::action::{Action, action_of};
-use crate::draft::read_type;
+use crate::action::Action;
 use grow_core::Event;
 use std::alloc::Global;
 use tile_io::{
-    Cause, LineStop, Mark, TakeLines, TextStop, read_coordinate, read_lines, read_number, word_at,
-    word_count,
+    Cause, LineReader, LineStop, LineWords, MOST_INPUT, Mark, TextStop, read_count, read_text,
 };
-use tile_system::{Site, System};
+use tile_system::System;
+use tile_text::{read_place, read_site};
 
 /// Reads a schedule text to the end of the input, in time that grows with its length and the logarithm of the number of
 /// types. Neither the scouts nor the sites of its events need to be there.
@@ -25,43 +24,75 @@ pub fn read_events(
     text: &[u8],
     from: Mark,
 ) -> Result<Vec<Event>, TextStop>
-    requires short { length text.now ≤ 67108864 }
+    requires short { length text.now ≤ MOST_INPUT }
     requires mark { IsMark text.now from }
-    ensures read { ReadsEventsOrStops sys.now text.now from result }
+    ensures read { ReadsOrStops (schedule_format sys.now) text.now from
+        (λ events. ReadsEvents sys.now text.now from events.items) result }
     ensures count { IfOk result (λ events. length events.items ≤ length text.now) }
 {
-    let mut schedule = Schedule {
+    let mut reader = ScheduleReader {
         system: sys,
         events: Vec::new(alloc),
     };
-    read_lines(&mut schedule, text, from)?;
-    Ok(schedule.events)
+    read_text(&mut reader, text, from)?;
+    Ok(reader.events)
 }
 
 // The events that were read so far.
 #[derive(Drop)]
-struct Schedule<'a> {
+struct ScheduleReader<'a> {
     system: &'a System,
     events: Vec<Event>,
 }
 
-impl<'a> TakeLines for Schedule<'a> {
+#[tactic(auto, unfolding(crate::specs::ScheduleText::schedule_table))]
+impl<'a> LineReader for ScheduleReader<'a> {
+    ghost use Rattle.std.specs.Prelude.{◌≡◌};
     ghost use Rattle.atam.specs.TileSystem.{TileSystem};
     ghost use Rattle.grow_core.specs.declared.event.Event.{Event};
-    ghost use Rattle.seq_text.specs.ScheduleText.{schedule_format};
+    ghost use Rattle.seq_text.specs.ScheduleText.{schedule_table};
+    ghost use Rattle.seq_text.specs.Inner.Kinds.{action_row};
+
+    type Kind = Action;
 
     ghost Item = { Event };
 
     ghost Context = { TileSystem };
 
-    ghost context = { λ d. d.system.now };
+    ghost context = { λ r. r.system.now };
 
-    ghost format = { λ sys. schedule_format sys };
+    ghost table = { schedule_table };
 
-    ghost items = { λ d. d.events.items };
+    ghost row = { action_row };
 
-    fn take_line(&mut self, line: &[u8]) -> Result<bool, LineStop> {
-        let event = read_event(self.system, line)?;
+    ghost holds = { λ r events. r.events.items ≡ events };
+
+    fn has_header(&self) -> bool {
+        false
+    }
+
+    fn kind_of(&self, word: &[u8]) -> Option<Action> {
+        Action::of(word)
+    }
+
+    fn has_words(&self, kind: Action, count: usize) -> bool {
+        kind.has_words(count)
+    }
+
+    fn may_stand(&self, kind: Action) -> bool {
+        match kind {
+            Action::Look | Action::Claim | Action::Split | Action::Join => true,
+        }
+    }
+
+    fn has_room(&self, kind: Action) -> bool {
+        match kind {
+            Action::Look | Action::Claim | Action::Split | Action::Join => true,
+        }
+    }
+
+    fn take_fields(&mut self, kind: Action, words: &LineWords) -> Result<bool, LineStop> {
+        let event = read_event(self.system, kind, words)?;
         match self.events.push(event) {
             Ok(()) => Ok(false),
             Err(_) => Err(LineStop::NoMemory),
@@ -73,83 +104,62 @@ impl<'a> TakeLines for Schedule<'a> {
     }
 }
 
-// The event of a kept line.
-fn read_event(system: &System, line: &[u8]) -> Result<Event, Cause>
-    requires { length line.now ≤ 256 }
-    ensures { (earlier : List Event) →
-        result ≡ (schedule_format system.now).check earlier (words_of line.now) }
-{
-    if word_count(line) == 0 {
-        return Err(Cause::BadLine);
-    }
-    match action_of(word_at(line, 0)) {
-        Some(action) => read_action(system, action, line),
-        None => Err(Cause::BadLine),
-    }
-}
-
 // The event of a line of this keyword.
-fn read_action(system: &System, action: Action, line: &[u8]) -> Result<Event, Cause>
-    requires { length line.now ≤ 256 }
+fn read_event(system: &System, action: Action, words: &LineWords) -> Result<Event, Cause>
+    requires { (action_row system.now action).has_words (length words.now) ≡ true }
     ensures { (earlier : List Event) →
-        result ≡ check_keyword (Some (action_row system.now action)) earlier (words_of line.now) }
+        result ≡ (action_row system.now action).fields earlier words.now }
 {
-    if !action.has_words(word_count(line)) {
-        return Err(Cause::BadLine);
-    }
     match action {
-        Action::Look => read_look(word_at(line, 1), word_at(line, 2), word_at(line, 3)),
-        Action::Claim => read_claim(
-            system,
-            word_at(line, 1),
-            word_at(line, 2),
-            word_at(line, 3),
-            word_at(line, 4),
-        ),
-        Action::Split => read_split(word_at(line, 1)),
-        Action::Join => read_join(word_at(line, 1), word_at(line, 2)),
+        Action::Look => read_look(words),
+        Action::Claim => read_claim(system, words),
+        Action::Split => read_split(words),
+        Action::Join => read_join(words),
     }
 }
 
-fn read_look(who: &[u8], column: &[u8], row: &[u8]) -> Result<Event, Cause>
-    ensures { result ≡ look_in who.now column.now row.now }
+#[tactic(auto, unfolding(crate::specs::ScheduleText::look_fields))]
+fn read_look(words: &LineWords) -> Result<Event, Cause>
+    requires { length words.now ≡ 4 }
+    ensures { result ≡ look_fields words.now }
 {
-    let who = read_scout(who)?;
-    let x = read_coordinate(column)?;
-    let y = read_coordinate(row)?;
-    let site = Site { x, y };
+    let who = read_scout(words.word(1))?;
+    let site = read_site(words.word(2), words.word(3))?;
     Ok(Event::Look { who, site })
 }
 
-fn read_claim(
-    system: &System,
-    who: &[u8],
-    column: &[u8],
-    row: &[u8],
-    name: &[u8],
-) -> Result<Event, Cause>
-    ensures { result ≡ claim_in system.now who.now column.now row.now name.now }
+#[tactic(auto, unfolding(crate::specs::ScheduleText::claim_fields))]
+fn read_claim(system: &System, words: &LineWords) -> Result<Event, Cause>
+    requires { length words.now ≡ 5 }
+    ensures { result ≡ claim_fields system.now words.now }
 {
-    let who = read_scout(who)?;
-    let x = read_coordinate(column)?;
-    let y = read_coordinate(row)?;
-    let tile = read_type(system, name)?;
-    let site = Site { x, y };
-    Ok(Event::Claim { who, site, tile })
+    let who = read_scout(words.word(1))?;
+    let name = words.word(4);
+    let found = system.find_type(name);
+    let place = read_place(words.word(2), words.word(3), name, found)?;
+    Ok(Event::Claim {
+        who,
+        site: place.site,
+        tile: place.tile,
+    })
 }
 
-fn read_split(who: &[u8]) -> Result<Event, Cause>
-    ensures { result ≡ split_in who.now }
+#[tactic(auto, unfolding(crate::specs::ScheduleText::split_fields))]
+fn read_split(words: &LineWords) -> Result<Event, Cause>
+    requires { length words.now ≡ 2 }
+    ensures { result ≡ split_fields words.now }
 {
-    let who = read_scout(who)?;
+    let who = read_scout(words.word(1))?;
     Ok(Event::Split { who })
 }
 
-fn read_join(into: &[u8], from: &[u8]) -> Result<Event, Cause>
-    ensures { result ≡ join_in into.now from.now }
+#[tactic(auto, unfolding(crate::specs::ScheduleText::join_fields))]
+fn read_join(words: &LineWords) -> Result<Event, Cause>
+    requires { length words.now ≡ 3 }
+    ensures { result ≡ join_fields words.now }
 {
-    let into = read_scout(into)?;
-    let from = read_scout(from)?;
+    let into = read_scout(words.word(1))?;
+    let from = read_scout(words.word(2))?;
     Ok(Event::Join { into, from })
 }
 
@@ -157,8 +167,5 @@ fn read_join(into: &[u8], from: &[u8]) -> Result<Event, Cause>
 fn read_scout(word: &[u8]) -> Result<u32, Cause>
     ensures { result ≡ scout word.now }
 {
-    match read_number(word, 0, 4294967295) {
-        Ok(number) => Ok(number as u32),
-        Err(cause) => Err(cause),
-    }
+    read_count(word, 0, u32::MAX)
 }

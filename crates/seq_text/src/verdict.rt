@@ -1,4 +1,4 @@
-// The line on whether another assembly can grow.
+// The line on local determinism.
 ghost use Rattle.std.specs.Prelude.{List, ℕ};
 ghost use Rattle.atam.specs.TileSystem.{IsType, type_name};
 ghost use Rattle.tile_io.specs.Prints.{Prints};

@@ -4,8 +4,8 @@ use Rattle.tile_io.specs.declared.fault.Cause.{Cause}
 use Rattle.tile_io.specs.declared.fault.Cause.TheVariants.{NoEnd}
 use Rattle.tile_io.specs.declared.mark.Mark.{Mark}
 use Rattle.tile_io.specs.declared.reading.Line.{Line}
-use Rattle.tile_io.specs.declared.take_lines.LineStop.{LineStop}
-use Rattle.tile_io.specs.declared.take_lines.LineStop.TheVariants as stops
+use Rattle.tile_io.specs.declared.line_reader.LineStop.{LineStop}
+use Rattle.tile_io.specs.declared.line_reader.LineStop.TheVariants as stops
 use Rattle.tile_io.specs.Lines.{lines_from, mark_after, words_of, AreSkipped}
 use Rattle.tile_io.specs.NextLine.{IsNextLine, line_bytes}
 use Rattle.tile_io.specs.Formats.{Fault, missing_cause}

@@ -2,8 +2,8 @@
 use Rattle.std.specs.Prelude.{◌≡◌, ℕ, Bool, true, List, [], ◌∷◌, ◌++◌, length, Result, Ok, Err}
 use Rattle.tile_io.specs.declared.fault.Cause.{Cause}
 use Rattle.tile_io.specs.declared.mark.Mark.{Mark}
-use Rattle.tile_io.specs.declared.take_lines.LineStop.{LineStop}
-use Rattle.tile_io.specs.declared.take_lines.LineStop.TheVariants as stops
+use Rattle.tile_io.specs.declared.line_reader.LineStop.{LineStop}
+use Rattle.tile_io.specs.declared.line_reader.LineStop.TheVariants as stops
 use Rattle.tile_io.specs.Formats.{Format, Reads}
 use Rattle.tile_io.specs.Checks.{Keyword, last_of}
 

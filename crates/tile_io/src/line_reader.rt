@@ -12,7 +12,24 @@ use crate::fault::{Cause, TextFault, TextStop};
 use crate::limits::MOST_INPUT;
 use crate::mark::Mark;
 use crate::reading::{end_number, next_line};
-use crate::take_lines::LineStop;
+
+/// Why a line was refused.
+#[derive(Clone, Copy, Debug, PartialEq, Eq)]
+pub enum LineStop {
+    Fault(Cause),
+    NoMemory,
+}
+
+impl From<Cause> for LineStop {
+    ghost use Rattle.std.specs.Prelude.{◌≡◌};
+    ghost use Rattle.tile_io.specs.declared.line_reader.LineStop.TheVariants.{Fault};
+
+    ghost from_gives = { λ cause stop. stop ≡ Fault cause };
+
+    fn from(cause: Cause) -> LineStop {
+        LineStop::Fault(cause)
+    }
+}
 
 /// What reads the lines of a kind of text: a table of its keywords, and what the fields of each make of the reader. The
 /// table may depend on a context, as on the system that a growth text follows; a line never changes the context.

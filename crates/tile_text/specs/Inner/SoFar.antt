@@ -2,8 +2,8 @@
 use Rattle.std.specs.Prelude.{◌≡◌, ℕ, List, [], ◌∷◌, ◌++◌, filter_map, option_map, Option, Some, None, IfSome, Result, Ok, Err}
 use Rattle.std.specs.Option.{option_to_list}
 use Rattle.tile_io.specs.declared.fault.Cause.{Cause}
-use Rattle.tile_io.specs.declared.take_lines.LineStop.{LineStop}
-use Rattle.tile_io.specs.declared.take_lines.LineStop.TheVariants as stops
+use Rattle.tile_io.specs.declared.line_reader.LineStop.{LineStop}
+use Rattle.tile_io.specs.declared.line_reader.LineStop.TheVariants as stops
 use Rattle.tile_io.specs.Checks.{last_of}
 use Rattle.atam.specs.declared.place.Place.{Place}
 use Rattle.tile_system.specs.Draft.{Draft}

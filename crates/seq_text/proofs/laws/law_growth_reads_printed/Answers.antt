@@ -4,6 +4,6 @@ use Rattle.seq_text.proofs.laws.law_growth_reads_printed.Goals as goal
 
 pub returns : goal.returns
 returns c = record {
-  sequence = λ sys places found text from valid fits open_site e. printed_reads sys valid false places found text from fits (λ no. absurd (cc no)) open_site e;
-  grid = λ sys places found text from valid fits differ open_site e. printed_reads sys valid true places found text from fits (λ _. differ) open_site e;
+  sequence = λ sys places closed verdict text from valid may e. printed_reads sys valid false places closed verdict text from may (λ no. absurd (cc no)) e;
+  grid = λ sys places closed verdict text from valid may differ e. printed_reads sys valid true places closed verdict text from may (λ _. differ) e;
 }

@@ -1,28 +1,28 @@
-use Rattle.std.proofs.Common.{rules}
-use Rattle.seq_text.proofs.Events.{claim_who, claim_x, claim_y, claim_name, claim_all}
+use Rattle.std.proofs.Common.{◌≡◌, Ok, Err, refl, sym, ap, ◌∙◌, rules}
+use Rattle.tile_io.specs.Checks.{field}
+use Rattle.tile_text.specs.Fields.{place_field}
+use Rattle.seq_text.specs.GrowthText.{names_of}
+use Rattle.seq_text.specs.ScheduleText.{claim_fields, scout}
+use Rattle.seq_text.proofs.Fields.{type_found}
 use Rattle.seq_text.proofs.schedule.read_claim.Goals as goal
 
-pub returns-in_err-who : goal.returns-in_err-who
-returns-in_err-who c =
-    let bad = claim_who c.args.system.now c.args.who.now c.args.column.now c.args.row.now c.args.name.now c.in_err-who.field-0.0 c.in_err-who.ensures in
-    search (rules, bad)
-
-pub returns-in_err-x : goal.returns-in_err-x
-returns-in_err-x c =
-    let bad = claim_x c.args.system.now c.args.who.now c.args.column.now c.args.row.now c.args.name.now c.in_ok-who.who c.in_err-x.field-0.0 c.in_ok-who.ensures c.in_err-x.ensures in
-    search (rules, bad)
-
-pub returns-in_err-y : goal.returns-in_err-y
-returns-in_err-y c =
-    let bad = claim_y c.args.system.now c.args.who.now c.args.column.now c.args.row.now c.args.name.now c.in_ok-who.who c.in_ok-x.x c.in_err-y.field-0.0 c.in_ok-who.ensures c.in_ok-x.ensures c.in_err-y.ensures in
-    search (rules, bad)
-
-pub returns-in_err-tile : goal.returns-in_err-tile
-returns-in_err-tile c =
-    let bad = claim_name c.args.system.now c.args.who.now c.args.column.now c.args.row.now c.args.name.now c.in_ok-who.who c.in_ok-x.x c.in_ok-y.y c.in_err-tile.field-0.0 c.in_ok-who.ensures c.in_ok-x.ensures c.in_ok-y.ensures c.in_err-tile.ensures in
+pub returns-in_err-place : goal.returns-in_err-place
+unfolding claim_fields
+returns-in_err-place c =
+    let sys = c.args.system.now in
+    let words = c.args.words.now in
+    let who : scout (field words 1) ≡ Ok c.in_ok-who.who = ap scout (sym c.word.ensures) ∙ sym c.in_ok-who.ensures in
+    let read : place_field (names_of sys) (field words 2) (field words 3) (field words 4) ≡ Err c.in_err-place.field-0.0 =
+    rw (sym c.word-2.ensures, sym c.word-3.ensures, sym c.word-name.ensures) (sym (c.in_err-place.ensures.place (names_of sys) (c.find_type-found.ensures.index ∙ type_found sys c.word-name.result.now))) in
+    let bad : Err c.in_err-place.field-0.0 ≡ claim_fields sys words = rw (who, read) refl in
     search (rules, bad)
 
 pub returns : goal.returns
+unfolding claim_fields
 returns c =
-    let good = claim_all c.args.system.now c.args.who.now c.args.column.now c.args.row.now c.args.name.now c.in_ok-who.who c.in_ok-x.x c.in_ok-y.y c.in_ok-tile.tile.0 c.in_ok-who.ensures c.in_ok-x.ensures c.in_ok-y.ensures c.in_ok-tile.ensures in
-    search (rules, good)
+    let sys = c.args.system.now in
+    let words = c.args.words.now in
+    let who : scout (field words 1) ≡ Ok c.in_ok-who.who = ap scout (sym c.word.ensures) ∙ sym c.in_ok-who.ensures in
+    let read : place_field (names_of sys) (field words 2) (field words 3) (field words 4) ≡ Ok c.in_ok-place.place =
+    rw (sym c.word-2.ensures, sym c.word-3.ensures, sym c.word-name.ensures) (sym (c.in_ok-place.ensures.place (names_of sys) (c.find_type-found.ensures.index ∙ type_found sys c.word-name.result.now))) in
+    rw (who, read) refl

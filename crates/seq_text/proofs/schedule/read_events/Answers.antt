@@ -4,4 +4,5 @@ use Rattle.seq_text.proofs.schedule.read_events.Goals as goal
 
 pub returns-clause-count : goal.returns-clause-count
 returns-clause-count c =
-    reads_few (schedule_format c.args.sys.now) c.args.text.now c.args.from c.in_ok-read_lines.field-0 c.read_lines.new.draft.events.items c.in_ok-read_lines.ensures.read
+    let read = c.in_ok-read_text.ensures.read in
+    rw read.held (reads_few (schedule_format c.args.sys.now) c.args.text.now c.args.from c.in_ok-read_text.field-0 read.items read.reads)

@@ -2,7 +2,7 @@ use Rattle.tile_io.proofs.Walks.{mark_within}
 use Rattle.tile_io.proofs.Progress.{same_marks}
 use Rattle.tile_io.specs.Lines.{lines_from, mark_after}
 use Rattle.std.proofs.Common.{length}
-use Rattle.tile_io.proofs.Turns.{end_place}
+use Rattle.tile_io.proofs.TextEnds.{end_place}
 use Rattle.tile_io.specs.declared.mark.Mark.{Mark}
 use Rattle.tile_io.proofs.line_reader.end_mark.Goals as goal
 

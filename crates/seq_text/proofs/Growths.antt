@@ -1,0 +1,102 @@
+-- The lines of a growth text so far.
+use Rattle.std.proofs.Common.{◌≡◌, ◌⊎◌, ℕ, Bool, true, false, cond, codes, List, [], ◌∷◌, ◌++◌, length, map, slice_get, Option, Some, None, Ok, inl, inr, refl, sym, ap, subst, ◌∙◌}
+use Rattle.std.specs.Prelude.{option_map, filter_map, find, bytes_eq, ◌-◌}
+use Rattle.std.proofs.lemmas.List.{append-nil}
+use Rattle.std.proofs.lemmas.List.Elements.{filter_map-append}
+use Rattle.std.proofs.lemmas.Option.{slice_get-map}
+use Rattle.tile_io.specs.declared.mark.Mark.{Mark}
+use Rattle.tile_io.specs.Formats.{Reads}
+use Rattle.tile_io.specs.Checks.{last_of}
+use Rattle.tile_io.proofs.Checking.{last_push}
+use Rattle.atam.specs.declared.place.Place.{Place}
+use Rattle.atam.specs.TileSystem.{TileSystem}
+use Rattle.assembly.specs.Grids.{TileGrid}
+use Rattle.seq_text.specs.declared.kind.LineKind.{LineKind}
+use Rattle.seq_text.specs.declared.kind.LineKind.TheVariants as kinds
+use Rattle.seq_text.specs.GrowthText.{GrowthItem, growth_table, growth_format, place_row, closed_row, unique_row, grid_format, ReadsPlaces, ReadsGrid, follows_place, follows_place_or_closed, place_of, places_of}
+use Rattle.seq_text.specs.GrowthText.GrowthItem.{PlaceLine, ClosedLine, UniqueLine}
+use Rattle.seq_text.specs.Inner.Kinds.{row_of, kind_of, kind_named}
+use Rattle.seq_text.specs.Inner.SoFar.{HasScratch, HoldsLines}
+
+-- a place more, and a line without a place
+pub places-push : (items : List GrowthItem) (p : Place) → places_of (items ++ PlaceLine p ∷ []) ≡ places_of items ++ p ∷ []
+unfolding places_of
+places-push items p = filter_map-append place_of items (PlaceLine p ∷ [])
+
+pub places-same : (items : List GrowthItem) (item : GrowthItem) → place_of item ≡ None → places_of (items ++ item ∷ []) ≡ places_of items
+unfolding places_of
+places-same items item none = filter_map-append place_of items (item ∷ []) ∙ rw none (append-nil (filter_map place_of items))
+
+module _ (sys : TileSystem) where
+  pub holds_nothing : (scratch : Option TileGrid) → HasScratch sys [] scratch → HoldsLines sys [] scratch None []
+  unfolding places_of
+  holds_nothing scratch grid = record { places_are = refl; grid = grid; kind = refl }
+
+  pub holds_place : (places : List Place) (old new : Option TileGrid) (last : Option LineKind) (items : List GrowthItem) (p : Place) → HoldsLines sys places old last items → HasScratch sys (places ++ p ∷ []) new →
+      HoldsLines sys (places ++ p ∷ []) new (Some kinds.Place) (items ++ PlaceLine p ∷ [])
+  holds_place places old new last items p h grid =
+      record { places_are = ap (λ l. l ++ p ∷ []) h.places_are ∙ sym (places-push items p); grid = grid; kind = sym (ap (option_map kind_of) (last_push items (PlaceLine p))) }
+
+  pub holds_other : (places : List Place) (scratch : Option TileGrid) (last : Option LineKind) (items : List GrowthItem) (item : GrowthItem) → place_of item ≡ None → HoldsLines sys places scratch last items →
+      HoldsLines sys places scratch (Some (kind_of item)) (items ++ item ∷ [])
+  holds_other places scratch last items item none h =
+      record { places_are = h.places_are ∙ sym (places-same items item none); grid = h.grid; kind = sym (ap (option_map kind_of) (last_push items item)) }
+
+follows_some : (p : Option Place) → follows_place (option_map PlaceLine p) ≡ true
+follows_some None = refl
+follows_some (Some p) = refl
+
+-- a place follows the start and each place
+pub follows_places : (places : List Place) → follows_place (last_of (map PlaceLine places)) ≡ true
+follows_places places =
+    let n = length (map PlaceLine places) - 1 in
+    ap follows_place (slice_get-map PlaceLine places n) ∙ follows_some (slice_get places n)
+
+follows_more : (last : Option GrowthItem) → follows_place last ≡ true → follows_place_or_closed last ≡ true
+follows_more None e = refl
+follows_more (Some (PlaceLine p)) e = refl
+follows_more (Some ClosedLine) e = absurd (cc e)
+follows_more (Some UniqueLine) e = absurd (cc e)
+
+-- so does the line on local determinism, which may also follow a `closed` line
+pub unique_follows : (places : List Place) → follows_place_or_closed (last_of (map PlaceLine places)) ≡ true
+unique_follows places = follows_more (last_of (map PlaceLine places)) (follows_places places)
+
+pub unique_follows_closed : (places : List Place) → follows_place_or_closed (last_of (map PlaceLine places ++ ClosedLine ∷ [])) ≡ true
+unique_follows_closed places = rw (last_push (map PlaceLine places) ClosedLine) refl
+
+pub places_back : (places : List Place) → places_of (map PlaceLine places) ≡ places
+unfolding places_of
+places_back [] = refl
+places_back (p ∷ places) = ap (λ l. p ∷ l) (places_back places)
+
+-- a line that only closes the places
+pub ending_line : (distinct : Bool) (sys : TileSystem) (kind : LineKind) → (kind ≡ kinds.Closed) ⊎ (kind ≡ kinds.Unique) → (items : List GrowthItem) (words : List (List ℕ)) →
+    (item : GrowthItem) × (place_of item ≡ None) × (kind_of item ≡ kind) × ((row_of distinct sys kind).fields items words ≡ Ok item)
+ending_line distinct sys kind is items words =
+    let Fields : GrowthItem → LineKind → Type 0 = λ item k. (row_of distinct sys k).fields items words ≡ Ok item in
+    elim is [ inl e ↦ (ClosedLine, refl, sym e, subst (Fields ClosedLine) (sym e) refl) | inr e ↦ (UniqueLine, refl, sym e, subst (Fields UniqueLine) (sym e) refl) ]
+
+row_by : (distinct : Bool) (sys : TileSystem) (a b d : Bool) →
+    option_map (row_of distinct sys) (cond a (Some kinds.Place) (cond b (Some kinds.Closed) (cond d (Some kinds.Unique) None))) ≡ cond a (Some (place_row distinct sys)) (cond b (Some closed_row) (cond d (Some unique_row) None))
+row_by distinct sys true b d = refl
+row_by distinct sys false true d = refl
+row_by distinct sys false false true = refl
+row_by distinct sys false false false = refl
+
+-- the row that a word finds is that of its keyword
+pub row_named : (distinct : Bool) (sys : TileSystem) (word : List ℕ) → option_map (row_of distinct sys) (kind_named word) ≡ find (λ row. bytes_eq word row.word) (growth_table distinct sys).keywords
+unfolding growth_table
+row_named distinct sys word = row_by distinct sys (bytes_eq word (codes "place")) (bytes_eq word (codes "closed")) (bytes_eq word (codes "unique"))
+
+-- what was read into a reader, of this system
+pub into_places : (distinct : Bool) (sys : TileSystem) (text : List ℕ) (from to : Mark) (places : List Place) (items : List GrowthItem) → places ≡ places_of items → Reads (growth_format distinct sys) text from items to →
+    ReadsPlaces (growth_format distinct sys) text from places
+into_places distinct sys text from to places items is reads = record { items = items; to = to; reads = reads; places_are = is }
+
+pub into_grid : (sys held_by : TileSystem) (text : List ℕ) (from to : Mark) (places : List Place) (scratch : Option TileGrid) (grid : TileGrid) (last : Option LineKind) (items : List GrowthItem) → held_by ≡ sys →
+    HoldsLines held_by places scratch last items → scratch ≡ Some grid → Reads (grid_format sys) text from items to → ReadsGrid sys text from grid
+into_grid sys held_by text from to places scratch grid last items same held is reads =
+    let Grid : Option TileGrid → Type 0 = λ s. HasScratch held_by places s in
+    let put = subst Grid is held.grid in
+    record { area = put.area ∙ ap (λ s. s.area) same; places = places; reads = into_places true sys text from to places items held.places_are reads; same = put.same }

@@ -1,0 +1,46 @@
+-- The keywords of growth and schedule texts, as the code has them.
+use Rattle.std.specs.Prelude.{ℕ, Bool, true, false, if◌then◌else◌, List, codes, bytes_eq, Option, Some, None}
+use Rattle.tile_io.specs.Checks.{Keyword}
+use Rattle.atam.specs.TileSystem.{TileSystem}
+use Rattle.grow_core.specs.declared.event.Event.{Event}
+use Rattle.seq_text.specs.declared.kind.LineKind.{LineKind}
+use Rattle.seq_text.specs.declared.kind.LineKind.TheVariants as kinds
+use Rattle.seq_text.specs.declared.action.Action.{Action}
+use Rattle.seq_text.specs.declared.action.Action.TheVariants as actions
+use Rattle.seq_text.specs.GrowthText.{GrowthItem, place_row, closed_row, unique_row}
+use Rattle.seq_text.specs.GrowthText.GrowthItem.{PlaceLine, ClosedLine, UniqueLine}
+use Rattle.seq_text.specs.ScheduleText.{look_row, claim_row, split_row, join_row}
+
+-- the row of a keyword in the table of growth texts
+abbrev pub row_of : Bool → TileSystem → LineKind → Keyword GrowthItem
+row_of distinct sys kinds.Place = place_row distinct sys
+row_of distinct sys kinds.Closed = closed_row
+row_of distinct sys kinds.Unique = unique_row
+
+-- the keyword that a word is
+abbrev pub kind_named : List ℕ → Option LineKind
+kind_named word =
+    if bytes_eq word (codes "place") then Some kinds.Place
+    else if bytes_eq word (codes "closed") then Some kinds.Closed
+    else if bytes_eq word (codes "unique") then Some kinds.Unique
+    else None
+
+-- the keyword of a line
+abbrev pub kind_of : GrowthItem → LineKind
+kind_of (PlaceLine p) = kinds.Place
+kind_of ClosedLine = kinds.Closed
+kind_of UniqueLine = kinds.Unique
+
+-- whether a keyword may stand right after a line of another one, or first
+abbrev pub may_stand_after : LineKind → Option LineKind → Bool
+may_stand_after kind None = true
+may_stand_after kind (Some kinds.Place) = true
+may_stand_after kinds.Unique (Some kinds.Closed) = true
+may_stand_after kind last = false
+
+-- the row of a keyword in the table of schedule texts
+abbrev pub action_row : TileSystem → Action → Keyword Event
+action_row sys actions.Look = look_row
+action_row sys actions.Claim = claim_row sys
+action_row sys actions.Split = split_row
+action_row sys actions.Join = join_row
