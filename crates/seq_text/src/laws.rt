@@ -20,12 +20,14 @@ ghost use Rattle.seq_text.specs.ScheduleText.{schedule_format, ReadsEvents};
 /// Each text, from each start, as a sequence or as a grid, either reads as one list of places or has one fault.
 pub fn law_growth_one_of_two()
     ensures one { (distinct : Bool) (sys : TileSystem) (text : List ℕ) (from : Mark) →
-        IsRead (growth_format distinct sys) text from ⊎ IsFaulty (growth_format distinct sys) text from }
+        IsRead (growth_format distinct sys) text from
+        ⊎ IsFaulty (growth_format distinct sys) text from }
     ensures not_both { (distinct : Bool) (sys : TileSystem) (text : List ℕ) (from : Mark)
         (places : List Place) (number : ℕ) (cause : Cause) →
         ReadsPlaces (growth_format distinct sys) text from places →
         Fault (growth_format distinct sys) text from number cause → ⊥ }
-    ensures one_list { (distinct : Bool) (sys : TileSystem) (text : List ℕ) (from : Mark) (a b : List Place) →
+    ensures one_list { (distinct : Bool) (sys : TileSystem) (text : List ℕ) (from : Mark)
+        (a b : List Place) →
         ReadsPlaces (growth_format distinct sys) text from a →
         ReadsPlaces (growth_format distinct sys) text from b → a ≡ b }
     ensures one_fault { (distinct : Bool) (sys : TileSystem) (text : List ℕ) (from : Mark)
@@ -41,7 +43,8 @@ pub fn law_growth_fits()
         ReadsSequence sys text from places → Fits sys places }
     ensures grid { (sys : TileSystem) (text : List ℕ) (from : Mark) (places : List Place) →
         ReadsPlacements sys text from places → Fits sys places × HasDistinctSites places }
-    ensures count { (distinct : Bool) (sys : TileSystem) (text : List ℕ) (from : Mark) (places : List Place) →
+    ensures count { (distinct : Bool) (sys : TileSystem) (text : List ℕ) (from : Mark)
+        (places : List Place) →
         ReadsPlaces (growth_format distinct sys) text from places → length places ≤ length text }
 {}
 
@@ -69,12 +72,12 @@ pub fn law_input_reads_printed()
         (closed : Option (Option (Site × TypeId))) (verdict : Option Verdict) → IsValid sys →
         MayBePrinted sys places closed verdict →
         ReadsSequence sys (spelling sys ++ growth_lines sys places closed verdict)
-            (end_of_print sys start_mark) places }
+        (end_of_print sys start_mark) places }
     ensures grid { (sys : TileSystem) (places : List Place)
         (closed : Option (Option (Site × TypeId))) (verdict : Option Verdict) → IsValid sys →
         MayBePrinted sys places closed verdict → HasDistinctSites places →
         ReadsPlacements sys (spelling sys ++ growth_lines sys places closed verdict)
-            (end_of_print sys start_mark) places }
+        (end_of_print sys start_mark) places }
 {}
 
 /// Each text, from each start, either reads as one list of events or has one fault.

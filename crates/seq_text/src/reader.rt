@@ -12,9 +12,7 @@ ghost use Rattle.seq_text.specs.Inner.SoFar.{HasScratch};
 use crate::kind::LineKind;
 use assembly::{Grid, Sequence};
 use std::alloc::Global;
-use tile_io::{
-    Cause, LineReader, LineStop, LineWords, MOST_INPUT, Mark, TextStop, read_text,
-};
+use tile_io::{Cause, LineReader, LineStop, LineWords, MOST_INPUT, Mark, TextStop, read_text};
 use tile_system::{NoMemory, Place, Placed, Site, System};
 use tile_text::read_place;
 
@@ -146,8 +144,10 @@ impl<'a> GrowthReader<'a> {
         ensures taken { (items : List GrowthItem) →
             HoldsLines self.old.system.now self.old.places self.old.scratch self.old.last items →
             TakesItem (λ item. false)
-                (HoldsLines self.new.system.now self.new.places self.new.scratch self.new.last) items
-                (place_fields (is_some self.old.scratch) self.old.system.now items words.now) result }
+            (HoldsLines self.new.system.now self.new.places self.new.scratch self.new.last)
+            items
+            (place_fields (is_some self.old.scratch) self.old.system.now items words.now)
+            result }
         ensures distinct { is_some self.new.scratch ≡ is_some self.old.scratch }
         ensures system { self.new.system.now ≡ self.old.system.now }
     {
@@ -197,8 +197,7 @@ impl<'a> GrowthReader<'a> {
         requires grid { HasScratch self.old.system.now self.old.places self.old.scratch }
         requires inside { InBox self.old.system.now.area place.site }
         requires small { place.tile.0 < 16384 }
-        requires free {
-            may_stand (is_some self.old.scratch) self.old.places place.site ≡ true }
+        requires free { may_stand (is_some self.old.scratch) self.old.places place.site ≡ true }
         ensures added { OnOk result (self.new.places ≡ self.old.places ++ place ∷ []) }
         ensures last { OnOk result (self.new.last ≡ Some LineKind.Place) }
         ensures grid { HasScratch self.new.system.now self.new.places self.new.scratch }

@@ -44,7 +44,8 @@ impl Model for SiteTable {
     ghost view = { λ t. record { table = t.table.shared.table_id; sys = t.table.shared.key } };
 
     ghost invariant = { λ t. (t.area ≡ t.table.shared.key.area) × IsValid t.table.shared.key
-        × (t.table.shared.table_id.words ≡ cell_count t.area) × (t.table.shared.table_id.slots ≡ 0) };
+        × (t.table.shared.table_id.words ≡ cell_count t.area)
+        × (t.table.shared.table_id.slots ≡ 0) };
 }
 
 /// How a claim went.

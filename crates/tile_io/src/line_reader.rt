@@ -120,7 +120,8 @@ pub fn read_text<R: LineReader>(reader: &mut R, text: &[u8], from: Mark) -> Resu
     requires short { length text.now ≤ MOST_INPUT }
     requires mark { IsMark text.now from }
     ensures read { ReadsOrStops (table_format (R.table (R.context reader.old))) text.now from
-        (ReadsInto (table_format (R.table (R.context reader.old))) text.now from (R.holds reader.new))
+        (ReadsInto (table_format (R.table (R.context reader.old))) text.now from
+        (R.holds reader.new))
         result }
     ensures context { R.context reader.new ≡ R.context reader.old }
 {
@@ -175,7 +176,8 @@ fn first_cause(has_header: bool, missing: Cause, cause: Cause) -> Cause
 fn end_mark(text: &[u8], from: Mark) -> Mark
     requires short { length text.now ≤ MOST_INPUT }
     requires mark { IsMark text.now from }
-    ensures { let lines = lines_from text.now from in result ≡ mark_after lines from (length lines) }
+    ensures { let lines = lines_from text.now from in
+        result ≡ mark_after lines from (length lines) }
 {
     Mark {
         at: text.len(),

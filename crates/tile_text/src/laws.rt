@@ -33,5 +33,6 @@ pub fn law_reads_valid()
 /// The printed text of a valid system reads as this system, up to the end of the print, whatever follows.
 pub fn law_reads_printed()
     ensures { (sys : TileSystem) (text rest : List ℕ) (from : Mark) → IsValid sys →
-        drop from.at text ≡ spelling sys ++ rest → ReadsSystem text from sys (end_of_print sys from) }
+        drop from.at text ≡ spelling sys ++ rest →
+        ReadsSystem text from sys (end_of_print sys from) }
 {}
