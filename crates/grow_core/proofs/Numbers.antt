@@ -1,9 +1,9 @@
 -- The numbers of a scout as bits, and lists of tiles by their numbers.
-use Rattle.std.proofs.Common.{◌≡◌, ◌≢◌, ◌⊎◌, ◌<◌, ◌≤◌, ◌+◌, min, ◌-◌, ◌*◌, ◌^◌, ◌==◌, ℕ, suc, true, not, max, List, [], ◌∷◌, filter, Contains, eq-eqb, ne_eqb, refl, sym, ◌∙◌, ap, subst, inl, inr, arith, bit_or}
+use Rattle.std.proofs.Common.{◌≡◌, ◌≢◌, ◌⊎◌, ◌<◌, ◌≤◌, ◌+◌, min, ◌-◌, ◌*◌, ◌^◌, ◌==◌, ℕ, suc, true, not, max, List, [], ◌∷◌, filter, Contains, eq-eqb, ne_eqb, refl, sym, ◌∙◌, ap, subst, inl, inr, arith, lit≤, bit_or}
 use Rattle.std.specs.Int.{bit_at, w64}
 use Rattle.std.proofs.Math.Nat.{pow-suc}
 use Rattle.std.proofs.lemmas.Nat.{leading_top}
-use Rattle.std.proofs.lemmas.Nat.Bits.{bit_at-lt, bit_at_above, bit_at_cat_low, bit_at_cat_high, bit_at-pow_same, bit_at-pow_other, bit_at_or, bit_at-zero, bit_at-trailing_zeros}
+use Rattle.std.proofs.lemmas.Nat.Bits.{bit_at-lt, bit_at_above, bit_at_cat_low, bit_at_cat_high, bit_at-pow_same, bit_at-pow_other, bit_at_or, bit_at-zero, bit_at_ones, bit_at-trailing_zeros}
 use Rattle.std.proofs.lemmas.Bool.{false≢true}
 use mathlib.Core.Logic.{dite}
 use native.Mathlib.Decide.{ℕ_discrete, dec_lt}
@@ -171,3 +171,16 @@ least-of_both a b some_a small_a some_b small_b small =
     (λ f. least-is (bit_or a b) (least b) small (either-owns a b (least b) (inr (least-owned b some_b small_b).1))
     (λ k below. neither-owns a b k (below-least a some_a small_a k (omega (arith, f, below))) (below-least b some_b small_b k below))
     ∙ omega (arith, f))
+
+-- who owns two numbers owns two or more
+pub two-numbers : (owned a b : ℕ) → 0 < owned → owned < 2 ^ 64 → a ≢ b → Owns owned a → Owns owned b → least owned ≢ greatest owned
+two-numbers owned a b some_number small differ own_a own_b same =
+    let low_a = least-most owned some_number small a own_a in
+    let low_b = least-most owned some_number small b own_b in
+    let high_a = most owned (top owned some_number small) a own_a in
+    let high_b = most owned (top owned some_number small) b own_b in
+    differ (omega (arith, low_a, low_b, high_a, high_b, same))
+
+-- as the owner of all does
+pub two-all : least (2 ^ 64 - 1) ≢ greatest (2 ^ 64 - 1)
+two-all = two-numbers (2 ^ 64 - 1) 0 1 (lit≤ tt) (lit≤ tt) (λ e. omega (arith, e)) (bit_at_ones 64 0 (omega arith)) (bit_at_ones 64 1 (omega arith))

@@ -210,7 +210,7 @@ module _ (sys : TileSystem) (id : ℕ) (v : SeatView) (live : IsLive v) (ws : Li
         tiles = state.tiles;
         history = state.growth.history;
         same = same;
-        in_order = known.in_order;
+        scout = known;
         numbers = numbers;
         counts = λ n l. won n l ∙ spells_ws.counted n;
         own_counts = λ n own. won n (owned-below v.owned n known.numbers own) ∙ (spells_ws.counted n ∙ ap length (known.in_order n own));

@@ -10,7 +10,7 @@ use Rattle.atam.specs.Placements.{SamePlacements, HasDistinctSites, IsPartOf, ti
 use Rattle.atam.specs.Growth.{IsProducible}
 use Rattle.assembly.specs.Grids.{TileGrid}
 use Rattle.grow_core.specs.declared.placed_tile.PlacedTile.{PlacedTile}
-use Rattle.grow_core.specs.Core.{ScoutState, Owns, places, placed_by, IsHistory}
+use Rattle.grow_core.specs.Core.{ScoutState, Owns, places, placed_by, IsHistory, ScoutInvariant}
 use Rattle.grow_core.specs.Steps.{place, Sees, Wins}
 use Rattle.site_table.specs.declared.table.Claimed.{Claimed}
 use Rattle.site_table.specs.declared.table.Claimed.TheVariants.{Won, Held}
@@ -66,11 +66,11 @@ pub record Closes (sys : TileSystem) (v : ScoutState) (out : GrownValue) : Type 
   pub inside : All (λ p. InBox sys.area p.site) out.grid.tiles
   pub producible : IsProducible sys out.grid.tiles
   pub seen : IsPartOf v.seen out.grid.tiles
-  -- one legal sequence has just the grid's placements, and lists the places of each number of the seat in the order of its mine
+  -- One legal sequence has just the grid's placements, and the seat's scout is one of it: it lists the places of each number of the seat in the order of its mine.
   pub tiles : List PlacedTile
   pub history : IsHistory sys tiles
   pub same : SamePlacements (places tiles) out.grid.tiles
-  pub in_order : (n : ℕ) → Owns v.owned n → placed_by n tiles ≡ placed_by n v.mine
+  pub scout : ScoutInvariant sys tiles v
   pub numbers : length out.won ≡ 64
   pub counts : (n : ℕ) → n < 64 → slice_index out.won n ≡ length (placed_by n tiles)
   -- a number's count is that of the own tiles of the seat that owns it

@@ -1,7 +1,7 @@
 use Rattle.std.proofs.Common.{◌-◌, ◌^◌, sym, subst, arith, lit≤}
 use Rattle.std.proofs.lemmas.Nat.Bits.{bit_at_ones}
 use Rattle.grow_core.specs.Core.{Owns, least, greatest}
-use Rattle.grow_core.proofs.Numbers.{top, greatest-owned, most, left-owned, left-other, left-owns, alone, owns_itself, both-owned, either-owns, least-owned, least-most}
+use Rattle.grow_core.proofs.Numbers.{top, greatest-owned, most, left-owned, left-other, left-owns, alone, owns_itself, both-owned, either-owns, least-owned, least-most, two-numbers}
 use Rattle.grow_core.proofs.Listed.{owned-below}
 use Rattle.grow_core.proofs.laws.law_numbers.Goals as goal
 
@@ -14,12 +14,7 @@ returns-clause-given c owned some small = (greatest-owned owned (top owned some 
 pub returns-clause-two : goal.returns-clause-two
 returns-clause-two c owned some small = (
   (λ two. (least owned, greatest owned, two, (least-owned owned some small).1, greatest-owned owned (top owned some small))),
-  (λ two same.
-      let low_a = least-most owned some small two.0 two.3 in
-      let low_b = least-most owned some small two.1 two.4 in
-      let high_a = most owned (top owned some small) two.0 two.3 in
-      let high_b = most owned (top owned some small) two.1 two.4 in
-      two.2 (omega (arith, low_a, low_b, high_a, high_b, same))),
+  (λ two. two-numbers owned two.0 two.1 some small two.2 two.3 two.4),
 )
 
 pub returns-clause-others : goal.returns-clause-others

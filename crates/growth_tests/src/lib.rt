@@ -1,0 +1,5 @@
+//! Tests of the crates of growth, on the worked systems.
+#![tactic(auto)]
+
+#[cfg(test)]
+mod table;
