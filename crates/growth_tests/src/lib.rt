@@ -2,4 +2,6 @@
 #![tactic(auto)]
 
 #[cfg(test)]
+mod choosing;
+#[cfg(test)]
 mod table;

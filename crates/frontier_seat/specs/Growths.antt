@@ -1,0 +1,29 @@
+-- What a scout makes of its seat.
+use Rattle.std.specs.Prelude.{◌≡◌, ℕ, ◌+◌, ◌≤◌, List, ◌++◌, length, All}
+use Rattle.atam.specs.TileSystem.{TileSystem}
+use Rattle.atam.specs.Placements.{SamePlacements, IsPartOf, HasDistinctSites}
+use Rattle.atam.specs.Assembly.{Fits}
+use Rattle.grow_core.specs.declared.placed_tile.PlacedTile.{PlacedTile}
+use Rattle.grow_core.specs.Core.{least}
+use Rattle.site_table.specs.Seats.{GoesOn}
+use Rattle.frontier_seat.specs.declared.growing.Growing.{Growing}
+
+-- the grid is what the seat has seen, over the box of its system
+pub record IsGrowing (sys : TileSystem) (g : Growing) : Type 0 where
+  pub system : g.seat.sys ≡ sys
+  pub area : g.grid.area ≡ sys.area
+  pub seen : SamePlacements g.seat.scout.seen g.grid.tiles
+  pub distinct : HasDistinctSites g.grid.tiles
+  pub fits : Fits sys g.grid.tiles
+  pub some_tile : 1 ≤ length g.grid.tiles
+  pub few_wins : g.won ≤ length g.grid.tiles
+
+-- The seat goes on with the same numbers. What was seen stays seen, its own tiles stay, and those that it wins, all with its least number, come last and are counted.
+pub record GrowsOn (old new : Growing) : Type 0 where
+  pub seat : GoesOn old.seat new.seat
+  pub area : new.grid.area ≡ old.grid.area
+  pub kept : IsPartOf old.grid.tiles new.grid.tiles
+  pub wins : List PlacedTile
+  pub mine : new.seat.scout.mine ≡ old.seat.scout.mine ++ wins
+  pub placer : All (λ t. t.placer ≡ least old.seat.scout.owned) wins
+  pub won : new.won ≡ old.won + length wins

@@ -1,0 +1,3 @@
+-- Definitions that only private functions cite.
+pub mod Listings
+pub mod Looks

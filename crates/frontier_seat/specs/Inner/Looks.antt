@@ -1,0 +1,45 @@
+-- One look at a site, and the claim there.
+use Rattle.std.specs.Prelude.{◌≡◌, ℕ, ◌+◌, ◌*◌, ◌≤◌, List, [], ◌∷◌, ◌++◌, length, Contains, Option, MatchOption}
+use Rattle.atam.specs.declared.site.Site.{Site}
+use Rattle.atam.specs.declared.place.TypeId.{TypeId}
+use Rattle.atam.specs.declared.place.Place.{Place}
+use Rattle.atam.specs.Sites.{InBox}
+use Rattle.atam.specs.TileSystem.{TileSystem}
+use Rattle.atam.specs.Placements.{SamePlacements, HasDistinctSites, tile_at}
+use Rattle.atam.specs.Growth.{IsCandidate}
+use Rattle.grow_core.specs.Steps.{place}
+use Rattle.frontier_seat.specs.declared.growing.Growing.{Growing}
+use Rattle.frontier_seat.specs.Growths.{IsGrowing, GrowsOn}
+
+-- a tile more in the grid
+pub record Puts (p : Place) (old new : Growing) : Type 0 where
+  pub seat : new.seat ≡ old.seat
+  pub won : new.won ≡ old.won
+  pub area : new.grid.area ≡ old.grid.area
+  pub tiles : (m : Site) → tile_at new.grid.tiles m ≡ tile_at (old.grid.tiles ++ p ∷ []) m
+  pub placements : SamePlacements (old.grid.tiles ++ p ∷ []) new.grid.tiles
+  pub distinct : HasDistinctSites new.grid.tiles
+  pub count : length new.grid.tiles ≡ length old.grid.tiles + 1
+
+-- a claim at an empty site of the grid, whoever won
+pub record ClaimsAt (sys : TileSystem) (site : Site) (old new : Growing) : Type 0 where
+  pub growing : IsGrowing sys new
+  pub goes : GrowsOn old new
+  pub tile : TypeId
+  pub tiles : (m : Site) → tile_at new.grid.tiles m ≡ tile_at (old.grid.tiles ++ place site tile ∷ []) m
+  pub count : length new.grid.tiles ≡ length old.grid.tiles + 1
+
+-- no type attaches at a site of the box that isn't listed
+abbrev pub IsClosedBut : TileSystem → List Place → List Site → Type 0
+IsClosedBut sys tiles sites = (m : Site) (t : TypeId) → InBox sys.area m → IsCandidate sys tiles m t → Contains sites m
+
+-- a type that attaches at the site; none exactly where none does
+abbrev pub IsOpenType : TileSystem → List Place → Site → Option TypeId → Type 0
+IsOpenType sys tiles m found = MatchOption found ((t : TypeId) → ¬ IsCandidate sys tiles m t) (IsCandidate sys tiles m)
+
+-- one look at a site that was listed: what may open is listed, and each new tile lists at most four sites
+pub record LooksAt (sys : TileSystem) (before after : Growing) (old new : List Site) : Type 0 where
+  pub growing : IsGrowing sys after
+  pub goes : GrowsOn before after
+  pub closed : IsClosedBut sys after.grid.tiles new
+  pub work : length new + 4 * length before.grid.tiles ≤ length old + 4 * length after.grid.tiles

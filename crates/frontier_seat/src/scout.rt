@@ -1,0 +1,203 @@
+// A scout that claims until nothing attaches to what it has seen.
+ghost use Rattle.std.specs.Prelude.{◌≡◌, ◌<◌, ◌≤◌, ◌+◌, [], ◌∷◌, ◌++◌, length, IfOk, IfErr};
+ghost use Rattle.atam.specs.Sites.{InBox};
+ghost use Rattle.atam.specs.TileSystem.{IsValid};
+ghost use Rattle.atam.specs.Placements.{SamePlacements};
+ghost use Rattle.atam.specs.Growth.{IsClosedInBox};
+ghost use Rattle.assembly.specs.Cells.{cell_count};
+ghost use Rattle.site_table.specs.Seats.{IsSeatOf};
+ghost use Rattle.site_table.specs.Laws.{IsFinal};
+ghost use Rattle.frontier_seat.specs.Growths.{IsGrowing, GrowsOn};
+ghost use Rattle.frontier_seat.specs.Inner.Looks.{IsClosedBut, LooksAt};
+
+use crate::picking::pick;
+use crate::work_list::WorkList;
+use crate::{Chooser, Growing};
+use assembly::Grid;
+use attach_rule::TypeList;
+use site_table::{SiteSeat, SiteTable};
+use std::alloc::Global;
+use std::marker::Model;
+use std::sync::ledger::Ledger;
+use tile_io::Steps;
+use tile_system::{Site, System};
+
+/// A seat with the grid of what it has seen, and room to work: with the grid, seven bytes a site.
+#[derive(Drop)]
+pub struct Scout {
+    growing: Growing,
+    found: TypeList,
+    work: WorkList,
+}
+
+impl Model for Scout {
+    ghost use Rattle.std.specs.Prelude.{◌≡◌, ◌≤◌, length};
+    ghost use Rattle.frontier_seat.specs.declared.growing.Growing.{Growing};
+    ghost use Rattle.frontier_seat.specs.Growths.{IsGrowing};
+
+    ghost Value = { Growing };
+
+    ghost view = { λ s. s.growing };
+
+    ghost invariant = { λ s. IsGrowing s.growing.seat.sys s.growing
+        × (length s.growing.seat.sys.types ≤ s.found.room)
+        × (s.work.area ≡ s.growing.seat.sys.area) };
+}
+
+// Looks at one site that is listed no longer, and claims it for a type that attaches.
+fn look<C: Chooser, L: Ledger>(
+    sys: &System,
+    table: &SiteTable,
+    growing: &mut Growing,
+    chooser: &mut C,
+    found: &mut TypeList,
+    site: Site,
+    work: &mut WorkList,
+    steps: &mut Steps<L>,
+)
+    requires seat { IsSeatOf table.now growing.old.seat }
+    requires system { table.now.sys ≡ sys.now }
+    requires growing { IsGrowing sys.now growing.old }
+    requires types { length sys.now.types ≤ found.old.room }
+    requires area { work.old.area ≡ sys.now.area }
+    requires site { InBox sys.now.area site }
+    requires closed { IsClosedBut sys.now growing.old.grid.tiles (work.old.sites ++ site ∷ []) }
+    ensures looks { LooksAt sys.now growing.old growing.new work.old.sites work.new.sites }
+    ensures types { found.new.room ≡ found.old.room }
+    ensures area { work.new.area ≡ work.old.area }
+    ensures cost { steps.new + length growing.old.grid.tiles
+        ≡ steps.old + length growing.new.grid.tiles }
+{
+    let _area = sys.area();
+    if let Some(tile) = pick(sys, &growing.grid, site, chooser, found) {
+        growing.claim(sys, table, site, tile, steps);
+        work.list_neighbors(site);
+    }
+}
+
+// Looks at all sites, and at those beside each tile that comes.
+fn look_around<C: Chooser, L: Ledger>(
+    sys: &System,
+    table: &SiteTable,
+    growing: &mut Growing,
+    chooser: &mut C,
+    found: &mut TypeList,
+    work: &mut WorkList,
+    steps: &mut Steps<L>,
+)
+    requires seat { IsSeatOf table.now growing.old.seat }
+    requires system { table.now.sys ≡ sys.now }
+    requires growing { IsGrowing sys.now growing.old }
+    requires types { length sys.now.types ≤ found.old.room }
+    requires area { work.old.area ≡ sys.now.area }
+    ensures valid { IsValid sys.now }
+    ensures growing { IsGrowing sys.now growing.new }
+    ensures goes { GrowsOn growing.old growing.new }
+    ensures closed { IsClosedInBox sys.now growing.new.grid.tiles }
+    ensures types { found.new.room ≡ found.old.room }
+    ensures area { work.new.area ≡ work.old.area }
+    ensures cost { steps.new + length growing.old.grid.tiles
+        ≡ steps.old + length growing.new.grid.tiles }
+{
+    let _area = sys.area();
+    work.list_all();
+    while let Some(site) = work.take() {
+        look(sys, table, growing, chooser, found, site, work, steps);
+    }
+}
+
+impl Scout {
+    /// A scout of this seat. The grid is what the seat has seen. All its room is made here; where
+    /// memory is wanting both come back.
+    pub fn make(
+        alloc: Global,
+        sys: &System,
+        seat: SiteSeat,
+        seen: Grid,
+    ) -> Result<Scout, (SiteSeat, Grid)>
+        requires system { seat.sys ≡ sys.now }
+        requires area { seen.area ≡ sys.now.area }
+        requires seen { SamePlacements seat.scout.seen seen.tiles }
+        ensures ok { IfOk result (λ scout. scout ≡ record { seat = seat; grid = seen; won = 0 }) }
+        ensures err { IfErr result (λ parts. parts ≡ (seat, seen)) }
+    {
+        let area = sys.area();
+        let _owned = seat.owned();
+        let _area = seen.area();
+        let Ok(found) = TypeList::make(alloc, sys) else {
+            return Err((seat, seen));
+        };
+        let Ok(work) = WorkList::make(alloc, area) else {
+            return Err((seat, seen));
+        };
+        let growing = Growing {
+            seat,
+            grid: seen,
+            won: 0,
+        };
+        Ok(Scout {
+            growing,
+            found,
+            work,
+        })
+    }
+
+    /// The claims won since `make`.
+    pub fn won(&self) -> u32
+        ensures { result ≡ self.now.won }
+    {
+        self.growing.won
+    }
+
+    /// What the seat has seen.
+    pub fn seen(&self) -> &Grid
+        ensures grid { result.now ≡ self.now.grid }
+        ensures same { SamePlacements self.now.seat.scout.seen self.now.grid.tiles }
+    {
+        &self.growing.grid
+    }
+
+    /// Claims until no type attaches in the box to what was seen. That is then all that stands, and
+    /// stays so: the words are those of what was seen in every state of the table with this seat,
+    /// and no event of any scout changes it. A lost claim fills a site too. Each claim takes one
+    /// step, and adds one site to what was seen.
+    pub fn sweep<C: Chooser, L: Ledger>(
+        &mut self,
+        sys: &System,
+        table: &SiteTable,
+        chooser: &mut C,
+        steps: &mut Steps<L>,
+    )
+        requires seat { IsSeatOf table.now self.old.seat }
+        requires system { table.now.sys ≡ sys.now }
+        ensures goes { GrowsOn self.old self.new }
+        ensures closed { IsClosedInBox sys.now self.new.grid.tiles }
+        ensures seen { SamePlacements self.new.seat.scout.seen self.new.grid.tiles }
+        ensures last { IsFinal sys.now self.new.seat.scout }
+        ensures cost { steps.new + length self.old.grid.tiles
+            ≡ steps.old + length self.new.grid.tiles }
+        ensures few { steps.new < steps.old + cell_count sys.now.area }
+    {
+        look_around(
+            sys,
+            table,
+            &mut self.growing,
+            chooser,
+            &mut self.found,
+            &mut self.work,
+            steps,
+        );
+        let _area = sys.area();
+        let _owned = self.growing.seat.owned();
+    }
+
+    /// The seat, and what it has seen.
+    pub fn end(self) -> (SiteSeat, Grid)
+        ensures seat { result.0 ≡ self.seat }
+        ensures grid { result.1 ≡ self.grid }
+        ensures same { SamePlacements result.0.scout.seen result.1.tiles }
+    {
+        let growing = self.growing;
+        (growing.seat, growing.grid)
+    }
+}
