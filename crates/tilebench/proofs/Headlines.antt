@@ -1,5 +1,5 @@
 -- What the laws of confluence say of growth answers.
-use Rattle.std.proofs.Common.{◌≡◌, ◌∙◌, ℕ, Bool, true, true≢false, List, refl, sym, ap, subst}
+use Rattle.std.proofs.Common.{◌≡◌, ◌∙◌, ℕ, Bool, true, true≢false, Some, List, refl, sym, ap, subst}
 use Rattle.tile_io.specs.declared.mark.Mark.{Mark}
 use Rattle.tile_io.specs.Formats.{Reads}
 use Rattle.atam.specs.declared.place.Place.{Place}
@@ -20,9 +20,10 @@ use Rattle.unique_law.specs.Outcomes.{Outcome}
 use Rattle.unique_law.proofs.OneOutcome.{canonical_too, one_full_growth, one_outcome, yes_in_some_order, grows_into_outcome}
 use Rattle.tilebench.specs.Commands.Grow.{IsGrowth, IsGrowthAnswer, growth_text, is_unique}
 use Rattle.tilebench.specs.Headline.{IsHeadline}
+use Rattle.tilebench.proofs.ReadingBack.{growth_may, sequence_back}
 
 -- a system that was read is valid
-valid_system : (text : List ℕ) (from to : Mark) (sys : TileSystem) → ReadsSystem text from sys to → IsValid sys
+pub valid_system : (text : List ℕ) (from to : Mark) (sys : TileSystem) → ReadsSystem text from sys to → IsValid sys
 valid_system text from to sys reads =
     let valid = reads_valid text from to (system_items sys) reads.items in
     let Read : List SystemItem → Type 0 = λ items. Reads system_format text from items to in
@@ -69,7 +70,8 @@ growth_of_deterministic sys seeds tiles outcome grown s found =
 pub headline : (input : List ℕ) (is_yes : Bool) (text : List ℕ) → IsGrowthAnswer input is_yes text → IsHeadline input is_yes text
 headline input is_yes text answer =
     let sys = answer.sys in
-    let seeds : HasDistinctSites sys.seeds = (valid_system input _ answer.read.end sys answer.read.reads).distinct_seeds in
+    let valid = valid_system input _ answer.read.end sys answer.read.reads in
+    let seeds : HasDistinctSites sys.seeds = valid.distinct_seeds in
     let outcome = answer.outcome in
     let is = answer.grown.outcome_is in
     let tells = verdict_yes sys outcome.order outcome.verdict is.judged in
@@ -84,13 +86,15 @@ headline input is_yes text answer =
       printed = answer.printed;
       legal = answer.grown.ordered.legal;
       same = answer.grown.ordered.same;
+      reads_back = sequence_back sys valid outcome.order (Some outcome.outside) (Some outcome.verdict) text
+          (growth_may sys valid answer.tiles outcome.order outcome.outside outcome.verdict is.full.inside answer.grown.ordered.fits is.least is.judged) answer.printed;
       closed = is.full.closed;
       outside = is.least;
       yes = (λ positive. tells.0 (yes_it_is positive), λ deterministic. answer.answer ∙ ap is_unique (tells.1 deterministic));
       some_order = (λ positive. tells_some.0 (yes_it_is positive), λ order. answer.answer ∙ ap is_unique (tells_some.1 order));
       only = λ positive b legal. grows_into_outcome sys seeds answer.tiles b outcome is (yes_it_is positive) legal;
       same_bytes = λ positive others other grown.
-          let one = one_outcome sys seeds answer.tiles others outcome other is (yes_it_is positive) grown.outcome_is in
+          let one = one_outcome sys seeds answer.tiles others outcome other is (yes_it_is positive) grown in
           ap (growth_text sys) (sym one.1) ∙ sym answer.printed;
       determined = growth_of_deterministic sys seeds answer.tiles outcome answer.grown;
     }

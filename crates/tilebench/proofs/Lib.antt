@@ -3,6 +3,8 @@ pub mod Growths
 pub mod Headlines
 pub mod Looked
 pub mod Marks
+pub mod Orders
+pub mod ReadingBack
 pub mod Scheduling
 pub mod Sources
 pub mod Tops

@@ -1,9 +1,9 @@
 -- What the top call promises.
-use Rattle.std.specs.Prelude.{◌≡◌, ◌↔◌, ◌⊎◌, ◌≤◌, ℕ, Bool, true, false, List, length, Option, Some}
+use Rattle.std.specs.Prelude.{◌≡◌, ◌↔◌, ◌⊎◌, ◌≤◌, ◌++◌, ℕ, Bool, true, false, List, length, Option, Some}
 use Rattle.tilebench.specs.declared.status.Status.TheVariants.{Done, No, Words, Text, ReadFault, WriteFault, NoMemory}
 use Rattle.tilebench.specs.Terms.{Command, CommandName, WordsStop, IsCallOf, IsTaken, IsRefusedAs, name_of, refused_words}
 use Rattle.tilebench.specs.Terms.{Status, TextFault, MOST_INPUT, Rose, Gains, GainsFront, Answers, Fails, Takes, refused_text}
-use Rattle.tilebench.specs.Terms.{Outcome, Place, TileSystem, IsSystemAlone, IsGrowth, IsLegal, SamePlacements, growth_text}
+use Rattle.tilebench.specs.Terms.{Outcome, IsOutcome, IsSystemThenSequence, spelling, Place, TileSystem, IsSystemAlone, IsGrowth, IsLegal, SamePlacements, growth_text}
 use Rattle.tilebench.specs.Terms.{IsClosedInBox, IsLeastOpenOutside, IsLocallyDeterministic, IsDeterministicInBox, IsDeterministicInSomeOrder, GrowsInto}
 
 -- An answer: the words call for a command, as clap reads them, and this is what it answers to what was left of the source.
@@ -60,6 +60,8 @@ pub record IsHeadline (input : List ℕ) (is_yes : Bool) (text : List ℕ) : Typ
   -- its places are a legal sequence from the seed, with exactly the placements of an assembly
   pub legal : IsLegal sys outcome.order
   pub same : SamePlacements outcome.order tiles
+  -- and behind the spelling of the system they read as this sequence
+  pub reads_back : IsSystemThenSequence (spelling sys ++ text) sys outcome.order
   -- nothing extends the assembly in the box, nor outside it unless a site is named
   pub closed : IsClosedInBox sys tiles
   pub outside : IsLeastOpenOutside sys tiles outcome.outside
@@ -68,6 +70,6 @@ pub record IsHeadline (input : List ℕ) (is_yes : Bool) (text : List ℕ) : Typ
   pub some_order : (is_yes ≡ true) ↔ IsDeterministicInSomeOrder sys tiles
   -- then every legal sequence extends to the assembly, and every growth of the system prints the same bytes
   pub only : is_yes ≡ true → (b : List Place) → IsLegal sys b → GrowsInto sys b tiles
-  pub same_bytes : is_yes ≡ true → (others : List Place) (other : Outcome) → IsGrowth sys others other → growth_text sys other ≡ text
+  pub same_bytes : is_yes ≡ true → (others : List Place) (other : Outcome) → IsOutcome sys others other → growth_text sys other ≡ text
   -- and where any sequence in the box is locally deterministic, this is the growth of its placements
   pub determined : (s : List Place) → IsDeterministicInBox sys s → IsGrowth sys s outcome

@@ -7,7 +7,8 @@ pub use Rattle.atam.specs.TileSystem.{TileSystem}
 pub use Rattle.atam.specs.Placements.{SamePlacements}
 pub use Rattle.atam.specs.Growth.{IsLegal, IsClosedInBox, IsLeastOpenOutside, GrowsInto}
 pub use Rattle.atam.specs.Determinism.{IsDeterministicInBox, IsLocallyDeterministic}
-pub use Rattle.unique_law.specs.Outcomes.{Outcome, IsDeterministicInSomeOrder}
+pub use Rattle.unique_law.specs.Outcomes.{Outcome, IsOutcome, IsDeterministicInSomeOrder}
+pub use Rattle.tile_text.specs.Spelling.{spelling}
 pub use Rattle.command_line.specs.declared.commands.Command.{Command}
 pub use Rattle.command_line.specs.declared.commands.CommandName.{CommandName}
 pub use Rattle.command_line.specs.declared.words_stop.WordsStop.{WordsStop}
@@ -15,6 +16,7 @@ pub use Rattle.command_line.specs.Commands.{IsCallOf, IsTaken, name_of}
 pub use Rattle.tilebench.specs.declared.status.Status.{Status}
 pub use Rattle.tilebench.specs.Commands.{Answers, Fails, Takes}
 pub use Rattle.tilebench.specs.Commands.Grow.{IsGrowth, growth_text}
+pub use Rattle.tilebench.specs.Commands.Check.{IsSystemThenSequence}
 pub use Rattle.tilebench.specs.Inputs.{IsSystemAlone}
 pub use Rattle.tilebench.specs.Gains.{Gains, GainsFront}
 pub use Rattle.tilebench.specs.Refusals.{IsRefusedAs, refused_words, refused_text}

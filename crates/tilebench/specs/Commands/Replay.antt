@@ -1,10 +1,11 @@
 -- What `replay` answers.
-use Rattle.std.specs.Prelude.{◌≡◌, ◌≢◌, ℕ, Bool, true, false, List, Some, Contains}
+use Rattle.std.specs.Prelude.{◌≡◌, ◌≢◌, ℕ, Bool, true, false, List, ◌++◌, Some, Contains}
 use Rattle.atam.specs.declared.place.Place.{Place}
 use Rattle.atam.specs.declared.site.Site.{Site}
 use Rattle.atam.specs.TileSystem.{TileSystem}
 use Rattle.atam.specs.Placements.{HasDistinctSites, SamePlacements, tile_at}
 use Rattle.replay_order.specs.ReplayAnswers.{IsWholeOrder, IsStuckAt}
+use Rattle.tile_text.specs.Spelling.{spelling}
 use Rattle.seq_text.specs.GrowthText.{ReadsPlacements}
 use Rattle.seq_text.specs.GrowthLines.{place_lines}
 use Rattle.seq_text.specs.StuckLines.{stuck_line, stuck_seed_line}
@@ -57,3 +58,5 @@ pub record IsReplayAnswer (input : List ℕ) (is_yes : Bool) (text : List ℕ) :
   pub reordered : IsReordering sys tiles reordering
   pub printed : text ≡ reordering_text sys reordering
   pub answer : is_yes ≡ is_whole reordering
+  -- the order that was printed reads back, behind the spelling of the system
+  pub reads_back : (order : List Place) → reordering ≡ Whole order → IsSystemThenPlacements (spelling sys ++ text) sys order

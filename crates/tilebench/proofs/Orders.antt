@@ -1,0 +1,35 @@
+-- What `replay` answers to a text.
+use Rattle.std.proofs.Common.{◌≡◌, ◌∙◌, ◌++◌, [], ℕ, List, None, refl, sym, ap, subst, append-nil}
+use Rattle.atam.specs.declared.place.Place.{Place}
+use Rattle.atam.specs.Placements.{HasDistinctSites}
+use Rattle.atam.specs.TileSystem.{TileSystem, IsValid}
+use Rattle.atam.proofs.Sequences.{IsLegal-distinct}
+use Rattle.seq_text.specs.GrowthLines.{place_lines}
+use Rattle.tilebench.specs.declared.commands.replay.Reordering.{Reordering}
+use Rattle.tilebench.specs.declared.commands.replay.Reordering.TheVariants.{Whole}
+use Rattle.tilebench.specs.Commands.Replay.{IsAssemblyOf, IsReordering, IsReplayAnswer, IsSystemThenPlacements, is_whole, reordering_text}
+use Rattle.tilebench.proofs.Headlines.{valid_system}
+use Rattle.tilebench.proofs.ReadingBack.{placements_back}
+
+-- the reordering of what was read is the answer
+pub replay_answer : (input : List ℕ) (sys : TileSystem) (places tiles : List Place) (reordering : Reordering) → IsSystemThenPlacements input sys places → IsAssemblyOf places tiles →
+    IsReordering sys tiles reordering → IsReplayAnswer input (is_whole reordering) (reordering_text sys reordering)
+replay_answer input sys places tiles reordering read assembly reordered = record {
+  sys = sys;
+  places = places;
+  read = read;
+  tiles = tiles;
+  assembly = assembly;
+  reordering = reordering;
+  reordered = reordered;
+  printed = refl;
+  answer = refl;
+  reads_back = λ order is.
+      let valid : IsValid sys = valid_system input _ read.end sys read.reads in
+      let Reordered : Reordering → Type 0 = IsReordering sys tiles in
+      let whole = subst Reordered is reordered in
+      let distinct : HasDistinctSites order = IsLegal-distinct sys order valid.distinct_seeds whole.legal in
+      let lines = place_lines sys order in
+      placements_back sys valid order None None (reordering_text sys reordering)
+      (record { fits = whole.fits; open_site = tt; told = tt }) distinct (ap (reordering_text sys) is ∙ sym (append-nil (lines ++ []) ∙ append-nil lines));
+}

@@ -1,0 +1,10 @@
+use Rattle.tilebench.proofs.Orders.{replay_answer}
+use Rattle.tilebench.proofs.commands.replay.ReplayRoom.answer.Goals as goal
+
+pub returns : goal.returns
+returns c =
+    let read = c.in_ok-sys.ensures.read in
+    record {
+      answer = replay_answer c.args.input.now c.in_ok-sys.sys read.0 c.in_ok-sys.grid.tiles c.in_ok-reordering.reordering read.1 read.2 c.in_ok-reordering.ensures.reordered;
+      prints = c.in_ok-reordering.ensures.types;
+    }
