@@ -1,5 +1,5 @@
 -- The fields that name a type, and what a `place` line that passed says of its place.
-use Rattle.std.proofs.Common.{◌≡◌, ℕ, ◌<◌, Bool, true, List, length, Option, Ok, refl, sym, subst, arith}
+use Rattle.std.proofs.Common.{◌≡◌, ℕ, ◌<◌, Bool, true, List, length, Ok, sym, subst, arith}
 use Rattle.std.specs.Prelude.{position, bytes_eq}
 use Rattle.std.proofs.lemmas.List.{length-map}
 use Rattle.tile_io.specs.declared.fault.Cause.TheVariants.{OutsideBox, DoubleSite}

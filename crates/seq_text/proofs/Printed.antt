@@ -18,7 +18,6 @@ use Rattle.atam.specs.declared.site.Site.{Site}
 use Rattle.atam.specs.declared.place.TypeId.{TypeId}
 use Rattle.atam.specs.declared.place.Place.{Place}
 use Rattle.atam.specs.Sites.{InBox, IsNearSite}
-use Rattle.atam.specs.Assembly.{Fits}
 use Rattle.atam.specs.Placements.{HasDistinctSites, tile_at}
 use Rattle.atam.specs.TileSystem.{TileSystem, IsValid, IsType, type_name}
 use Rattle.atam.proofs.Placements.{distinct-empty}

@@ -1,5 +1,5 @@
 -- The text of a growth: what each kept line is, and which checks it has to pass. It follows a system text, and names the types of that system.
-use Rattle.std.specs.Prelude.{◌≡◌, ℕ, ◌==◌, Bool, true, false, nat_le, List, [], ◌∷◌, map, filter_map, codes, is_none, Option, Some, None, Result, Ok, Err}
+use Rattle.std.specs.Prelude.{◌≡◌, ℕ, ◌==◌, Bool, true, false, nat_le, List, [], ◌∷◌, map, filter_map, codes, is_none, Option, Some, None, Result, Ok}
 use Rattle.tile_io.specs.declared.fault.Cause.{Cause}
 use Rattle.tile_io.specs.declared.fault.Cause.TheVariants.{OutsideBox, DoubleSite}
 use Rattle.tile_io.specs.declared.mark.Mark.{Mark}

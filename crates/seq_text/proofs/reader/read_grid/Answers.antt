@@ -1,4 +1,4 @@
-use Rattle.std.proofs.Common.{Bool, Some, None, [], List, refl, sym, ap, subst, ◌∙◌}
+use Rattle.std.proofs.Common.{Bool, Some, None, [], List, sym, ap, subst, ◌∙◌}
 use Rattle.atam.specs.declared.place.Place.{Place}
 use Rattle.atam.specs.TileSystem.{TileSystem}
 use Rattle.seq_text.specs.Inner.SoFar.{HoldsLines}

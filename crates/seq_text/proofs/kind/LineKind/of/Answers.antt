@@ -1,4 +1,4 @@
-use Rattle.std.proofs.Common.{◌≡◌, codes, sym, ap, arith}
+use Rattle.std.proofs.Common.{codes, sym, ap, arith}
 use Rattle.std.proofs.lemmas.Slice.Eq.{text_from_reads}
 use Rattle.seq_text.specs.Inner.Kinds.{kind_named}
 use Rattle.seq_text.proofs.kind.LineKind.of.Goals as goal

@@ -1,6 +1,6 @@
-use Rattle.std.proofs.Common.{◌≡◌, Ok, Err, refl, sym, ap, ◌∙◌, rules}
+use Rattle.std.proofs.Common.{◌≡◌, Err, refl, sym, ap, ◌∙◌, rules}
 use Rattle.std.specs.Prelude.{is_some}
-use Rattle.seq_text.specs.GrowthText.{place_fields, place_in, places_of}
+use Rattle.seq_text.specs.GrowthText.{place_fields, place_in}
 use Rattle.seq_text.specs.GrowthText.GrowthItem.{PlaceLine}
 use Rattle.seq_text.proofs.Growths.{holds_place}
 use Rattle.seq_text.proofs.reader.GrowthReader.take_place.Goals as goal
