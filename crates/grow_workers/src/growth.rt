@@ -1,0 +1,73 @@
+// Growth on a table, and a whole growth.
+ghost use Rattle.std.specs.Prelude.{◌≡◌, ◌≤◌, length, IfOk};
+ghost use Rattle.atam.specs.Placements.{SamePlacements};
+ghost use Rattle.site_table.specs.Seats.{IsSeatOf};
+ghost use Rattle.grow_workers.specs.Workers.{OwnsAtLeast, GrewOn, IsGrowth};
+
+use crate::parts::{Harvest, grow_from};
+use assembly::{Grid, put_seeds};
+use site_table::{Grown, SiteSeat, SiteTable};
+use std::alloc::Global;
+use std::thread::Threads;
+use tile_io::Gate;
+use tile_system::{NoMemory, System};
+
+/// Grows with so many workers, from what the seat has seen, each in a thread of its own but worker
+/// 0. The list has what each worker has won. Worker w chooses by PCG's generator of state `choice`
+/// and stream w, and calls the gate once before its first claim; no clause says more of either.
+/// Where memory is wanting the seats are dropped, and the table stays usable.
+pub fn grow_on<R: Threads + Sync, G: Gate>(
+    rt: &R,
+    alloc: Global,
+    sys: &System,
+    table: &SiteTable,
+    seat: SiteSeat,
+    seen: Grid,
+    workers: u32,
+    choice: u64,
+    gate: &G,
+) -> Result<(SiteSeat, Grid, Vec<u32>), NoMemory>
+    requires some { 1 ≤ workers }
+    requires few { workers ≤ 16 }
+    requires numbers { OwnsAtLeast workers seat.scout.owned }
+    requires seat { IsSeatOf table.now seat }
+    requires system { table.now.sys ≡ sys.now }
+    requires area { seen.area ≡ sys.now.area }
+    requires seen { SamePlacements seat.scout.seen seen.tiles }
+    ensures grew { IfOk result (λ r. GrewOn sys.now seat seen r.0 r.1 r.2.items) }
+    ensures count { IfOk result (λ r. length r.2.items ≡ workers) }
+{
+    let _owned = seat.owned();
+    let Harvest {
+        seat,
+        grid,
+        first,
+        others: mut wins,
+    } = grow_from(rt, alloc, sys, table, seat, seen, 1, workers, choice, gate)?;
+    wins.insert(0, first)?;
+    Ok((seat, grid, wins))
+}
+
+/// Grows a system within its box with so many workers.
+pub fn grow<R: Threads + Sync, G: Gate>(
+    rt: &R,
+    alloc: Global,
+    sys: &System,
+    workers: u32,
+    choice: u64,
+    gate: &G,
+) -> Result<Grown, NoMemory>
+    requires some { 1 ≤ workers }
+    requires few { workers ≤ 16 }
+    ensures { IfOk result (IsGrowth sys.now workers) }
+{
+    let mut seen = Grid::make(alloc, sys.area())?;
+    put_seeds(sys, &mut seen);
+    let (table, seat) = SiteTable::make(alloc, sys)?;
+    let (seat, mut grid, _wins) = grow_on(
+        rt, alloc, sys, &table, seat, seen, workers, choice, gate,
+    )?;
+    let _grown = grid.area();
+    grid.clear();
+    Ok(table.close(seat, grid))
+}
