@@ -1,5 +1,5 @@
 -- Workers by their numbers.
-use Rattle.std.proofs.Common.{◌≡◌, ◌≢◌, ◌<◌, ◌≤◌, ◌+◌, ◌-◌, ◌^◌, ◌==◌, ℕ, zero, suc, not, Bool, true, List, [], ◌∷◌, filter, get_or, length, Contains, All, AllPairs, eq-eqb, ne_eqb, refl, sym, ◌∙◌, ap, subst, arith}
+use Rattle.std.proofs.Common.{◌≡◌, ◌≢◌, ◌<◌, ◌≤◌, ◌+◌, ◌-◌, ◌^◌, ◌==◌, ℕ, zero, suc, not, Bool, true, List, [], ◌∷◌, filter, get_or, length, AllPairs, eq-eqb, ne_eqb, refl, sym, ◌∙◌, ap, arith}
 use Rattle.std.proofs.lemmas.Bool.{false≢true}
 use Rattle.std.proofs.lemmas.List.Elements.{All-contains, Contains-get_or}
 use Rattle.std.proofs.lemmas.List.Kept.{AllPairs-filter}

@@ -1,12 +1,12 @@
 -- What workers win, together.
-use Rattle.std.proofs.Common.{◌≡◌, ◌≢◌, ◌⊎◌, ◌<◌, ◌≤◌, ◌+◌, ◌-◌, ◌^◌, ◌==◌, ℕ, zero, suc, not, List, [], ◌∷◌, ◌++◌, filter, length, Contains, All, append-nil, append_assoc, eq-eqb, ne_eqb, bit_or, pow_pos, get_or, sum, length-append, lit≤, true, false, refl, sym, ◌∙◌, ap, subst, inl, inr, arith}
+use Rattle.std.proofs.Common.{◌≡◌, ◌≢◌, ◌<◌, ◌≤◌, ◌+◌, ◌-◌, ◌^◌, ◌==◌, ℕ, zero, suc, not, List, [], ◌∷◌, ◌++◌, length, Contains, All, append-nil, eq-eqb, ne_eqb, bit_or, pow_pos, get_or, sum, length-append, lit≤, true, false, refl, sym, ◌∙◌, ap, subst, inl, inr, arith}
 use Rattle.std.specs.Int.{bit_at}
 use Rattle.std.proofs.lemmas.List.{get_or-map, length-map}
 use Rattle.std.proofs.lemmas.List.Sums.{sum_by-cons}
 use Rattle.std.proofs.Math.Nat.{pow-suc, pow-le-pow_right}
 use Rattle.std.proofs.lemmas.Bool.{false≢true}
 use Rattle.std.proofs.lemmas.Nat.Bits.{bit_at-lt, same_from_bits, bit_at_ones, bit_at_ones_above, bit_at_above}
-use Rattle.std.proofs.lemmas.List.Elements.{filter-append, All-head, All-tail, All-contains, Contains-append_left, Contains-append_cases, Contains-push_cases, All-map}
+use Rattle.std.proofs.lemmas.List.Elements.{filter-append, All-head, All-tail, All-contains, Contains-append_left, Contains-push_cases, All-map}
 use mathlib.Core.Logic.{dite}
 use native.Mathlib.Decide.{ℕ_discrete, dec_lt}
 use Rattle.atam.specs.TileSystem.{TileSystem, IsValid, IsType}
@@ -18,28 +18,22 @@ use Rattle.atam.proofs.Closure.{closure_of_part}
 use Rattle.assembly.specs.Grids.{TileGrid}
 use Rattle.grow_core.specs.declared.placed_tile.PlacedTile.{PlacedTile}
 use Rattle.grow_core.specs.Core.{ScoutState, Owns, least, greatest, OwnsTwoOrMore, places, placed_by, HasDistinctTiles, IsNumbered}
-use Rattle.grow_core.specs.Steps.{IsScoutOf, Supports, kept_tiles, tile_of}
+use Rattle.grow_core.specs.Steps.{IsScoutOf, kept_tiles, tile_of}
 use Rattle.grow_core.proofs.Lists.{filter-passed, filter-from, Contains-here, Contains-nil, map-part, all_pairs_append}
-use Rattle.grow_core.proofs.Numbers.{IsTop, top, greatest-owned, left-owned, left-other, left-owns, alone, owns_itself, both-owned, either-owns, least-owned, least-of_greatest, least-of_rest, by_itself, by_other, by_none, is_equal, some_rest, some_owned, least-is}
+use Rattle.grow_core.proofs.Numbers.{IsTop, top, greatest-owned, left-owned, left-other, left-owns, alone, owns_itself, both-owned, either-owns, least-of_greatest, least-of_rest, by_itself, by_other, by_none, some_rest, some_owned, least-is}
 use Rattle.site_table.specs.Seats.{SeatValue, GoesOn, GrownValue, Closes}
 use Rattle.site_table.specs.Rule.{IsPossible}
 use Rattle.frontier_seat.specs.declared.growing.Growing.{Growing}
 use Rattle.frontier_seat.specs.Growths.{GrowsOn}
 use Rattle.frontier_seat.proofs.Looked.{closed_same}
 use Rattle.atam.proofs.Tiles.{same_back, SamePlacements-trans}
-use Rattle.std.proofs.Math.Nat.{le_trans}
-use Rattle.atam.specs.declared.site.Site.{Site}
-use Rattle.atam.specs.declared.place.TypeId.{TypeId}
-use Rattle.atam.specs.Assembly.{Fits, pull}
-use Rattle.atam.proofs.Bonds.{pull-mono}
-use Rattle.atam.proofs.Opening.{Fits-part}
 use Rattle.atam.proofs.Count.{count_in_part}
-use Rattle.atam.proofs.Placements.{same_place, Extends-IsPartOf}
+use Rattle.atam.proofs.Placements.{same_place}
 use Rattle.grow_core.proofs.Own.{mine_tile}
 use Rattle.grow_core.proofs.Listed.{owned-below, unplaced}
 use Rattle.grow_core.proofs.Stepped.{quiet}
-use Rattle.grow_workers.specs.Inner.Wins.{HasNumbers, Rests, OthersWin, PartedGrowth}
-use Rattle.grow_workers.specs.Workers.{OwnsAtLeast, Gains, WorkersWin, GrewOn, IsGrowth, greatest_but, worker_number}
+use Rattle.grow_workers.specs.Inner.Wins.{HasNumbers, OthersWin, PartedGrowth}
+use Rattle.grow_workers.specs.Workers.{Gains, GrewOn, IsGrowth, greatest_but, worker_number}
 
 -- tiles of one number
 by_all : (n : ℕ) (xs : List PlacedTile) → All (λ t. t.placer ≡ n) xs → placed_by n xs ≡ xs

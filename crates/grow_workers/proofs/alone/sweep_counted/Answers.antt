@@ -1,4 +1,4 @@
-use Rattle.std.proofs.Common.{◌≡◌, ℕ, [], sym, ap, ◌∙◌, subst}
+use Rattle.std.proofs.Common.{◌≡◌, ℕ, [], sym, ap, subst}
 use Rattle.assembly.specs.Grids.{TileGrid}
 use Rattle.site_table.specs.Seats.{SeatValue}
 use Rattle.frontier_seat.specs.declared.growing.Growing.{Growing}

@@ -1,4 +1,4 @@
-use Rattle.std.proofs.Common.{◌≡◌, ◌≤◌, ◌-◌, ◌^◌, subst, sym, arith}
+use Rattle.std.proofs.Common.{subst, sym, arith}
 use Rattle.site_table.specs.Seats.{Closes}
 use Rattle.grow_workers.specs.Workers.{OwnsAtLeast}
 use Rattle.grow_workers.proofs.Numbering.{owns_many}

@@ -1,6 +1,5 @@
-use Rattle.std.proofs.Common.{◌≡◌, ◌+◌, ◌∙◌, ◌∷◌, ℕ, List, if◌then◌else◌, length, subst, sym, ap, arith}
+use Rattle.std.proofs.Common.{◌≡◌, ◌∷◌, ℕ, List, if◌then◌else◌, length, subst, sym, ap, arith}
 use Rattle.std.specs.Result.{is_ok}
-use Rattle.site_table.specs.Rule.{IsPossible}
 use Rattle.grow_workers.specs.declared.parts.Harvest.{Harvest}
 use Rattle.grow_workers.specs.Workers.{WorkersWin}
 use Rattle.grow_workers.proofs.Numbering.{numbers_suffice, workers_win}

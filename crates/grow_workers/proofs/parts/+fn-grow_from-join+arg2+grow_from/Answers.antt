@@ -1,5 +1,4 @@
-use Rattle.std.proofs.Common.{◌≡◌, ◌<◌, List, [], ℕ, ◌∷◌, Result, Ok, IfOk, bit_or, ◌++◌, if◌then◌else◌, length, ◌+◌, ◌-◌, arith, subst, sym, ap, ◌∙◌}
-use Rattle.atam.specs.TileSystem.{TileSystem}
+use Rattle.std.proofs.Common.{◌≡◌, [], ◌∷◌, Result, IfOk, bit_or, ◌++◌, if◌then◌else◌, length, ◌+◌, ◌-◌, arith, subst, sym, ap, ◌∙◌}
 use Rattle.std.specs.Result.{is_ok}
 use Rattle.atam.specs.Placements.{HasDistinctSites}
 use Rattle.grow_core.specs.Steps.{IsScoutOf}
