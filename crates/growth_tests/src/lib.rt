@@ -5,3 +5,5 @@
 mod choosing;
 #[cfg(test)]
 mod table;
+#[cfg(test)]
+mod workers;

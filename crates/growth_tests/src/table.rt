@@ -107,11 +107,13 @@ fn race<R: Threads>(
     let ((first, one), (second, other)) = thread::join(
         rt,
         move || -> (SiteSeat, Option<Claimed>)
-            requires { IsSeatOf table.now first × (table.now.sys ≡ sys.now) × SamePlacements first.scout.seen seen.now.tiles }
+            requires { IsSeatOf table.now first × (table.now.sys ≡ sys.now)
+                × SamePlacements first.scout.seen seen.now.tiles }
             ensures { IsSeatOf table.entry.now result.0 }
         { claim_alone(sys, table, first, seen, TypeId(1)) },
         move || -> (SiteSeat, Option<Claimed>)
-            requires { IsSeatOf table.now second × (table.now.sys ≡ sys.now) × SamePlacements second.scout.seen seen.now.tiles }
+            requires { IsSeatOf table.now second × (table.now.sys ≡ sys.now)
+                × SamePlacements second.scout.seen seen.now.tiles }
             ensures { IsSeatOf table.entry.now result.0 }
         { claim_alone(sys, table, second, seen, TypeId(2)) },
     );
