@@ -12,6 +12,3 @@ pub use commands::{Command, CommandName};
 pub use laws::{law_further_words, law_one_reading, law_plain_words};
 pub use words::command_of;
 pub use words_stop::WordsStop;
-
-#[cfg(test)]
-mod tests;

@@ -28,6 +28,3 @@ pub use placed_tile::PlacedTile;
 use placed_tiles::PlacedTiles;
 use scout::Scout;
 use scouts::Scouts;
-
-#[cfg(test)]
-mod tests;

@@ -4,6 +4,8 @@
 #[cfg(test)]
 mod choosing;
 #[cfg(test)]
+mod scouts;
+#[cfg(test)]
 mod table;
 #[cfg(test)]
 mod workers;

@@ -11,8 +11,6 @@ mod reader;
 mod schedule;
 mod seen;
 mod stuck;
-#[cfg(test)]
-mod tests;
 mod verdict;
 
 pub use closed::print_closed;

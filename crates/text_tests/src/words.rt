@@ -1,5 +1,5 @@
 // What is made of lists of words.
-use crate::{Command, WordsStop, command_of};
+use command_line::{Command, WordsStop, command_of};
 use std::alloc::{AllocError, Global};
 use std::test::Fail;
 

@@ -1,8 +1,9 @@
-use super::*;
+// The text of a system: read, refused, and printed.
 use std::alloc::{AllocError, Global};
 use std::test::Fail;
 use tile_io::{Cause, Mark, MemorySink, TextFault, TextStop};
 use tile_system::{BoxArea, Side, Site, System};
+use tile_text::{print_system, read_system};
 
 // Three types in a row.
 const CHAIN: &[u8] =

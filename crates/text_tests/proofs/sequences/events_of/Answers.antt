@@ -2,7 +2,7 @@ use Rattle.std.proofs.Common.{subst, sym}
 use Rattle.tile_io.specs.NextLine.{IsMark}
 use Rattle.tile_io.proofs.Progress.{start_is_mark, reads_is_mark}
 use Rattle.tile_text.specs.SystemText.{system_format, system_items}
-use Rattle.seq_text.proofs.tests.events_of.Goals as goal
+use Rattle.text_tests.proofs.sequences.events_of.Goals as goal
 
 -- the schedule text begins where the system's text ends
 pub read_events-requires-clause-mark : goal.read_events-requires-clause-mark

@@ -2,7 +2,7 @@
 ghost use Rattle.std.specs.Prelude.{◌≡◌};
 ghost use Rattle.grow_core.specs.Core.{CoreInvariant};
 
-use super::*;
+use grow_core::{Core, CoreStop, Event, Seen};
 use std::alloc::Global;
 use std::test::Fail;
 use tile_system::{BoxArea, BuildStop, GlueId, Place, Placed, Site, System, SystemBuilder, TypeId};

@@ -1,6 +1,7 @@
-use super::*;
+// Growths as text, and the schedules of scouts: read, refused, and printed.
 use assembly::{Grid, Sequence};
 use grow_core::{CoreStop, Event, Seen};
+use seq_text::{print_replies, print_seen, read_events, read_grid, read_sequence};
 use std::alloc::{AllocError, Global};
 use std::test::Fail;
 use tile_io::{Cause, MOST_INPUT, Mark, MemorySink, TextFault, TextStop};
