@@ -1,6 +1,7 @@
 -- The sites of a box, by column and row.
-use Rattle.std.proofs.Common.{◌≡◌, ◌<◌, ℕ, ℤ, pos, ◌+ℤ◌, ◌-ℤ◌, ◌≤ℤ◌, arith, true, nat_abs}
+use Rattle.std.proofs.Common.{◌≡◌, ◌<◌, ℕ, ℤ, pos, ◌+ℤ◌, ◌-ℤ◌, ◌≤ℤ◌, ◌<ℤ◌, arith, Bool, true, nat_abs}
 use Rattle.std.proofs.Common.{ap, Decides, ◌≢◌, ◌⊎◌, false, inl, inr, refl}
+use Rattle.std.specs.Prelude.{int_lt}
 use Rattle.std.specs.Ordering.{int_eq}
 use Rattle.std.proofs.lemmas.Bool.Decides.{Decides-like, Decides-and, Decides-int_eq, not_from_Decides}
 use Rattle.std.proofs.lemmas.Bool.{cases_Bool}
@@ -64,3 +65,26 @@ near_inside area m limits inside = record {
   bottom = omega (arith, ints, limits.corners.bottom, inside.bottom);
   top = omega (arith, ints, limits.corners.top, inside.top);
 }
+
+at_most_or_above : (a b : ℤ) → (a ≤ℤ b) ⊎ (b <ℤ a)
+at_most_or_above a b = by (int_lt b a) refl
+  where
+    by : (t : Bool) → int_lt b a ≡ t → (a ≤ℤ b) ⊎ (b <ℤ a)
+    by true e = inr (omega (arith, ints))
+    by false e = inl (omega (arith, ints))
+
+-- a site is in a box, or it isn't
+pub in_or_out : (area : BoxArea) (m : Site) → InBox area m ⊎ ¬ InBox area m
+in_or_out area m = elim (at_most_or_above area.x0 m.x) [
+  | inr f ↦ inr (λ i. let l = i.left in omega (arith, ints, f, l))
+  | inl left ↦ elim (at_most_or_above m.x area.x1) [
+    | inr f ↦ inr (λ i. let l = i.right in omega (arith, ints, f, l))
+    | inl right ↦ elim (at_most_or_above area.y0 m.y) [
+      | inr f ↦ inr (λ i. let l = i.bottom in omega (arith, ints, f, l))
+      | inl bottom ↦ elim (at_most_or_above m.y area.y1) [
+        | inr f ↦ inr (λ i. let l = i.top in omega (arith, ints, f, l))
+        | inl top ↦ inl (record { left = left; right = right; bottom = bottom; top = top })
+      ]
+    ]
+  ]
+]

@@ -2,7 +2,7 @@
 use Rattle.std.proofs.Common.{◌≡◌, ◌⊎◌, ◌≤◌, ◌-◌, ◌^◌, ◌≤ℤ◌, ◌<ℤ◌, ℤ, ℕ, Bool, true, false, min, List, [], ◌∷◌, ◌++◌, Some, None, Contains, Result, Ok, Err, refl, ◌∙◌, subst, inl, inr, arith, bit_or}
 use Rattle.std.specs.Prelude.{int_lt}
 use Rattle.std.proofs.lemmas.Int.{ints}
-use Rattle.std.proofs.lemmas.List.Elements.{Contains-push_cases, Contains-append_left, Contains-append_cases}
+use Rattle.std.proofs.lemmas.List.Elements.{Contains-push_cases, Contains-append_left, Contains-append_cases, Contains-append_right}
 use mathlib.Core.Logic.{dite}
 use native.Mathlib.Decide.{ℕ_discrete, dec_lt}
 use Rattle.atam.specs.declared.site.Site.{Site}
@@ -13,7 +13,7 @@ use Rattle.atam.specs.Sites.{InBox}
 use Rattle.atam.specs.TileSystem.{TileSystem}
 use Rattle.atam.specs.Placements.{HasDistinctSites, IsPartOf, SamePlacements, tile_at}
 use Rattle.atam.specs.Assembly.{pull}
-use Rattle.atam.proofs.Lists.{some_or_none}
+use Rattle.atam.proofs.Lists.{some_or_none, Contains-here, Contains-there}
 use Rattle.atam.proofs.Placements.{HasDistinctSites-push, same_place, tile_at-Contains, empty_in_part}
 use Rattle.grow_core.specs.declared.placed_tile.PlacedTile.{PlacedTile}
 use Rattle.grow_core.specs.declared.event.Event.{Event}
@@ -25,29 +25,7 @@ use Rattle.grow_core.specs.declared.event.CoreStop.TheVariants.{NoSuchScout, Not
 use Rattle.grow_core.specs.Core.{ScoutState, CoreState, scout_at, least, greatest, places, placed_by, CoreInvariant}
 use Rattle.grow_core.specs.Steps.{CoreStep, IsScoutOf, place, tile_of, kept_tiles, with_scout, with_tile, without_scout, no_such_scout, no_other_scout, same_scout, looks_outside, claims_outside, unsupported, one_number, saw_none, saw_tile, won, held, divided, joined}
 use Rattle.grow_core.proofs.Kept.{extends}
-use Rattle.grow_core.proofs.Lists.{Contains-here, Contains-there, Contains-append_right}
-
-at_most_or_above : (a b : ℤ) → (a ≤ℤ b) ⊎ (b <ℤ a)
-at_most_or_above a b = by (int_lt b a) refl
-  where
-    by : (t : Bool) → int_lt b a ≡ t → (a ≤ℤ b) ⊎ (b <ℤ a)
-    by true e = inr (omega (arith, ints))
-    by false e = inl (omega (arith, ints))
-
-in_or_out : (area : BoxArea) (m : Site) → InBox area m ⊎ ¬ InBox area m
-in_or_out area m = elim (at_most_or_above area.x0 m.x) [
-  | inr f ↦ inr (λ i. let l = i.left in omega (arith, ints, f, l))
-  | inl left ↦ elim (at_most_or_above m.x area.x1) [
-    | inr f ↦ inr (λ i. let l = i.right in omega (arith, ints, f, l))
-    | inl right ↦ elim (at_most_or_above area.y0 m.y) [
-      | inr f ↦ inr (λ i. let l = i.bottom in omega (arith, ints, f, l))
-      | inl bottom ↦ elim (at_most_or_above m.y area.y1) [
-        | inr f ↦ inr (λ i. let l = i.top in omega (arith, ints, f, l))
-        | inl top ↦ inl (record { left = left; right = right; bottom = bottom; top = top })
-      ]
-    ]
-  ]
-]
+use Rattle.atam.proofs.Boxes.{in_or_out}
 
 -- an assembly with the placements of a list
 abbrev Assembled : List Place → Type 0

@@ -2,7 +2,7 @@
 use Rattle.std.proofs.Common.{◌≡◌, ◌≢◌, ◌⊎◌, ◌<◌, ◌-◌, ◌^◌, ℕ, zero, suc, List, [], ◌∷◌, ◌++◌, set, length, Option, Some, None, Contains, refl, sym, ◌∙◌, ap, subst, inl, inr, arith}
 use Rattle.std.proofs.lemmas.Option.{none-some, same_Some}
 use Rattle.std.proofs.lemmas.List.{set-set, set_comm}
-use Rattle.std.proofs.lemmas.List.Elements.{All-contains, Contains-append_cases, Contains-append_left, Contains-push_cases}
+use Rattle.std.proofs.lemmas.List.Elements.{All-contains, Contains-append_cases, Contains-append_left, Contains-push_cases, Contains-append_right}
 use Rattle.std.proofs.lemmas.Nat.Bits.{bit_at_ones, bit_at_above}
 use mathlib.Core.Logic.{dite}
 use native.Mathlib.Decide.{ℕ_discrete, dec_lt}
@@ -12,9 +12,10 @@ use Rattle.atam.specs.TileSystem.{TileSystem}
 use Rattle.grow_core.specs.declared.placed_tile.PlacedTile.{PlacedTile}
 use Rattle.grow_core.specs.Core.{ScoutState, scout_at, Owns, OwnsTwoOrMore, places, IsNumbered, IsHistory, ScoutInvariant, GrowthInvariant}
 use Rattle.grow_core.specs.Steps.{IsKeptPart, IsGivenPart, IsUnion}
-use Rattle.grow_core.proofs.Lists.{Contains-here, Contains-there, Contains-nil, Contains-append_right, Contains-map}
+use Rattle.grow_core.proofs.Lists.{Contains-nil, Contains-map}
 use Rattle.grow_core.proofs.Own.{own_tile}
 use Rattle.grow_core.proofs.Parted.{divided-invariant, joined-invariant}
+use Rattle.atam.proofs.Lists.{Contains-here, Contains-there}
 
 -- scouts of a list are consistent by themselves
 pub fewer : (sys : TileSystem) (log : List PlacedTile) (l m : List (Option ScoutState)) → ((b : ℕ) (u : ScoutState) → scout_at m b ≡ Some u → scout_at l b ≡ Some u) →

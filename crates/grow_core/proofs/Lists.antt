@@ -2,16 +2,7 @@
 use Rattle.std.proofs.Common.{◌≡◌, suc, Bool, true, false, cond, List, [], ◌∷◌, ◌++◌, filter, map, get_or, Contains, AllPairs, refl, ◌∙◌, ap, subst, inl, inr, arith}
 use Rattle.std.proofs.lemmas.List.Elements.{All-filter, All-contains, All-contains_itself, All-append, Contains-get_or, filter_passes, Contains-append_cases, Contains-push_cases}
 use Rattle.std.proofs.lemmas.List.Kept.{AllPairs-cons}
-
-pub Contains-here : {X : Type 0} (x : X) (xs : List X) → Contains (x ∷ xs) x
-Contains-here x xs = (0, omega arith, refl)
-
-pub Contains-there : {X : Type 0} (x y : X) (xs : List X) → Contains xs y → Contains (x ∷ xs) y
-Contains-there x y xs h = let l = h.1 in (suc h.0, omega arith, h.2)
-
-pub Contains-append_right : {X : Type 0} (xs ys : List X) (y : X) → Contains ys y → Contains (xs ++ ys) y
-Contains-append_right [] ys y c = c
-Contains-append_right (x ∷ xs) ys y c = Contains-there x y (xs ++ ys) (Contains-append_right xs ys y c)
+use Rattle.atam.proofs.Lists.{Contains-here, Contains-there}
 
 pub Contains-nil : {X : Type 0} (y : X) → Contains [] y → ⊥
 Contains-nil y c = let l = c.1 in omega arith

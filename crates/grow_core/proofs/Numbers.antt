@@ -9,7 +9,7 @@ use mathlib.Core.Logic.{dite}
 use native.Mathlib.Decide.{ℕ_discrete, dec_lt}
 use Rattle.grow_core.specs.declared.placed_tile.PlacedTile.{PlacedTile}
 use Rattle.grow_core.specs.Core.{Owns, least, greatest, placed_by}
-use Rattle.grow_core.proofs.Lists.{Contains-here, Contains-there}
+use Rattle.atam.proofs.Lists.{Contains-here, Contains-there}
 
 -- where the greatest number stands
 pub record IsTop (owned : ℕ) : Type 0 where

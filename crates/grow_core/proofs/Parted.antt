@@ -3,12 +3,12 @@ use Rattle.std.proofs.Common.{◌≡◌, ◌≢◌, ◌<◌, ◌-◌, ◌^◌, �
 use Rattle.std.proofs.lemmas.Option.{same_Some, none-some}
 use Rattle.std.proofs.lemmas.Bool.{false≢true}
 use Rattle.std.proofs.lemmas.Nat.{or_lt}
-use Rattle.std.proofs.lemmas.List.Elements.{Contains-append_left, Contains-append_cases, filter-append}
+use Rattle.std.proofs.lemmas.List.Elements.{Contains-append_left, Contains-append_cases, filter-append, Contains-append_right}
 use Rattle.atam.specs.TileSystem.{TileSystem}
 use Rattle.grow_core.specs.declared.placed_tile.PlacedTile.{PlacedTile}
 use Rattle.grow_core.specs.Core.{ScoutState, scout_at, Owns, least, greatest, OwnsTwoOrMore, placed_by, HasDistinctTiles, ScoutInvariant, GrowthInvariant}
 use Rattle.grow_core.specs.Steps.{kept_tiles, IsKeptPart, IsGivenPart, IsUnion}
-use Rattle.grow_core.proofs.Lists.{Contains-append_right, filter-from, filter-passed, all_pairs_append}
+use Rattle.grow_core.proofs.Lists.{filter-from, filter-passed, all_pairs_append}
 use Rattle.std.proofs.lemmas.List.Kept.{AllPairs-filter}
 use Rattle.grow_core.proofs.Own.{same_tile, mine_tile}
 use Rattle.grow_core.proofs.Named.{named_after}

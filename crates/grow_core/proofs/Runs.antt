@@ -1,7 +1,7 @@
 -- Runs of the same events from the start come to the same replies and tiles.
 use Rattle.std.proofs.Common.{◌≡◌, ◌≢◌, ◌-◌, ◌^◌, ℕ, zero, suc, min, List, [], ◌∷◌, ◌++◌, set, map, replicate, Option, Some, None, Result, Ok, Err, refl, sym, ◌∙◌, ap, subst, inl, inr, arith, bit_or}
 use Rattle.std.proofs.lemmas.Option.{none-some, same_Some}
-use Rattle.std.proofs.lemmas.List.Elements.{Contains-append_left, Contains-append_cases}
+use Rattle.std.proofs.lemmas.List.Elements.{Contains-append_left, Contains-append_cases, Contains-append_right}
 use Rattle.atam.specs.declared.site.Site.{Site}
 use Rattle.atam.specs.declared.place.TypeId.{TypeId}
 use Rattle.atam.specs.declared.place.Place.{Place}
@@ -21,7 +21,6 @@ use Rattle.grow_core.specs.declared.event.CoreStop.TheVariants.{NoMemory, NotSup
 use Rattle.grow_core.specs.Core.{ScoutState, CoreState, scout_at, least, greatest, OwnsTwoOrMore, places, placed_by}
 use Rattle.grow_core.specs.Steps.{place, IsScoutOf, Sees, Wins, IsKeptPart, IsGivenPart, IsUnion, IsStart, HasScout, Supports, won_tile, kept_tiles, with_scout, with_tile, without_scout, actor, CoreStep, CoreRun, no_such_scout, no_other_scout, same_scout, looks_outside, claims_outside, unsupported, one_number, no_memory, saw_none, saw_tile, won, held, divided, joined, stopped, stepped}
 use Rattle.grow_core.specs.RunLaws.{HasMemory}
-use Rattle.grow_core.proofs.Lists.{Contains-append_right}
 use Rattle.grow_core.proofs.Assembled.{same_seen}
 use Rattle.grow_core.proofs.Stepped.{refused-same}
 use Rattle.grow_core.proofs.Unique.{one_reply}

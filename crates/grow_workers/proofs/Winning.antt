@@ -19,7 +19,7 @@ use Rattle.assembly.specs.Grids.{TileGrid}
 use Rattle.grow_core.specs.declared.placed_tile.PlacedTile.{PlacedTile}
 use Rattle.grow_core.specs.Core.{ScoutState, Owns, least, greatest, OwnsTwoOrMore, places, placed_by, HasDistinctTiles, IsNumbered}
 use Rattle.grow_core.specs.Steps.{IsScoutOf, kept_tiles, tile_of}
-use Rattle.grow_core.proofs.Lists.{filter-passed, filter-from, Contains-here, Contains-nil, map-part, all_pairs_append}
+use Rattle.grow_core.proofs.Lists.{filter-passed, filter-from, Contains-nil, map-part, all_pairs_append}
 use Rattle.grow_core.proofs.Numbers.{IsTop, top, greatest-owned, left-owned, left-other, left-owns, alone, owns_itself, both-owned, either-owns, least-of_greatest, least-of_rest, by_itself, by_other, by_none, some_rest, some_owned, least-is}
 use Rattle.site_table.specs.Seats.{SeatValue, GoesOn, GrownValue, Closes}
 use Rattle.site_table.specs.Rule.{IsPossible}
@@ -34,6 +34,7 @@ use Rattle.grow_core.proofs.Listed.{owned-below, unplaced}
 use Rattle.grow_core.proofs.Stepped.{quiet}
 use Rattle.grow_workers.specs.Inner.Wins.{HasNumbers, OthersWin, PartedGrowth}
 use Rattle.grow_workers.specs.Workers.{Gains, GrewOn, IsGrowth, greatest_but, worker_number}
+use Rattle.atam.proofs.Lists.{Contains-here}
 
 -- tiles of one number
 by_all : (n : ℕ) (xs : List PlacedTile) → All (λ t. t.placer ≡ n) xs → placed_by n xs ≡ xs

@@ -9,7 +9,7 @@ use std::test::Fail;
 use std::thread::Threads;
 use tile_io::{Gate, OpenGate};
 use tile_system::{NoMemory, Placed, Site, System};
-use worked_systems::{COUNTER, FULL, system};
+use worked_systems::{FULL, SMALL_COUNTER, system};
 
 // A worker waits for the other for so many loads at most.
 const MOST_LOADS: u64 = 1_000_000_000;
@@ -44,7 +44,7 @@ fn is_same_growth<R: Threads + Sync>(
 
 #[test]
 fn any_workers_grow_the_counter(rt: HostRuntime) -> Result<(), Fail> {
-    let sys = system(rt.alloc(), COUNTER)?;
+    let sys = system(rt.alloc(), SMALL_COUNTER)?;
     let grown = grow(&rt, rt.alloc(), &sys, 1, 0, &OpenGate)?;
     let first = grown.grid();
     assert_eq!(rt; first.count(), 16);

@@ -3,7 +3,7 @@ use crate::run::{Case, run_cases};
 use std::test::Fail;
 use tilebench::Status;
 use worked_systems::{
-    CHAIN, COUNTER, FLIPPER, FULL, LIMITS, MISMATCH, NULL_GLUES, RIVALS, SINGLE, SQUARE,
+    CHAIN, FLIPPER, FULL, LIMITS, MISMATCH, NULL_GLUES, RIVALS, SINGLE, SMALL_COUNTER, SQUARE,
 };
 
 const GROWN: [Case; 10] = [
@@ -68,7 +68,7 @@ const GROWN: [Case; 10] = [
     },
     Case {
         words: &["grow"],
-        system: COUNTER,
+        system: SMALL_COUNTER,
         behind: "",
         status: Status::Done,
         out: "place 0 0 t:0\nplace 1 0 t:1\nplace 1 1 ie:0\nplace 0 1 iw:00\nplace 0 2 cw:0\n\

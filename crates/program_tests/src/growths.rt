@@ -4,7 +4,7 @@ use std::alloc::Global;
 use std::test::Fail;
 use std::thread::Threads;
 use tilebench::Status;
-use worked_systems::{CHAIN, COUNTER, FULL, MISMATCH, RIVALS, SIERPINSKI};
+use worked_systems::{CHAIN, FULL, MISMATCH, RIVALS, SIERPINSKI, SMALL_COUNTER};
 
 // Each choice takes one of two rivals, and both are taken.
 #[test]
@@ -33,9 +33,9 @@ fn takes_one_of_two_rivals(rt: HostRuntime) -> Result<(), Fail> {
 #[test]
 fn prints_the_same_at_every_choice(rt: HostRuntime) -> Result<(), Fail> {
     let alloc = rt.alloc();
-    let without = answered(&rt, alloc, &["grow"], COUNTER)?;
+    let without = answered(&rt, alloc, &["grow"], SMALL_COUNTER)?;
     for choice in ["0", "1", "18446744073709551615"] {
-        let ran = answered(&rt, alloc, &["grow", "--choice", choice], COUNTER)?;
+        let ran = answered(&rt, alloc, &["grow", "--choice", choice], SMALL_COUNTER)?;
         assert_eq!(rt; ran.status, Status::Done, "{choice}");
         assert_eq!(rt; ran.out.as_slice(), without.out.as_slice(), "{choice}");
     }
@@ -57,7 +57,7 @@ fn behind<R: Threads + Sync>(
 // What `grow` prints is accepted behind its own system text, and put in order as it is.
 #[test]
 fn reads_what_it_prints(rt: HostRuntime) -> Result<(), Fail> {
-    for system in [CHAIN, RIVALS, SIERPINSKI, MISMATCH, COUNTER, FULL] {
+    for system in [CHAIN, RIVALS, SIERPINSKI, MISMATCH, SMALL_COUNTER, FULL] {
         let alloc = rt.alloc();
         let grown = answered(&rt, alloc, &["grow"], system)?;
         let Ok(growth) = str::from_utf8(&grown.out) else {

@@ -4,7 +4,7 @@ use Rattle.std.proofs.lemmas.Option.{same_Some, none-some}
 use Rattle.std.proofs.lemmas.Bool.{false≢true}
 use Rattle.std.proofs.lemmas.List.{map-set}
 use Rattle.std.proofs.lemmas.List.Kept.{AllPairs-filter}
-use Rattle.std.proofs.lemmas.List.Elements.{Contains-push, Contains-push_cases, Contains-append_left, Contains-append_cases}
+use Rattle.std.proofs.lemmas.List.Elements.{Contains-push, Contains-push_cases, Contains-append_left, Contains-append_cases, Contains-append_right}
 use Rattle.std.specs.Option.{option_map_or}
 use mathlib.Core.Option.{some, some-injective, some-ne-none}
 use mathlib.Core.List.{map-append}
@@ -20,7 +20,7 @@ use Rattle.atam.proofs.Placements.{tile_at-Contains, Contains-tile_at, HasDistin
 use Rattle.grow_core.specs.declared.placed_tile.PlacedTile.{PlacedTile}
 use Rattle.grow_core.specs.Core.{ScoutState, scout_at}
 use Rattle.grow_core.specs.Steps.{place, IsScoutOf}
-use Rattle.grow_core.proofs.Lists.{Contains-append_right, filter-from, filter-passed, filter-has, all_pairs_append}
+use Rattle.grow_core.proofs.Lists.{filter-from, filter-passed, filter-has, all_pairs_append}
 use Rattle.grow_core.proofs.Assembled.{same_seen}
 use Rattle.site_table.specs.declared.view.SeatView.{SeatView}
 use Rattle.site_table.specs.Views.{scout_of, IsLive, live_scout, scouts_of, has_place, seen_together, spent_view}

@@ -7,11 +7,6 @@ use Rattle.tile_io.specs.declared.fault.Cause.TheVariants.{BadLine, OutOfOrder, 
 use Rattle.tile_io.specs.Checks.{◌>>=◌, require, Keyword, check_keyword, keyword_of, last_of}
 
 module _ {Item : Type 0} where
-  -- the keyword of a line is that of its first word
-  pub by_first : (keywords : List (Keyword Item)) (words : List (List ℕ)) (word : List ℕ) → slice_get words 0 ≡ Some word → keyword_of keywords words ≡ find (λ row. bytes_eq word row.word) keywords
-  by_first keywords [] word at = absurd (none-some word at)
-  by_first keywords (a ∷ rest) word at = ap (λ w. find (λ row. bytes_eq w row.word) keywords) (same_Some a word at)
-
   get_last : (items : List Item) (item : Item) → slice_get (items ++ item ∷ []) (length items) ≡ Some item
   get_last [] item = refl
   get_last (first ∷ items) item = get_last items item

@@ -39,7 +39,7 @@ pub const MISMATCH: &str =
     tile T - n u w\ntile R - - q m\nbox 0 0 2 1\nseed 0 0 S\nend\n";
 
 /// A counter of two bits, from 0.
-pub const COUNTER: &str =
+pub const SMALL_COUNTER: &str =
     "tiles 1\ntau 2\nglue w0 1\nglue w1 1\nglue v0 1\nglue v1 1\nglue e0 2\nglue e1 2\n\
     glue x0 1\nglue x1 1\nglue c0 1\nglue c1 1\nglue t0 2\nglue t1 2\nglue k 1\n\
     glue p:1 2\ntile t:0 w0 p:1 - -\ntile t:1 e0 - - p:1\ntile ie:0 x1 - e0 c0\n\
