@@ -113,7 +113,7 @@ impl<'a> LineReader for GrowthReader<'a> {
         kind.may_stand(self.last)
     }
 
-    fn has_room(&self, kind: LineKind) -> bool {
+    fn has_room(&self, kind: LineKind, _words: &LineWords) -> bool {
         match kind {
             LineKind::Place | LineKind::Closed | LineKind::Unique => true,
         }

@@ -85,7 +85,7 @@ impl<'a> LineReader for ScheduleReader<'a> {
         }
     }
 
-    fn has_room(&self, kind: Action) -> bool {
+    fn has_room(&self, kind: Action, _words: &LineWords) -> bool {
         match kind {
             Action::Look | Action::Claim | Action::Split | Action::Join => true,
         }

@@ -1,5 +1,5 @@
 // The kept lines of a text, one after another.
-ghost use Rattle.std.specs.Prelude.{◌≡◌, ◌≤◌, ℕ, List, [], length, find, bytes_eq, option_map};
+ghost use Rattle.std.specs.Prelude.{◌≡◌, ◌≤◌, List, [], true, length, find, bytes_eq, option_map};
 ghost use Rattle.tile_io.specs.Lines.{words_of, lines_from, mark_after};
 ghost use Rattle.tile_io.specs.NextLine.{IsMark};
 ghost use Rattle.tile_io.specs.Formats.{ReadsOrStops};
@@ -70,9 +70,10 @@ pub trait LineReader {
             result ≡ (row (context self.now) kind).may_follow (last_of items) };
 
     /// Whether the limit of its kind leaves room for a line of this keyword.
-    fn has_room(&self, kind: Self::Kind) -> bool
-        ensures { (items : List Item) (words : List (List ℕ)) → holds self.now items →
-            result ≡ (row (context self.now) kind).has_room items words };
+    fn has_room(&self, kind: Self::Kind, words: &LineWords) -> bool
+        requires { (row (context self.now) kind).has_words (length words.now) ≡ true }
+        ensures { (items : List Item) → holds self.now items →
+            result ≡ (row (context self.now) kind).has_room items words.now };
 
     /// Takes the fields of a line of this keyword, and tells whether it is the text's own end line.
     fn take_fields(&mut self, kind: Self::Kind, words: &LineWords) -> Result<bool, LineStop>
@@ -107,7 +108,7 @@ pub trait LineReader {
         if !self.may_stand(kind) {
             return Err(LineStop::Fault(Cause::OutOfOrder));
         }
-        if !self.has_room(kind) {
+        if !self.has_room(kind, words) {
             return Err(LineStop::Fault(Cause::TooMany));
         }
         self.take_fields(kind, words)

@@ -6,15 +6,8 @@ use Rattle.std.proofs.Common.{arith}
 use Rattle.atam.specs.declared.area.BoxArea.{BoxArea}
 use Rattle.atam.specs.declared.site.Site.{Site}
 use Rattle.atam.specs.Sites.{InBox, IsBox}
+use Rattle.tile_io.proofs.PassedFields.{and_both}
 use Rattle.tile_text.specs.SystemText.{is_box, is_in_box}
-
-pub and_both : (a b : Bool) → (a && b) ≡ true → (a ≡ true) × (b ≡ true)
-and_both true b e = (refl, e)
-and_both false b e = absurd (cc e)
-
-pub not_true : (b : Bool) → not b ≡ true → b ≡ false
-not_true true e = absurd (cc e)
-not_true false e = refl
 
 pub z_le : (a b : ℤ) → int_le a b ≡ true → a ≤ℤ b
 z_le a b e = grind (arith, ints)

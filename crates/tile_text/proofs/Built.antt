@@ -8,6 +8,7 @@ use Rattle.std.proofs.lemmas.List.Elements.{filter_map-append}
 use Rattle.std.proofs.lemmas.Iterator.Adapters.{position_from-zero}
 use Rattle.tile_io.specs.Checks.{last_of}
 use Rattle.tile_io.proofs.Checking.{last_push}
+use Rattle.tile_io.proofs.PassedFields.{is_some-position}
 use Rattle.atam.specs.declared.area.BoxArea.{BoxArea}
 use Rattle.atam.specs.declared.place.Place.{Place}
 use Rattle.atam.specs.TileSystem.{Glue, TileType}
@@ -28,17 +29,6 @@ position_map f p xs =
     let place : position_or_len p (map f xs) ≡ position_or_len (λ x. p (f x)) xs = place_map f p xs in
     let size : length (map f xs) ≡ length xs = length-map xs f in
     ap (λ n. cond (nat_lt n (length (map f xs))) (Some n) None) place ∙ ap (λ n. cond (nat_lt (position_or_len (λ x. p (f x)) xs) n) (Some (position_or_len (λ x. p (f x)) xs)) None) size
-
-found_by : (b : Bool) (i : ℕ) (rest : Option ℕ) (any : Bool) → is_some rest ≡ any → is_some (cond b (Some i) rest) ≡ (b || any)
-found_by true i rest any e = refl
-found_by false i rest any e = e
-
-found_any : {X : Type 0} (p : X → Bool) (i : ℕ) (xs : List X) → is_some (position_from p i xs) ≡ list_any p xs
-found_any p i [] = refl
-found_any p i (x ∷ xs) = found_by (p x) i (position_from p (i + 1) xs) (list_any p xs) (found_any p (i + 1) xs)
-
-pub is_some-position : {X : Type 0} (p : X → Bool) (xs : List X) → is_some (position p xs) ≡ list_any p xs
-is_some-position p xs = ap is_some (position_from-zero p xs) ∙ found_any p 0 xs
 
 is_some-map : {X Y : Type 0} (f : X → Y) (o : Option X) → is_some (option_map f o) ≡ is_some o
 is_some-map f None = refl

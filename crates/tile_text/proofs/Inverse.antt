@@ -7,6 +7,7 @@ use Rattle.std.proofs.lemmas.List.Quantifiers.{position-Some}
 use Rattle.tile_io.specs.declared.fault.Cause.{Cause}
 use Rattle.tile_io.specs.declared.fault.Cause.TheVariants.{BadName, DoubleName, UnknownName, OutOfRange, BadNumber, SeedOutside, NoHeader}
 use Rattle.tile_io.proofs.Checking.{bind_ok, require_ok}
+use Rattle.tile_io.proofs.PassedFields.{number_ok, count_ok, referred_ok, declared_ok}
 use Rattle.tile_io.specs.Checks.{◌>>=◌, require, field, number_in, in_range, number_value, are_digits, without_minus, count_in, declared, referred, coordinate}
 use Rattle.atam.specs.declared.place.GlueId.{GlueId}
 use Rattle.atam.specs.declared.place.TypeId.{TypeId}
@@ -18,35 +19,7 @@ use Rattle.atam.specs.TileSystem.{Glue, TileType, is_name}
 use Rattle.tile_text.specs.Fields.{site_field, box_field, type_field, place_field}
 use Rattle.tile_text.specs.SystemText.{SystemItem, glue_names, type_names, header_fields, tau_fields, glue_fields, tile_fields, box_fields, seed_fields, side, side_unless, is_box, is_inside, box_before}
 use Rattle.tile_text.specs.SystemText.SystemItem.{Header, TauLine, GlueLine, TileLine, BoxLine, SeedLine}
-use Rattle.tile_text.proofs.Boxes.{and_both, not_true, z_le, IsGiven, IsGivenBox, box_is}
-
-range_by : (b : Bool) (n m : ℤ) → cond b (Ok n) (Err OutOfRange) ≡ Ok m → (b ≡ true) × (n ≡ m)
-range_by true n m e = (refl, cc e)
-range_by false n m e = absurd (cc e)
-
--- a number that was read is in its range
-number_ok : (least most : ℤ) (word : List ℕ) (n : ℤ) → number_in least most word ≡ Ok n → (int_le least n ≡ true) × (int_le n most ≡ true)
-unfolding number_in
-number_ok least most word n e =
-    let first = bind_ok (require (are_digits (without_minus word)) BadNumber) (λ _. in_range least most (number_value word)) n e in
-    let ranged = range_by (int_le least (number_value word) && int_le (number_value word) most) (number_value word) n first.2 in
-    let both = and_both (int_le least (number_value word)) (int_le (number_value word) most) ranged.0 in
-    let Low : ℤ → Type 0 = λ z. int_le least z ≡ true in
-    let High : ℤ → Type 0 = λ z. int_le z most ≡ true in
-    (subst Low ranged.1 both.0, subst High ranged.1 both.1)
-
-count_by : (least most : ℕ) (z : ℤ) → int_le (pos least) z ≡ true → int_le z (pos most) ≡ true → (least ≤ nat_abs z) × (nat_abs z ≤ most)
-count_by least most (pos n) low high = (leb-true least n low, leb-true n most high)
-count_by least most (negsuc n) low high = absurd (cc low)
-
-count_ok : (least most : ℕ) (word : List ℕ) (n : ℕ) → count_in least most word ≡ Ok n → (least ≤ n) × (n ≤ most)
-count_ok least most word n e =
-    let first = bind_ok (number_in (pos least) (pos most) word) (λ z. Ok (nat_abs z)) n e in
-    let ranged = number_ok (pos least) (pos most) word first.0 first.1 in
-    let counted = count_by least most first.0 ranged.0 ranged.1 in
-    let same : nat_abs first.0 ≡ n = cc (first.2) in
-    let Between : ℕ → Type 0 = λ m. (least ≤ m) × (m ≤ most) in
-    subst Between same counted
+use Rattle.tile_text.proofs.Boxes.{z_le, IsGiven, IsGivenBox, box_is}
 
 -- a site, a type and a place that were read
 pub site_ok : (column row : List ℕ) (m : Site) → site_field column row ≡ Ok m → IsGiven m
@@ -71,16 +44,6 @@ box_field_ok left bottom right top area e =
     let same : made one.0 two.0 ≡ area = cc (two.2) in
     subst IsGivenBox same (record { left = low.left; right = high.right; bottom = low.bottom; top = high.top })
 
-found_by : (o : Option ℕ) (n : ℕ) → ok_or o UnknownName ≡ Ok n → o ≡ Some n
-found_by None n e = absurd (cc e)
-found_by (Some m) n e = let same : m ≡ n = cc e in ap (λ k. Some k) same
-
--- an index that a name refers to is in range
-pub referred_ok : (names : List (List ℕ)) (word : List ℕ) (n : ℕ) → referred is_name names word ≡ Ok n → n < length names
-referred_ok names word n e =
-    let first = bind_ok (require (is_name word) BadName) (λ _. ok_or (position (bytes_eq word) names) UnknownName) n e in
-    (position-Some (bytes_eq word) names n [] (found_by (position (bytes_eq word) names) n first.2)).0
-
 type_ok : (names : List (List ℕ)) (word : List ℕ) (t : TypeId) → type_field names word ≡ Ok t → t.0 < length names
 unfolding type_field
 type_ok names word t e =
@@ -88,7 +51,7 @@ type_ok names word t e =
     let one = bind_ok (referred is_name names word) (λ n. Ok (made n)) t e in
     let same : made one.0 ≡ t = cc (one.2) in
     let Below : TypeId → Type 0 = λ u. u.0 < length names in
-    subst Below same (referred_ok names word one.0 one.1)
+    subst Below same (referred_ok is_name names word one.0 one.1)
 
 pub place_ok : (names : List (List ℕ)) (column row word : List ℕ) (p : Place) → place_field names column row word ≡ Ok p → IsGiven p.site × (p.tile.0 < length names)
 unfolding place_field
@@ -100,22 +63,13 @@ place_ok names column row word p e =
     let Good : Place → Type 0 = λ q. IsGiven q.site × (q.tile.0 < length names) in
     subst Good same (site_ok column row one.0 one.1, type_ok names word two.0 two.1)
 
--- a name that was declared is a name and a new one
-declared_ok : (names : List (List ℕ)) (word new : List ℕ) → declared is_name names word ≡ Ok new → (is_name new ≡ true) × (list_any (bytes_eq new) names ≡ false)
-declared_ok names word new e =
-    let first = bind_ok (require (is_name word) BadName) (λ _. require (not (list_any (bytes_eq word) names)) DoubleName >>= (λ _. Ok word)) new e in
-    let second = bind_ok (require (not (list_any (bytes_eq word) names)) DoubleName) (λ _. Ok word) new first.2 in
-    let same : word ≡ new = cc (second.2) in
-    let Good : List ℕ → Type 0 = λ w. (is_name w ≡ true) × (list_any (bytes_eq w) names ≡ false) in
-    subst Good same (require_ok (is_name word) BadName first.0 first.1, not_true (list_any (bytes_eq word) names) (require_ok (not (list_any (bytes_eq word) names)) DoubleName second.0 second.1))
-
 side_by : (b : Bool) (earlier : List SystemItem) (word : List ℕ) (g : Option GlueId) → side_unless b earlier word ≡ Ok g → IfSome g (λ g. g.0 < length (glue_names earlier))
 side_by true earlier word None e = tt
 side_by true earlier word (Some g) e = absurd (cc e)
 side_by false earlier word None e = tt
 side_by false earlier word (Some g) e =
     let first = bind_ok (referred is_name (glue_names earlier) word) (λ n. Ok (Some (record { 0 = n }))) (Some g) e in
-    let below : first.0 < length (glue_names earlier) = referred_ok (glue_names earlier) word first.0 first.1 in
+    let below : first.0 < length (glue_names earlier) = referred_ok is_name (glue_names earlier) word first.0 first.1 in
     let index : Result (Option GlueId) Cause → ℕ = λ r. elim r [ Ok o ↦ elim o [ Some g ↦ g.0 | None ↦ 0 ] | Err cause ↦ 0 ] in
     let same : first.0 ≡ g.0 = ap index first.2 in
     let Below : ℕ → Type 0 = λ n. n < length (glue_names earlier) in
@@ -141,7 +95,7 @@ module _ (earlier : List SystemItem) (words : List (List ℕ)) (item : SystemIte
   glue_ok e =
       let one = bind_ok (declared is_name (glue_names earlier) (field words 1)) (λ new. count_in 0 250 (field words 2) >>= (λ n. Ok (GlueLine (record { name = new; strength = n })))) item e in
       let two = bind_ok (count_in 0 250 (field words 2)) (λ n. Ok (GlueLine (record { name = one.0; strength = n }))) item one.2 in
-      let new = declared_ok (glue_names earlier) (field words 1) one.0 one.1 in
+      let new = declared_ok is_name (glue_names earlier) (field words 1) one.0 one.1 in
       (record { name = one.0; strength = two.0 }, cc (two.2), new.0, new.1, (count_ok 0 250 (field words 2) two.0 two.1).1)
 
   pub tile_ok : tile_fields earlier words ≡ Ok item → (t : TileType) × (TileLine t ≡ item) × (is_name t.name ≡ true) × (list_any (bytes_eq t.name) (type_names earlier) ≡ false)
@@ -155,7 +109,7 @@ module _ (earlier : List SystemItem) (words : List (List ℕ)) (item : SystemIte
       let three = bind_ok (side earlier (field words 3)) (λ e. side earlier (field words 4) >>= (λ s. side earlier (field words 5) >>= (λ w. Ok (TileLine (made one.0 two.0 e s w))))) item two.2 in
       let four = bind_ok (side earlier (field words 4)) (λ s. side earlier (field words 5) >>= (λ w. Ok (TileLine (made one.0 two.0 three.0 s w)))) item three.2 in
       let five = bind_ok (side earlier (field words 5)) (λ w. Ok (TileLine (made one.0 two.0 three.0 four.0 w))) item four.2 in
-      let new = declared_ok (type_names earlier) (field words 1) one.0 one.1 in
+      let new = declared_ok is_name (type_names earlier) (field words 1) one.0 one.1 in
       (made one.0 two.0 three.0 four.0 five.0, cc (five.2), new.0, new.1, side_ok earlier (field words 2) two.0 two.1, side_ok earlier (field words 3) three.0 three.1, side_ok earlier (field words 4) four.0 four.1, side_ok earlier (field words 5) five.0 five.1)
 
   pub box_ok : box_fields earlier words ≡ Ok item → (area : BoxArea) × (BoxLine area ≡ item) × IsBox area

@@ -14,6 +14,6 @@ returns-clause-taken g c = λ items held.
     let some : 0 < length words = omega (arith, c.len.ensures) in
     let found = c.in-Some.ensures ∙ ap (λ w. find (λ row. bytes_eq w row.word) table.keywords) c.word.ensures in
     let count = ap row.has_words (sym c.len-2.ensures) ∙ sym c.has_words.ensures ∙ c.if-not-has_words.false in
-    let line = check_line_by table.keywords row items words some found count (sym (c.may_stand.ensures items held) ∙ c.if-not-may_stand.false) (sym (c.has_room.ensures items words held) ∙ c.if-not-has_room.false) in
+    let line = check_line_by table.keywords row items words some found count (sym (c.may_stand.ensures items held) ∙ c.if-not-may_stand.false) (sym (c.has_room.ensures items held) ∙ c.if-not-has_room.false) in
     let Taken : Result g.Self.LineReader.Item Cause → Type 0 = λ check. TakesItem table.is_end (g.Self.LineReader.holds c.take_fields.new.self) items check c.take_fields.result in
     subst Taken (sym line) (c.take_fields.ensures.taken items held)
