@@ -11,6 +11,7 @@ ghost use Rattle.seq_text.specs.Inner.SoFar.{HasScratch};
 
 use crate::kind::LineKind;
 use assembly::{Grid, Sequence};
+use atam::MOST_TYPES;
 use std::alloc::Global;
 use tile_io::{Cause, LineReader, LineStop, LineWords, MOST_INPUT, Mark, TextStop, read_text};
 use tile_system::{NoMemory, Place, Placed, Site, System};
@@ -165,7 +166,7 @@ impl<'a> GrowthReader<'a> {
         ensures place { result
             ≡ place_in (is_some self.now.scratch) self.now.system.now self.now.places words.now }
         ensures inside { IfOk result (λ p. InBox self.now.system.now.area p.site) }
-        ensures small { IfOk result (λ p. p.tile.0 < 16384) }
+        ensures small { IfOk result (λ p. p.tile.0 < MOST_TYPES) }
         ensures free { IfOk result (λ p.
             may_stand (is_some self.now.scratch) self.now.places p.site ≡ true) }
     {
@@ -196,7 +197,7 @@ impl<'a> GrowthReader<'a> {
     fn hold(&mut self, place: Place) -> Result<(), NoMemory>
         requires grid { HasScratch self.old.system.now self.old.places self.old.scratch }
         requires inside { InBox self.old.system.now.area place.site }
-        requires small { place.tile.0 < 16384 }
+        requires small { place.tile.0 < MOST_TYPES }
         requires free { may_stand (is_some self.old.scratch) self.old.places place.site ≡ true }
         ensures added { OnOk result (self.new.places ≡ self.old.places ++ place ∷ []) }
         ensures last { OnOk result (self.new.last ≡ Some LineKind.Place) }

@@ -5,6 +5,7 @@ use Rattle.tile_io.specs.declared.fault.Cause.TheVariants.{NoHeader, OutOfRange,
 use Rattle.tile_io.specs.declared.mark.Mark.{Mark}
 use Rattle.tile_io.specs.Formats.{Format, Reads}
 use Rattle.tile_io.specs.Checks.{◌>>=◌, require, field, count_in, declared, referred, last_of, Keyword, Table, table_format}
+use Rattle.atam.specs.declared.limits.TheConstants.{MOST_GLUES, MOST_STRENGTH, MOST_TAU, MOST_TYPES}
 use Rattle.atam.specs.declared.site.Site.{Site}
 use Rattle.atam.specs.declared.place.GlueId.{GlueId}
 use Rattle.atam.specs.declared.place.Place.{Place}
@@ -78,13 +79,13 @@ header_fields earlier words = do
 
 unfoldable pub tau_fields : List SystemItem → List (List ℕ) → Result SystemItem Cause
 tau_fields earlier words = do
-  n ← count_in 1 1000 (field words 1)
+  n ← count_in 1 MOST_TAU (field words 1)
   Ok (TauLine n)
 
 unfoldable pub glue_fields : List SystemItem → List (List ℕ) → Result SystemItem Cause
 glue_fields earlier words = do
   name ← declared is_name (glue_names earlier) (field words 1)
-  n ← count_in 0 250 (field words 2)
+  n ← count_in 0 MOST_STRENGTH (field words 2)
   Ok (GlueLine (record { name = name; strength = n }))
 
 unfoldable pub tile_fields : List SystemItem → List (List ℕ) → Result SystemItem Cause
@@ -142,10 +143,10 @@ abbrev pub always_room : List SystemItem → List (List ℕ) → Bool
 always_room earlier words = true
 
 abbrev pub glue_room : List SystemItem → List (List ℕ) → Bool
-glue_room earlier words = nat_lt (length (glue_names earlier)) 8192
+glue_room earlier words = nat_lt (length (glue_names earlier)) MOST_GLUES
 
 abbrev pub tile_room : List SystemItem → List (List ℕ) → Bool
-tile_room earlier words = nat_lt (length (type_names earlier)) 16384
+tile_room earlier words = nat_lt (length (type_names earlier)) MOST_TYPES
 
 -- the rows of the table: word, number of words, what it may stand after, limit, fields
 abbrev pub keyword : List ℕ → ℕ → (Option SystemItem → Bool) → (List SystemItem → List (List ℕ) → Bool) → (List SystemItem → List (List ℕ) → Result SystemItem Cause) → Keyword SystemItem

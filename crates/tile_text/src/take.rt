@@ -7,6 +7,7 @@ ghost use Rattle.tile_text.specs.Inner.SoFar.{IsBuiltOf, Gets};
 
 use crate::fields::{read_box, read_name, read_new_name, read_place};
 use crate::kind::LineKind;
+use atam::{MOST_GLUES, MOST_STRENGTH, MOST_TAU, MOST_TYPES};
 use tile_io::{Cause, LineStop, LineWords, is_word, read_count};
 use tile_system::{BoxArea, GlueId, Site, SystemBuilder};
 
@@ -53,7 +54,7 @@ fn take_tau(builder: &mut SystemBuilder, words: &LineWords) -> Result<(), LineSt
     ensures { (items : List SystemItem) → IsBuiltOf builder.old items →
         Gets LineKind.Tau (tau_fields items words.now) builder.old builder.new result }
 {
-    let tau = read_count(words.word(1), 1, 1000)?;
+    let tau = read_count(words.word(1), 1, MOST_TAU)?;
     builder.set_tau(tau);
     Ok(())
 }
@@ -62,13 +63,13 @@ fn take_tau(builder: &mut SystemBuilder, words: &LineWords) -> Result<(), LineSt
 #[tactic(auto, unfolding(crate::specs::SystemText::glue_fields))]
 fn take_glue(builder: &mut SystemBuilder, words: &LineWords) -> Result<(), LineStop>
     requires words { length words.now ≡ 3 }
-    requires room { length builder.old.glues < 8192 }
+    requires room { length builder.old.glues < MOST_GLUES }
     ensures { (items : List SystemItem) → IsBuiltOf builder.old items →
         Gets LineKind.Glue (glue_fields items words.now) builder.old builder.new result }
 {
     let name = words.word(1);
     read_new_name(name, builder.find_glue(name).is_some())?;
-    let strength = read_count(words.word(2), 0, 250)?;
+    let strength = read_count(words.word(2), 0, MOST_STRENGTH)?;
     match builder.push_glue(name, strength) {
         Ok(_) => Ok(()),
         Err(_) => Err(LineStop::NoMemory),
@@ -79,7 +80,7 @@ fn take_glue(builder: &mut SystemBuilder, words: &LineWords) -> Result<(), LineS
 #[tactic(auto, unfolding(crate::specs::SystemText::tile_fields))]
 fn take_tile(builder: &mut SystemBuilder, words: &LineWords) -> Result<(), LineStop>
     requires words { length words.now ≡ 6 }
-    requires room { length builder.old.types < 16384 }
+    requires room { length builder.old.types < MOST_TYPES }
     ensures { (items : List SystemItem) → IsBuiltOf builder.old items →
         Gets LineKind.Tile (tile_fields items words.now) builder.old builder.new result }
 {
