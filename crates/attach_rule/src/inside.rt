@@ -5,25 +5,35 @@ ghost use Rattle.atam.specs.Assembly.{Fits};
 ghost use Rattle.atam.specs.Growth.{IsClosedInBox, IsLeastOpenAmong};
 ghost use Rattle.attach_rule.specs.Inner.Searches.{row_at};
 
-use crate::first_type;
+use crate::{EachType, TypeFinder};
 use tile_system::{BoxArea, Placed, Site, System, TypeId};
 
 // The site, if it is open, with the first type that attaches there.
-pub(crate) fn open_at<P: Placed>(sys: &System, placed: &P, site: Site) -> Option<(Site, TypeId)>
+pub(crate) fn open_at<F: TypeFinder, P: Placed>(
+    finder: &F,
+    sys: &System,
+    placed: &P,
+    site: Site,
+) -> Option<(Site, TypeId)>
+    requires system { F.serves finder.now sys.now }
     requires near { IsNearSite site }
     requires fits { Fits sys.now (P.placements placed.now) }
     ensures { IsLeastOpenAmong sys.now (P.placements placed.now) (λ m. m ≡ site) result }
 {
-    first_type(sys, placed, site).map(|tile| (site, tile))
+    finder
+        .first_type(sys, placed, site)
+        .map(|tile| (site, tile))
 }
 
 // The least open site in the columns of the box, in a row of the box or beside it.
-pub(crate) fn least_in_row<P: Placed>(
+pub(crate) fn least_in_row<F: TypeFinder, P: Placed>(
+    finder: &F,
     sys: &System,
     placed: &P,
     area: &BoxArea,
     y: i32,
 ) -> Option<(Site, TypeId)>
+    requires system { F.serves finder.now sys.now }
     requires corners { HasCorners area.now }
     requires bottom { (area.now.y0 -ℤ pos 1) ≤ℤ y }
     requires top { y ≤ℤ (area.now.y1 +ℤ pos 1) }
@@ -36,7 +46,26 @@ pub(crate) fn least_in_row<P: Placed>(
             x: area.x0 + column as i32,
             y,
         };
-        if let Some(found) = open_at(sys, placed, site) {
+        if let Some(found) = open_at(finder, sys, placed, site) {
+            return Some(found);
+        }
+    }
+    None
+}
+
+/// The same as `least_open_inside`, by this finder.
+pub fn least_open_inside_by<F: TypeFinder, P: Placed>(
+    finder: &F,
+    sys: &System,
+    placed: &P,
+) -> Option<(Site, TypeId)>
+    requires system { F.serves finder.now sys.now }
+    requires fits { Fits sys.now (P.placements placed.now) }
+    ensures { IsLeastOpenAmong sys.now (P.placements placed.now) (InBox sys.now.area) result }
+{
+    let area = sys.area();
+    for row in 0..area.height() {
+        if let Some(found) = least_in_row(finder, sys, placed, &area, area.y0 + row as i32) {
             return Some(found);
         }
     }
@@ -48,13 +77,7 @@ pub fn least_open_inside<P: Placed>(sys: &System, placed: &P) -> Option<(Site, T
     requires { Fits sys.now (P.placements placed.now) }
     ensures { IsLeastOpenAmong sys.now (P.placements placed.now) (InBox sys.now.area) result }
 {
-    let area = sys.area();
-    for row in 0..area.height() {
-        if let Some(found) = least_in_row(sys, placed, &area, area.y0 + row as i32) {
-            return Some(found);
-        }
-    }
-    None
+    least_open_inside_by(&EachType, sys, placed)
 }
 
 /// Whether no type attaches at any site of the box.

@@ -47,14 +47,15 @@ impl TypeList {
         self.types[i as usize]
     }
 
-    pub(crate) fn clear(&mut self)
+    pub fn clear(&mut self)
         ensures empty { self.new.types ≡ [] }
         ensures room { self.new.room ≡ self.old.room }
     {
         self.types.clear();
     }
 
-    pub(crate) fn push(&mut self, tile: TypeId)
+    /// There is room for one type more.
+    pub fn push(&mut self, tile: TypeId)
         requires room { length self.old.types < self.old.room }
         requires small { length self.old.types + 1 < 2 ^ 32 }
         ensures types { self.new.types ≡ self.old.types ++ tile ∷ [] }

@@ -4,7 +4,7 @@ use Rattle.atam.specs.declared.area.BoxArea.{BoxArea}
 use Rattle.atam.specs.Sites.{InBox}
 use Rattle.atam.specs.Growth.{IsLeastOpenAmong}
 use Rattle.attach_rule.proofs.Searched.{row_none, row_found}
-use Rattle.attach_rule.proofs.inside.least_open_inside.Goals as goal
+use Rattle.attach_rule.proofs.inside.least_open_inside_by.Goals as goal
 
 pub returns-in-Some : goal.returns-in-Some
 returns-in-Some g c =
