@@ -1,13 +1,40 @@
 -- Laws of the model, over every system and all lists of placements.
-use Rattle.std.specs.Prelude.{◌≡◌, ◌≤◌, ◌↔◌, List, Option, None, All, Contains}
+use Rattle.std.specs.Prelude.{◌≡◌, ◌≤◌, ◌*◌, ◌↔◌, ℕ, List, Option, Some, None, All, Contains, length, take}
+use Rattle.atam.specs.declared.site.Side.{Side}
 use Rattle.atam.specs.declared.site.Site.{Site}
+use Rattle.atam.specs.declared.place.GlueId.{GlueId}
 use Rattle.atam.specs.declared.place.TypeId.{TypeId}
 use Rattle.atam.specs.declared.place.Place.{Place}
+use Rattle.atam.specs.declared.area.BoxArea.{BoxArea}
+use Rattle.atam.specs.Sites.{InBox, neighbor, width_of, height_of}
 use Rattle.atam.specs.TileSystem.{TileSystem, IsType}
 use Rattle.atam.specs.Placements.{HasDistinctSites, IsPartOf, SamePlacements, tile_at}
-use Rattle.atam.specs.Assembly.{pull, Attaches}
+use Rattle.atam.specs.Assembly.{interaction, pull, Attaches}
 use Rattle.atam.specs.Growth.{IsLegal, IsProducible, IsLeastOpen, IsLeastOpenOutside}
 use Rattle.atam.specs.Canonical.{IsCanonical, LeavesNothing}
+
+-- two sides interact alike, whichever is named first
+abbrev pub InteractionIsSymmetric : Type 0
+InteractionIsSymmetric = (sys : TileSystem) (a b : Option GlueId) → interaction sys a b ≡ interaction sys b a
+
+-- a type attaches only beside a tile
+abbrev pub AttachesBesideTile : Type 0
+AttachesBesideTile = (sys : TileSystem) (tiles : List Place) (m : Site) (t : TypeId) → 1 ≤ sys.tau →
+    Attaches sys tiles m t → (d : Side) × (u : TypeId) × (tile_at tiles (neighbor m d) ≡ Some u)
+
+-- a box holds no more tiles than it has sites
+abbrev pub HoldsOneTileEachSite : Type 0
+HoldsOneTileEachSite = (area : BoxArea) (tiles : List Place) → HasDistinctSites tiles →
+    All (λ p. InBox area p.site) tiles → length tiles ≤ width_of area * height_of area
+
+-- a legal sequence is an assembly that holds the seeds
+abbrev pub LegalIsAssembly : Type 0
+LegalIsAssembly = (sys : TileSystem) (s : List Place) → HasDistinctSites sys.seeds → IsLegal sys s →
+    HasDistinctSites s × IsPartOf sys.seeds s
+
+-- each of its beginnings that has the seeds is legal
+abbrev pub LegalBeginsLegally : Type 0
+LegalBeginsLegally = (sys : TileSystem) (s : List Place) (n : ℕ) → length sys.seeds ≤ n → IsLegal sys s → IsLegal sys (take n s)
 
 -- pulls never fall as tiles are added
 abbrev pub PullsNeverFall : Type 0

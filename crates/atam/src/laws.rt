@@ -1,5 +1,22 @@
 // Laws of the model, each as the contract of a function that does nothing.
-ghost use Rattle.atam.specs.Laws.{PullsNeverFall, AttachmentLasts, ClosedPartIsWhole, HasCanonicalSequence, HasOneCanonicalSequence, ProducesInCanonicalOrder, IsProducibleWhereNothingIsLeft, HasOneLeastOpenSite, HasOneLeastOpenSiteOutside};
+ghost use Rattle.atam.specs.Laws.{InteractionIsSymmetric, AttachesBesideTile, HoldsOneTileEachSite, LegalIsAssembly, LegalBeginsLegally, PullsNeverFall, AttachmentLasts, ClosedPartIsWhole, HasCanonicalSequence, HasOneCanonicalSequence, ProducesInCanonicalOrder, IsProducibleWhereNothingIsLeft, HasOneLeastOpenSite, HasOneLeastOpenSiteOutside};
+
+/// Tiles are held by their neighbours alone.
+pub fn law_neighbors()
+    ensures symmetric { InteractionIsSymmetric }
+    ensures beside { AttachesBesideTile }
+{}
+
+/// A box holds at most one tile at each of its sites.
+pub fn law_box()
+    ensures { HoldsOneTileEachSite }
+{}
+
+/// A legal sequence is an assembly, and begins legally.
+pub fn law_legal()
+    ensures assembly { LegalIsAssembly }
+    ensures beginnings { LegalBeginsLegally }
+{}
 
 /// Attachment is monotone.
 pub fn law_monotone()
