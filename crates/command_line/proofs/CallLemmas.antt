@@ -1,20 +1,20 @@
 -- What the words of a command call for.
-use Rattle.std.proofs.Common.{◌≡◌, ◌∙◌, ap, ap₂, sym, subst, true, false, true≢false, List, [], ◌∷◌, ℕ, refl, inl, inr, Option, Some, codes, decimal, unwrap_or}
+use Rattle.std.proofs.Common.{◌≡◌, ◌∙◌, ap, ap₂, sym, subst, true, false, true≢false, List, [], ◌∷◌, ℕ, refl, inl, inr, Option, Some, codes, unwrap_or}
 use Rattle.clap.specs.Matches.{found_of}
 use Rattle.clap.specs.Words.{App, Text, fault_of, takes}
 use Rattle.clap.specs.declared.parser.matches.ArgMatches.{ArgMatches}
 use Rattle.clap.proofs.OnLiterals.{clap_on_literals}
 use Rattle.command_line.specs.declared.commands.Command.{Command}
-use Rattle.command_line.specs.declared.commands.Command.TheVariants.{Grow, Check, Replay, Schedule, Format}
+use Rattle.command_line.specs.declared.commands.Command.TheVariants.{Grow, Race, Check, Replay, Schedule, Format}
 use Rattle.command_line.specs.declared.commands.CommandName.{CommandName}
 use Rattle.command_line.specs.declared.commands.CommandName.TheVariants as name
 use Rattle.command_line.specs.declared.words_stop.WordsStop.{WordsStop}
 use Rattle.command_line.specs.declared.words_stop.WordsStop.TheVariants.{NoCommand, Usage, NoMemory}
-use Rattle.command_line.specs.Commands.{IsCallOf, IsTaken, IsUsage, Spells, command_app, command_named, command_word, name_of, options_of, values_of}
+use Rattle.command_line.specs.Commands.{IsCallOf, IsTaken, IsUsage, Spells, SpellsGrowing, command_app, command_named, command_word, name_of, options_of, values_of}
 use Rattle.command_line.specs.Numbers.{NumberOption, StatesValues}
 use Rattle.command_line.specs.Inner.Found.{HasValues, IsExact}
 use Rattle.command_line.proofs.OptionLemmas.{number_stated, states_once}
-use Rattle.command_line.proofs.TakenLemmas.{choice_stated, choice_taken, decimal_text, none_stated}
+use Rattle.command_line.proofs.TakenLemmas.{growing_spelled}
 
 -- what an exact parse finds for the options is what clap states
 values_stated : (app : App) (words : List Text) (found : ArgMatches) (options : List NumberOption) (values : List ℕ) → IsExact app words (found_of found)
@@ -49,8 +49,10 @@ values_once app words (option ∷ options) (value ∷ values) (value_too ∷ val
 
 -- the command of a name with these values
 made : CommandName → List ℕ → Command
-made name.Grow [] = Grow 0
-made name.Grow (choice ∷ values) = Grow choice
+made name.Grow (workers ∷ choice ∷ values) = Grow workers choice
+made name.Grow _ = Grow 0 0
+made name.Race (workers ∷ choice ∷ values) = Race workers choice
+made name.Race _ = Race 0 0
 made name.Check values = Check
 made name.Replay values = Replay
 made name.Schedule values = Schedule
@@ -58,7 +60,8 @@ made name.Format values = Format
 
 made_again : (command : Command) → made (name_of command) (values_of command) ≡ command
 unfolding made
-made_again (Grow choice) = refl
+made_again (Grow workers choice) = refl
+made_again (Race workers choice) = refl
 made_again _ = refl
 
 -- a name that two names of a list are
@@ -103,29 +106,44 @@ taken_stops words name Usage is other untaken named taken =
 
 word_named : (name : CommandName) → command_named (command_word name ∷ []) ≡ Some name
 word_named name.Grow = refl
+word_named name.Race = refl
 word_named _ = refl
 
 word_taken : (name : CommandName) → takes (command_app name) (command_word name ∷ []) ≡ true
 unfolding command_app clap_on_literals
 word_taken name.Grow = refl
+word_taken name.Race = refl
 word_taken _ = refl
 
 -- each command takes its word alone
 pub alone_taken : (name : CommandName) → IsTaken (command_word name ∷ []) name
 alone_taken name = record { named = word_named name; taken = word_taken name }
 
+-- the first word of such words
+spelled_named : (name : Text) (words : List Text) (workers choice : ℕ) (n : CommandName) → command_named (name ∷ []) ≡ Some n → SpellsGrowing name words workers choice
+    → command_named words ≡ Some n
+spelled_named name words workers choice n named is = elim is.order [
+  | inl e ↦ rw e named
+  | inr e ↦ rw e named
+]
+
 pub spelled_taken : (words : List Text) (command : Command) → Spells words command → IsTaken words (name_of command)
 unfolding command_app
-spelled_taken words (Grow choice) (fits, inl is) = rw is.0 (alone_taken name.Grow)
-spelled_taken words (Grow choice) (fits, inr is) =
-    rw is (record { named = refl; taken = choice_taken (codes "grow") (decimal choice) choice fits (decimal_text choice fits) })
+spelled_taken words (Grow workers choice) is = record {
+  named = spelled_named (codes "grow") words workers choice name.Grow refl is;
+  taken = (growing_spelled (codes "grow") words workers choice is).taken;
+}
+spelled_taken words (Race workers choice) is = record {
+  named = spelled_named (codes "race") words workers choice name.Race refl is;
+  taken = (growing_spelled (codes "race") words workers choice is).taken;
+}
 spelled_taken words command is = rw is (alone_taken (name_of command))
 
 spelled_stated : (words : List Text) (command : Command) → Spells words command
     → StatesValues (command_app (name_of command)) words (options_of (name_of command)) (values_of command)
 unfolding command_app
-spelled_stated words (Grow choice) (fits, inl is) = rw (is.0, is.1) (none_stated (codes "grow"), tt)
-spelled_stated words (Grow choice) (fits, inr is) = rw is (choice_stated (codes "grow") (decimal choice) choice fits (decimal_text choice fits), tt)
+spelled_stated words (Grow workers choice) is = let stated = (growing_spelled (codes "grow") words workers choice is).stated in (stated.0, (stated.1, tt))
+spelled_stated words (Race workers choice) is = let stated = (growing_spelled (codes "race") words workers choice is).stated in (stated.0, (stated.1, tt))
 spelled_stated words _ is = tt
 
 -- they call for no other command

@@ -1,16 +1,16 @@
 -- What a parse of each command finds.
-use Rattle.std.proofs.Common.{◌≡◌, ◌∙◌, ap, true, ℕ, List, [], ◌∷◌, refl, arith, suc}
+use Rattle.std.proofs.Common.{◌≡◌, ◌∙◌, ap, true, ℕ, List, [], ◌∷◌, refl, arith, suc, codes}
 use Rattle.clap.specs.Built.{IsParsedFrom}
 use Rattle.clap.specs.Matches.{found_of}
 use Rattle.clap.specs.Simple.{App, HasMatchesOf, app_of, is_simple, matches_of}
-use Rattle.clap.specs.Words.{Text, is_simple_and_free}
+use Rattle.clap.specs.Words.{Text, is_simple_and_free, with_rule}
 use Rattle.clap.specs.declared.builder.command.Command.{Command}
 use Rattle.clap.specs.declared.parser.matches.ArgMatches.{ArgMatches}
 use Rattle.clap.proofs.WalkLemmas.{both}
 use Rattle.command_line.specs.declared.commands.CommandName.{CommandName}
-use Rattle.command_line.specs.declared.commands.CommandName.TheVariants.{Grow}
-use Rattle.command_line.specs.Commands.{command_app, options_of}
-use Rattle.command_line.specs.Numbers.{NumberOption}
+use Rattle.command_line.specs.declared.commands.CommandName.TheVariants.{Grow, Race}
+use Rattle.command_line.specs.Commands.{choice_option, command_app, options_of, plain_app, workers_option}
+use Rattle.command_line.specs.Numbers.{NumberOption, number_rule}
 use Rattle.command_line.specs.Inner.Found.{FindsOptions, IsExact}
 use Rattle.command_line.proofs.OptionLemmas.{HasNumberOption, option_found}
 
@@ -18,6 +18,7 @@ use Rattle.command_line.proofs.OptionLemmas.{HasNumberOption, option_found}
 pub app_simple : (name : CommandName) → is_simple_and_free (command_app name) ≡ true
 unfolding command_app
 app_simple Grow = refl
+app_simple Race = refl
 app_simple _ = refl
 
 -- the command has the options, from a place on
@@ -25,9 +26,16 @@ abbrev HasOptions : App → ℕ → List NumberOption → Type 0
 HasOptions app place [] = Unit {0}
 HasOptions app place (option ∷ options) = HasNumberOption app place option × HasOptions app (suc place) options
 
+growing_options : (name : Text) → HasOptions (with_rule (with_rule (plain_app name) (number_rule workers_option)) (number_rule choice_option)) 0 (workers_option ∷ choice_option ∷ [])
+growing_options name = (
+  record { simple = refl; free = refl; below = omega arith; at = λ other. refl; only = refl; own = refl },
+  (record { simple = refl; free = refl; below = omega arith; at = λ other. refl; only = refl; own = refl }, tt),
+)
+
 has_options : (name : CommandName) → HasOptions (command_app name) 0 (options_of name)
 unfolding command_app
-has_options Grow = (record { simple = refl; free = refl; below = omega arith; at = λ other. refl; only = refl; own = refl }, tt)
+has_options Grow = growing_options (codes "grow")
+has_options Race = growing_options (codes "race")
 has_options _ = tt
 
 -- a parse finds a number for each option of the command

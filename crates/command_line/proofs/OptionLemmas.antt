@@ -143,6 +143,13 @@ number_read E G least most id m r (text, at, passed) reads only fits =
     let got = unsigned_reads E G 64 least most text r (reads text at) only fits passed in
     (number_of_text text, got.0, (text, at, refl), got.1, got.2)
 
+-- a number that a parse found is in each range that it found one in
+pub found_in_range : (id : Text) (m : ArgMatches) (least most n : ℕ) → FindsInRange (found_of m) id least most → FindsNumber (found_of m) id n → (least ≤ n) × (n ≤ most)
+unfolding FindsInRange FindsNumber
+found_in_range id m least most n (text, at, passed) (other, at_other, is) =
+    let same : text ≡ other = ap (λ (o : Option Text). unwrap_or o text) (sym at ∙ at_other) in
+    rw (is, ← same) (passed.2, passed.3)
+
 -- the number that an exact parse found is the one that clap states for the words
 pub number_stated : (app : App) (words : List Text) (id : Text) (m : ArgMatches) (n : ℕ)
     → IsExact app words (found_of m) → FindsNumber (found_of m) id n → States app words id n

@@ -1,11 +1,11 @@
 -- The commands, and the words of a command line that call for them.
-use Rattle.std.specs.Prelude.{◌≡◌, ◌≢◌, ◌⊎◌, ◌<◌, ◌^◌, ◌-◌, ℕ, true, false, List, [], ◌∷◌, fold, Option, Some, None, Result, Err, IsOk, codes, decimal, bytes_eq, find}
+use Rattle.std.specs.Prelude.{◌≡◌, ◌≢◌, ◌⊎◌, ◌<◌, ◌≤◌, ◌^◌, ◌-◌, ◌++◌, ℕ, true, false, List, [], ◌∷◌, fold, Option, Some, None, Result, Err, IsOk, codes, decimal, bytes_eq, find}
 use Rattle.clap.specs.Words.{App, Text, fault_of, new_app, takes, with_rule}
 use Rattle.clap.specs.Simple.{on_top}
 use Rattle.clap.specs.declared.error.kind.ErrorKind.{ErrorKind}
 use Rattle.clap.specs.declared.error.kind.ErrorKind.TheVariants.{OutOfMemory}
 use Rattle.command_line.specs.declared.commands.Command.{Command}
-use Rattle.command_line.specs.declared.commands.Command.TheVariants.{Grow, Check, Replay, Schedule, Format}
+use Rattle.command_line.specs.declared.commands.Command.TheVariants.{Grow, Race, Check, Replay, Schedule, Format}
 use Rattle.command_line.specs.declared.commands.CommandName.{CommandName}
 use Rattle.command_line.specs.declared.commands.CommandName.TheVariants as name
 use Rattle.command_line.specs.declared.words_stop.WordsStop.{WordsStop}
@@ -17,6 +17,7 @@ use Rattle.command_line.specs.Numbers.{NumberOption, StatesValues, number_rule}
 -- the word that names a command
 abbrev pub command_word : CommandName → Text
 command_word name.Grow = codes "grow"
+command_word name.Race = codes "race"
 command_word name.Check = codes "check"
 command_word name.Replay = codes "replay"
 command_word name.Schedule = codes "schedule"
@@ -24,7 +25,11 @@ command_word name.Format = codes "format"
 
 -- all commands
 abbrev pub command_names : List CommandName
-command_names = name.Grow ∷ name.Check ∷ name.Replay ∷ name.Schedule ∷ name.Format ∷ []
+command_names = name.Grow ∷ name.Race ∷ name.Check ∷ name.Replay ∷ name.Schedule ∷ name.Format ∷ []
+
+-- `--workers N`, where N is 1 to 16, 1 if it is left out
+abbrev pub workers_option : NumberOption
+workers_option = record { id = codes "workers"; default = codes "1"; least = 1; most = 16 }
 
 -- `--choice N`, where N is a `u64`, 0 if it is left out
 abbrev pub choice_option : NumberOption
@@ -32,12 +37,14 @@ choice_option = record { id = codes "choice"; default = codes "0"; least = 0; mo
 
 -- the options of a command
 abbrev pub options_of : CommandName → List NumberOption
-options_of name.Grow = choice_option ∷ []
+options_of name.Grow = workers_option ∷ choice_option ∷ []
+options_of name.Race = workers_option ∷ choice_option ∷ []
 options_of _ = []
 
 -- the name of a command
 abbrev pub name_of : Command → CommandName
-name_of (Grow choice) = name.Grow
+name_of (Grow workers choice) = name.Grow
+name_of (Race workers choice) = name.Race
 name_of Check = name.Check
 name_of Replay = name.Replay
 name_of Schedule = name.Schedule
@@ -45,7 +52,8 @@ name_of Format = name.Format
 
 -- the values of its options, in their order
 abbrev pub values_of : Command → List ℕ
-values_of (Grow choice) = choice ∷ []
+values_of (Grow workers choice) = workers ∷ choice ∷ []
+values_of (Race workers choice) = workers ∷ choice ∷ []
 values_of _ = []
 
 -- ---- what words call for
@@ -89,11 +97,25 @@ pub record IsUsage (words : List Text) : Type 0 where
 abbrev pub IsTakenUnlessMemory : List Text → Result Command WordsStop → Type 0
 IsTakenUnlessMemory words result = (name : CommandName) → IsTaken words name → IsOk result ⊎ (result ≡ Err NoMemory)
 
--- The plainest words for a command: an option is left out where it has its default, or given once, with its number
--- in decimal digits without leading zeros.
+-- an option is left out where it has its default, or given once, with its number in decimal digits without leading zeros
+abbrev pub SpellsOption : Text → ℕ → ℕ → List Text → Type 0
+SpellsOption word default number given = ((given ≡ []) × (number ≡ default)) ⊎ (given ≡ word ∷ decimal number ∷ [])
+
+-- the plainest words for a command with `--workers N` and `--choice N`: its word, and the two options in either order
+pub record SpellsGrowing (name : Text) (words : List Text) (workers choice : ℕ) : Type 0 where
+  pub some : 1 ≤ workers
+  pub few : workers ≤ 16
+  pub fits : choice < 2 ^ 64
+  pub workers_given : List Text
+  pub spells_workers : SpellsOption (codes "--workers") 1 workers workers_given
+  pub choice_given : List Text
+  pub spells_choice : SpellsOption (codes "--choice") 0 choice choice_given
+  pub order : (words ≡ name ∷ workers_given ++ choice_given) ⊎ (words ≡ name ∷ choice_given ++ workers_given)
+
+-- the plainest words for a command
 abbrev pub Spells : List Text → Command → Type 0
-Spells words (Grow choice) = (choice < 2 ^ 64) × (((words ≡ codes "grow" ∷ []) × (choice ≡ 0))
-    ⊎ (words ≡ codes "grow" ∷ codes "--choice" ∷ decimal choice ∷ []))
+Spells words (Grow workers choice) = SpellsGrowing (codes "grow") words workers choice
+Spells words (Race workers choice) = SpellsGrowing (codes "race") words workers choice
 Spells words command = words ≡ command_word (name_of command) ∷ []
 
 -- ---- refusals

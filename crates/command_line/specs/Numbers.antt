@@ -1,5 +1,5 @@
 -- Options that take a number, and what clap states for them.
-use Rattle.std.specs.Prelude.{◌≡◌, ℕ, List, [], ◌∷◌, Some}
+use Rattle.std.specs.Prelude.{◌≡◌, ◌≤◌, ℕ, List, [], ◌∷◌, Some}
 use Rattle.std.specs.Str.Parse.{digits_value, without_leading_plus}
 use Rattle.clap.specs.Words.{App, Rule, Text, matches_of, new_rule, one_of}
 use Rattle.clap.specs.declared.builder.action.ArgAction.TheVariants.{Set}
@@ -11,6 +11,12 @@ pub record NumberOption : Type 0 where
   pub default : Text
   pub least : ℕ
   pub most : ℕ
+
+-- these numbers are within the ranges of these options, in their order
+abbrev pub AreInRange : List NumberOption → List ℕ → Type 0
+AreInRange [] values = Unit {0}
+AreInRange (option ∷ options) [] = Unit {0}
+AreInRange (option ∷ options) (value ∷ values) = (option.least ≤ value) × (value ≤ option.most) × AreInRange options values
 
 -- the option, as clap reads it
 abbrev pub number_rule : NumberOption → Rule

@@ -1,9 +1,9 @@
 // The table of commands: their words, their options, and what a parse makes of them.
-ghost use Rattle.std.specs.Prelude.{◌≡◌, false, IfOk};
+ghost use Rattle.std.specs.Prelude.{◌≡◌, ◌≤◌, false, codes, IfOk};
 ghost use Rattle.clap.specs.Words.{app_of, found_of, rule_of};
-ghost use Rattle.command_line.specs.Commands.{choice_option, command_app, command_named_by, command_word, name_of, options_of, plain_app, values_of};
-ghost use Rattle.command_line.specs.Numbers.{number_rule};
-ghost use Rattle.command_line.specs.Inner.Found.{FindsOptions, HasValues};
+ghost use Rattle.command_line.specs.Commands.{choice_option, command_app, command_named_by, command_word, name_of, options_of, plain_app, values_of, workers_option};
+ghost use Rattle.command_line.specs.Numbers.{AreInRange, number_rule};
+ghost use Rattle.command_line.specs.Inner.Found.{FindsInRange, FindsNumber, FindsOptions, HasValues};
 
 use crate::option::{number_of, number_option};
 use clap::{Arg, ArgMatches};
@@ -12,7 +12,10 @@ use std::alloc::{AllocError, Global};
 /// A command of the program, with what its options say.
 #[derive(Clone, Copy, Debug, PartialEq, Eq)]
 pub enum Command {
-    Grow { choice: u64 },
+    /// `workers` is 1 to 16; `choice` is any number.
+    Grow { workers: u32, choice: u64 },
+    /// The same as of `Grow`.
+    Race { workers: u32, choice: u64 },
     Check,
     Replay,
     Schedule,
@@ -23,19 +26,25 @@ pub enum Command {
 #[derive(Clone, Copy, Debug, PartialEq, Eq)]
 pub enum CommandName {
     Grow,
+    Race,
     Check,
     Replay,
     Schedule,
     Format,
 }
 
-const NAMES: [CommandName; 5] = [
+const NAMES: [CommandName; 6] = [
     CommandName::Grow,
+    CommandName::Race,
     CommandName::Check,
     CommandName::Replay,
     CommandName::Schedule,
     CommandName::Format,
 ];
+
+const WORKERS: &str = "workers";
+
+const MOST_WORKERS: u64 = 16;
 
 const CHOICE: &str = "choice";
 
@@ -46,6 +55,7 @@ impl CommandName {
     {
         match self {
             CommandName::Grow => "grow",
+            CommandName::Race => "race",
             CommandName::Check => "check",
             CommandName::Replay => "replay",
             CommandName::Schedule => "schedule",
@@ -68,7 +78,9 @@ pub fn clap_command<'a>(alloc: Global, name: CommandName) -> Result<clap::Comman
 {
     let word: &'a str = name.word();
     match name {
-        CommandName::Grow => plain_command(alloc, word).arg(choice_option(alloc)),
+        CommandName::Grow | CommandName::Race => plain_command(alloc, word)
+            .arg(workers_option(alloc))?
+            .arg(choice_option(alloc)),
         _ => Ok(plain_command(alloc, word)),
     }
 }
@@ -78,9 +90,15 @@ pub fn command_found(name: CommandName, found: &ArgMatches) -> Command
     requires { FindsOptions (options_of name) (found_of found.now) }
     ensures name { name_of result ≡ name }
     ensures values { HasValues (options_of name) (values_of result) (found_of found.now) }
+    ensures range { AreInRange (options_of name) (values_of result) }
 {
     match name {
         CommandName::Grow => Command::Grow {
+            workers: workers_found(found),
+            choice: number_of(found, CHOICE),
+        },
+        CommandName::Race => Command::Race {
+            workers: workers_found(found),
             choice: number_of(found, CHOICE),
         },
         CommandName::Check => Command::Check,
@@ -97,10 +115,28 @@ fn plain_command(alloc: Global, name: &str) -> clap::Command<'_>
     clap::Command::new(alloc, name).disable_help_flag(true)
 }
 
+// The option `--workers N`.
+fn workers_option<'a>(alloc: Global) -> Arg<'a>
+    ensures rule { rule_of result ≡ number_rule workers_option }
+    ensures local { result.global ≡ false }
+{
+    number_option(alloc, WORKERS, "1", 1, MOST_WORKERS)
+}
+
 // The option `--choice N`.
 fn choice_option<'a>(alloc: Global) -> Arg<'a>
     ensures rule { rule_of result ≡ number_rule choice_option }
     ensures local { result.global ≡ false }
 {
     number_option(alloc, CHOICE, "0", 0, u64::MAX)
+}
+
+// The number of workers that a parse found.
+fn workers_found(found: &ArgMatches) -> u32
+    requires { FindsInRange (found_of found.now) (codes "workers") 1 16 }
+    ensures number { FindsNumber (found_of found.now) (codes "workers") result }
+    ensures some { 1 ≤ result }
+    ensures few { result ≤ 16 }
+{
+    number_of(found, WORKERS) as u32
 }

@@ -1,5 +1,5 @@
 // Options that take a number.
-ghost use Rattle.std.specs.Prelude.{◌≡◌, ◌^◌, ◌-◌, false};
+ghost use Rattle.std.specs.Prelude.{◌≡◌, ◌≤◌, ◌<◌, ◌^◌, ◌-◌, ℕ, false};
 ghost use Rattle.clap.specs.Words.{found_of, rule_of};
 ghost use Rattle.command_line.specs.Numbers.{number_rule};
 ghost use Rattle.command_line.specs.Inner.Found.{FindsInRange, FindsNumber};
@@ -33,8 +33,10 @@ pub fn number_option<'a>(
 
 // The number that a parse found.
 pub fn number_of(found: &ArgMatches, id: &str) -> u64
-    requires { FindsInRange (found_of found.now) id.now 0 (2 ^ 64 - 1) }
-    ensures { FindsNumber (found_of found.now) id.now result }
+    requires { (least most : ℕ) × (most < 2 ^ 64) × FindsInRange (found_of found.now) id.now least most }
+    ensures number { FindsNumber (found_of found.now) id.now result }
+    ensures range { (least most : ℕ) → FindsInRange (found_of found.now) id.now least most
+        → (least ≤ result) × (result ≤ most) }
 {
     found.get_one::<u64>(id).unwrap()
 }

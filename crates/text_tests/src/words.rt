@@ -12,6 +12,14 @@ fn read(alloc: Global, text: &str) -> Result<Result<Command, WordsStop>, AllocEr
     Ok(command_of(alloc, &words))
 }
 
+fn grow(workers: u32, choice: u64) -> Result<Command, WordsStop> {
+    Ok(Command::Grow { workers, choice })
+}
+
+fn race(workers: u32, choice: u64) -> Result<Command, WordsStop> {
+    Ok(Command::Race { workers, choice })
+}
+
 #[test]
 fn reads_words(rt: HostRuntime) -> Result<(), Fail> {
     let alloc = rt.alloc();
@@ -22,13 +30,21 @@ fn reads_words(rt: HostRuntime) -> Result<(), Fail> {
         ("--help", Err(WordsStop::NoCommand)),
         ("grow check", Err(WordsStop::NoCommand)),
         ("Grow", Err(WordsStop::NoCommand)),
-        ("grow", Ok(Command::Grow { choice: 0 })),
-        ("grow\n--choice\n7", Ok(Command::Grow { choice: 7 })),
-        ("grow\n--choice=7", Ok(Command::Grow { choice: 7 })),
-        (
-            "grow\n--choice\n18446744073709551615",
-            Ok(Command::Grow { choice: u64::MAX }),
-        ),
+        ("grow", grow(1, 0)),
+        ("grow\n--choice\n7", grow(1, 7)),
+        ("grow\n--choice=7", grow(1, 7)),
+        ("grow\n--choice\n18446744073709551615", grow(1, u64::MAX)),
+        ("grow\n--workers\n2", grow(2, 0)),
+        ("grow\n--workers=16\n--choice\n7", grow(16, 7)),
+        ("grow\n--choice\n7\n--workers\n16", grow(16, 7)),
+        ("grow\n--workers\n04", grow(4, 0)),
+        ("grow\n--workers\n0", Err(WordsStop::Usage)),
+        ("grow\n--workers\n17", Err(WordsStop::Usage)),
+        ("grow\n--workers\n4294967297", Err(WordsStop::Usage)),
+        ("grow\n--workers\n2\n--workers\n2", Err(WordsStop::Usage)),
+        ("race", race(1, 0)),
+        ("race\n--choice\n1\n--workers\n4", race(4, 1)),
+        ("race\n--workers\n0", Err(WordsStop::Usage)),
         (
             "grow\n--choice\n18446744073709551616",
             Err(WordsStop::Usage),
@@ -41,10 +57,10 @@ fn reads_words(rt: HostRuntime) -> Result<(), Fail> {
         ("check", Ok(Command::Check)),
         ("replay", Ok(Command::Replay)),
         ("format", Ok(Command::Format)),
-        ("grow\n--", Ok(Command::Grow { choice: 0 })),
+        ("grow\n--", grow(1, 0)),
         ("grow\n--\n--", Err(WordsStop::Usage)),
         ("grow\ncheck", Err(WordsStop::Usage)),
-        ("grow\n--workers\n2", Err(WordsStop::Usage)),
+        ("check\n--workers\n2", Err(WordsStop::Usage)),
         ("grow\n--help", Err(WordsStop::Usage)),
         ("grow\nhelp", Err(WordsStop::Usage)),
         ("grow\n-h", Err(WordsStop::Usage)),
