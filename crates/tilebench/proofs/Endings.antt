@@ -1,7 +1,9 @@
 -- How runs end.
-use Rattle.std.proofs.Common.{◌≡◌, ◌≢◌, ◌⊎◌, ◌≤◌, ℕ, Bool, true, false, List, Option, Result, Ok, Err, refl, sym, ap, subst, arith, inl, inr}
+use Rattle.std.proofs.Common.{◌≡◌, ◌≢◌, ◌⊎◌, ◌≤◌, ℕ, Bool, true, false, List, Option, None, Result, Ok, Err, refl, sym, ap, subst, arith, inl, inr}
 use Rattle.tile_io.specs.declared.fault.TextFault.{TextFault}
 use Rattle.tile_io.specs.Faults.{Rose}
+use Rattle.site_table.specs.Seats.{GrownValue}
+use Rattle.tilebench.specs.declared.status.Ran.{Ran}
 use Rattle.tilebench.specs.declared.status.Status.{Status}
 use Rattle.tilebench.specs.declared.status.Status.TheVariants as status
 use Rattle.tilebench.specs.declared.stop.Stop.{Stop}
@@ -11,8 +13,10 @@ use Rattle.tilebench.specs.Headline.{Ends}
 use Rattle.tilebench.specs.Refusals.{refused_text}
 use Rattle.tilebench.specs.Statuses.{IsAnswered, answer_status}
 use Rattle.tilebench.specs.Inner.Gives.{GivesFromSource}
-use Rattle.tilebench.specs.Inner.Runs.{IsFaultLine}
-use Rattle.tilebench.specs.Inner.Tells.{Tells, Writes}
+use Rattle.tilebench.specs.Inputs.{FailsInput}
+use Rattle.tilebench.specs.Inner.Runs.{EndsCommand, IsFaultLine}
+use Rattle.tilebench.proofs.Sources.{held_or_faulty}
+use Rattle.tilebench.specs.Inner.Tells.{Tells, Writes, WritesAnswer}
 
 -- the statuses of answers
 answered : (is_yes : Bool) → IsAnswered (answer_status is_yes)
@@ -31,84 +35,124 @@ module _ {K : Type 0} (written : K → Option (List ℕ)) (faults : K → ℕ) (
 module _ {S K E : Type 0} (read_faults : S → ℕ) (written : K → Option (List ℕ)) (out_faults : K → ℕ) (told : E → Option (List ℕ)) (err_faults : E → ℕ)
     (source after : S) (out out_after : K) (err err_after : E) where
   -- what is said of a weaker kind
-  module _ (Answer Answer' : Bool → List ℕ → Type 0) (Refusal Refusal' WordsRefusal WordsRefusal' : List ℕ → Type 0) (answer : (is_yes : Bool) (text : List ℕ) → Answer is_yes text → Answer' is_yes text)
+  module _ (Answer Answer' : Option GrownValue → Bool → List ℕ → Type 0) (Refusal Refusal' WordsRefusal WordsRefusal' : List ℕ → Type 0)
+      (answer : (grown : Option GrownValue) (is_yes : Bool) (text : List ℕ) → Answer grown is_yes text → Answer' grown is_yes text)
       (refusal : (text : List ℕ) → Refusal text → Refusal' text) (words : (text : List ℕ) → WordsRefusal text → WordsRefusal' text) where
-    abbrev Before : Status → Type 0
+    abbrev Before : Status → Option GrownValue → Type 0
     Before = Ends read_faults written out_faults told err_faults Answer Refusal WordsRefusal source after out out_after err err_after
 
-    abbrev After : Status → Type 0
+    abbrev After : Status → Option GrownValue → Type 0
     After = Ends read_faults written out_faults told err_faults Answer' Refusal' WordsRefusal' source after out out_after err err_after
 
-    pub Ends-map : (s : Status) → Before s → After s
-    Ends-map status.Done (gained, same) = (record { text = gained.text; said = answer true gained.text gained.said; whole = gained.whole; quiet = gained.quiet }, same)
-    Ends-map status.No (gained, same) = (record { text = gained.text; said = answer false gained.text gained.said; whole = gained.whole; quiet = gained.quiet }, same)
-    Ends-map status.Words (gained, same, unread) = (record { text = gained.text; said = words gained.text gained.said; whole = gained.whole; quiet = gained.quiet }, same, unread)
-    Ends-map status.Text (gained, same) = (record { text = gained.text; said = refusal gained.text gained.said; whole = gained.whole; quiet = gained.quiet }, same)
-    Ends-map status.ReadFault ends = ends
-    Ends-map status.WriteFault (inl (cut, same)) =
-        inl (record { text = cut.text; said = (cut.said.0, answer cut.said.0 cut.text cut.said.1); front = cut.front; fault = cut.fault }, same)
-    Ends-map status.WriteFault (inr (cut, same)) = inr (record { text = cut.text; said = either cut.text cut.said; front = cut.front; fault = cut.fault }, same)
+    pub Ends-map : (s : Status) (grown : Option GrownValue) → Before s grown → After s grown
+    Ends-map status.Done grown (gained, same) = (record { text = gained.text; said = answer grown true gained.text gained.said; whole = gained.whole; quiet = gained.quiet }, same)
+    Ends-map status.No grown (gained, same) = (record { text = gained.text; said = answer grown false gained.text gained.said; whole = gained.whole; quiet = gained.quiet }, same)
+    Ends-map status.Words grown ((gained, same, unread), none) =
+        ((record { text = gained.text; said = words gained.text gained.said; whole = gained.whole; quiet = gained.quiet }, same, unread), none)
+    Ends-map status.Text grown ((gained, same), none) = ((record { text = gained.text; said = refusal gained.text gained.said; whole = gained.whole; quiet = gained.quiet }, same), none)
+    Ends-map status.ReadFault grown ends = ends
+    Ends-map status.WriteFault grown (inl (cut, same), none) =
+        let (lost, is_yes, said) = cut.said in
+        (inl (record { text = cut.text; said = (lost, is_yes, answer lost is_yes cut.text said); front = cut.front; fault = cut.fault }, same), none)
+    Ends-map status.WriteFault grown (inr (cut, same), none) = (inr (record { text = cut.text; said = either cut.text cut.said; front = cut.front; fault = cut.fault }, same), none)
       where
         either : (text : List ℕ) → Refusal text ⊎ WordsRefusal text → Refusal' text ⊎ WordsRefusal' text
         either text (inl refused) = inl (refusal text refused)
         either text (inr refused) = inr (words text refused)
-    Ends-map status.NoMemory ends = ends
+    Ends-map status.NoMemory grown ends = ends
 
   -- the run of a command, by what it gave and what was told of that
-  module _ {A : Type 0} (positive : A → Bool) (text : A → List ℕ) (printable : A → Type 0) (Answer : Bool → List ℕ → Type 0) (Fails : TextFault → Type 0) where
-    abbrev Ended : Status → Type 0
+  module _ {A : Type 0} (positive : A → Bool) (text : A → List ℕ) (printable : A → Type 0) (Answer : Option GrownValue → Bool → List ℕ → Type 0) (Fails : TextFault → Type 0) where
+    abbrev Ended : Status → Option GrownValue → Type 0
     Ended = Ends read_faults written out_faults told err_faults Answer (IsFaultLine Fails) (λ text. ⊥) source after out out_after err err_after
 
-    abbrev Given : Result A Stop → Type 0
+    abbrev Given : Result (A × Option GrownValue) Stop → Type 0
     Given = GivesFromSource read_faults positive text printable Answer Fails source after
 
-    abbrev Told : Result A Stop → Status → Type 0
+    abbrev Told : Result (A × Option GrownValue) Stop → Ran → Type 0
     Told = Tells positive text written out_faults told err_faults out out_after err err_after
 
-    ended_answer : (is_yes : Bool) → Gains written out_faults (Answer is_yes) out out_after → err_after ≡ err → Ended (answer_status is_yes)
-    ended_answer true gained same = (gained, same)
-    ended_answer false gained same = (gained, same)
+    -- a run of this status, with this growth
+    ended_as : (ran : Ran) (s : Status) (grown : Option GrownValue) → ran.status ≡ s → ran.grown ≡ grown → Ended s grown → Ended ran.status ran.grown
+    ended_as ran s grown is handed ends =
+        subst (λ (g : Option GrownValue). Ended ran.status g) (sym handed) (subst (λ (s : Status). Ended s grown) (sym is) ends)
+
+    ended_answer : (grown : Option GrownValue) (is_yes : Bool) → Gains written out_faults (Answer grown is_yes) out out_after → err_after ≡ err → Ended (answer_status is_yes) grown
+    ended_answer grown true gained same = (gained, same)
+    ended_answer grown false gained same = (gained, same)
 
     fault_line : (fault : TextFault) → Fails fault → IsFaultLine Fails (refused_text fault)
     fault_line fault fails = record { fault = fault; is = fails; told = refl }
 
-    pub run_ended : (result : Result A Stop) (s : Status) → Given result → Told result s → Ended s
-    run_ended (Ok reply) s given (inl whole, same) =
-        subst Ended (sym whole.is) (ended_answer (positive reply) (record { text = text reply; said = given.0.answer; whole = whole.whole; quiet = whole.quiet }) same)
-    run_ended (Ok reply) s given (inr cut, same) =
-        subst Ended (sym cut.is) (inl (record { text = text reply; said = (positive reply, given.0.answer); front = cut.front; fault = cut.fault }, same))
-    run_ended (Err (Text fault)) s given (inl whole, same) =
-        subst Ended (sym whole.is) (record { text = refused_text fault; said = fault_line fault given.0; whole = whole.whole; quiet = whole.quiet }, same)
-    run_ended (Err (Text fault)) s given (inr cut, same) =
-        subst Ended (sym cut.is) (inr (record { text = refused_text fault; said = inl (fault_line fault given.0); front = cut.front; fault = cut.fault }, same))
-    run_ended (Err ReadFault) s given ((is, same_err), same_out) = subst Ended (sym is) (given, same_out, same_err)
-    run_ended (Err NoMemory) s given ((is, same_err), same_out) = subst Ended (sym is) (same_out, same_err)
-    run_ended (Err (Words stop)) s given told = absurd given
+    pub run_ended : (result : Result (A × Option GrownValue) Stop) (ran : Ran) → Given result → Told result ran → Ended ran.status ran.grown
+    run_ended (Ok found) ran given (inl (whole, handed), same) =
+        ended_as ran (answer_status (positive found.0)) found.1 whole.is handed
+        (ended_answer found.1 (positive found.0) (record { text = text found.0; said = given.0.answer; whole = whole.whole; quiet = whole.quiet }) same)
+    run_ended (Ok found) ran given (inr (cut, none), same) =
+        ended_as ran status.WriteFault None cut.is none
+        (inl (record { text = text found.0; said = (found.1, positive found.0, given.0.answer); front = cut.front; fault = cut.fault }, same), refl)
+    run_ended (Err (Text fault)) ran given (inl whole, none, same) =
+        ended_as ran status.Text None whole.is none
+        ((record { text = refused_text fault; said = fault_line fault given.0; whole = whole.whole; quiet = whole.quiet }, same), refl)
+    run_ended (Err (Text fault)) ran given (inr cut, none, same) =
+        ended_as ran status.WriteFault None cut.is none
+        (inr (record { text = refused_text fault; said = inl (fault_line fault given.0); front = cut.front; fault = cut.fault }, same), refl)
+    run_ended (Err ReadFault) ran given ((is, same_err), none, same_out) = ended_as ran status.ReadFault None is none ((given, same_out, same_err), refl)
+    run_ended (Err NoMemory) ran given ((is, same_err), none, same_out) = ended_as ran status.NoMemory None is none ((same_out, same_err), refl)
+    run_ended (Err (Words stop)) ran given told = absurd given
 
-    pub run_quiet : (result : Result A Stop) (s : Status) → Given result → Told result s → s ≢ status.ReadFault → read_faults after ≡ read_faults source
-    run_quiet (Ok reply) s given told other = given.1
-    run_quiet (Err (Text fault)) s given told other = given.1
-    run_quiet (Err ReadFault) s given ((is, same_err), same_out) other = absurd (other is)
-    run_quiet (Err NoMemory) s given told other = given
-    run_quiet (Err (Words stop)) s given told other = absurd given
+    pub run_quiet : (result : Result (A × Option GrownValue) Stop) (ran : Ran) → Given result → Told result ran → ran.status ≢ status.ReadFault → read_faults after ≡ read_faults source
+    run_quiet (Ok found) ran given told other = given.1
+    run_quiet (Err (Text fault)) ran given told other = given.1
+    run_quiet (Err ReadFault) ran given ((is, same_err), none, same_out) other = absurd (other is)
+    run_quiet (Err NoMemory) ran given told other = given
+    run_quiet (Err (Words stop)) ran given told other = absurd given
 
-    pub run_out_later : (result : Result A Stop) (s : Status) → Given result → Told result s → out_faults out ≤ out_faults out_after
-    run_out_later (Ok reply) s given (writes, same) = written_later written out_faults out out_after (answer_status (positive reply)) s (text reply) writes
-    run_out_later (Err stop) s given (refused, same) = let equal : out_faults out_after ≡ out_faults out = ap out_faults same in omega arith
+    answer_later : (is_yes : Bool) (text : List ℕ) (grown : Option GrownValue) (ran : Ran) → WritesAnswer written out_faults out out_after is_yes text grown ran → out_faults out ≤ out_faults out_after
+    answer_later is_yes text grown ran (inl (whole, handed)) = let same = whole.quiet in omega arith
+    answer_later is_yes text grown ran (inr (cut, none)) = cut.later
 
-    pub run_err_later : (result : Result A Stop) (s : Status) → Given result → Told result s → err_faults err ≤ err_faults err_after
-    run_err_later (Ok reply) s given (writes, same) = let equal : err_faults err_after ≡ err_faults err = ap err_faults same in omega arith
-    run_err_later (Err (Text fault)) s given (writes, same) = written_later told err_faults err err_after status.Text s (refused_text fault) writes
-    run_err_later (Err ReadFault) s given ((is, same_err), same_out) = let equal : err_faults err_after ≡ err_faults err = ap err_faults same_err in omega arith
-    run_err_later (Err NoMemory) s given ((is, same_err), same_out) = let equal : err_faults err_after ≡ err_faults err = ap err_faults same_err in omega arith
-    run_err_later (Err (Words stop)) s given told = absurd given
+    pub run_out_later : (result : Result (A × Option GrownValue) Stop) (ran : Ran) → Given result → Told result ran → out_faults out ≤ out_faults out_after
+    run_out_later (Ok found) ran given (writes, same) = answer_later (positive found.0) (text found.0) found.1 ran writes
+    run_out_later (Err stop) ran given (refused, none, same) = let equal : out_faults out_after ≡ out_faults out = ap out_faults same in omega arith
+
+    pub run_err_later : (result : Result (A × Option GrownValue) Stop) (ran : Ran) → Given result → Told result ran → err_faults err ≤ err_faults err_after
+    run_err_later (Ok found) ran given (writes, same) = let equal : err_faults err_after ≡ err_faults err = ap err_faults same in omega arith
+    run_err_later (Err (Text fault)) ran given (writes, none, same) = written_later told err_faults err err_after status.Text ran.status (refused_text fault) writes
+    run_err_later (Err ReadFault) ran given ((is, same_err), none, same_out) = let equal : err_faults err_after ≡ err_faults err = ap err_faults same_err in omega arith
+    run_err_later (Err NoMemory) ran given ((is, same_err), none, same_out) = let equal : err_faults err_after ≡ err_faults err = ap err_faults same_err in omega arith
+    run_err_later (Err (Words stop)) ran given told = absurd given
 
     -- where nothing fails and the input has no fault, there is an answer, or no memory for it
     pub run_complete : ((fault : TextFault) → Fails fault → ⊥) → ¬ Rose (read_faults source) (read_faults after) → ¬ Rose (out_faults out) (out_faults out_after) →
-        ¬ Rose (err_faults err) (err_faults err_after) → (result : Result A Stop) (s : Status) → Given result → Told result s → IsAnswered s ⊎ (s ≡ status.NoMemory)
-    run_complete faultless source_quiet out_quiet err_quiet (Ok reply) s given (inl whole, same) = inl (subst IsAnswered (sym whole.is) (answered (positive reply)))
-    run_complete faultless source_quiet out_quiet err_quiet (Ok reply) s given (inr cut, same) = absurd (out_quiet cut.fault)
-    run_complete faultless source_quiet out_quiet err_quiet (Err (Text fault)) s given told = absurd (faultless fault given.0)
-    run_complete faultless source_quiet out_quiet err_quiet (Err ReadFault) s given told = absurd (source_quiet given)
-    run_complete faultless source_quiet out_quiet err_quiet (Err NoMemory) s given ((is, same_err), same_out) = inr is
-    run_complete faultless source_quiet out_quiet err_quiet (Err (Words stop)) s given told = absurd given
+        ¬ Rose (err_faults err) (err_faults err_after) → (result : Result (A × Option GrownValue) Stop) (ran : Ran) → Given result → Told result ran →
+        IsAnswered ran.status ⊎ (ran.status ≡ status.NoMemory)
+    run_complete faultless source_quiet out_quiet err_quiet (Ok found) ran given (inl (whole, handed), same) = inl (subst IsAnswered (sym whole.is) (answered (positive found.0)))
+    run_complete faultless source_quiet out_quiet err_quiet (Ok found) ran given (inr (cut, none), same) = absurd (out_quiet cut.fault)
+    run_complete faultless source_quiet out_quiet err_quiet (Err (Text fault)) ran given told = absurd (faultless fault given.0)
+    run_complete faultless source_quiet out_quiet err_quiet (Err ReadFault) ran given told = absurd (source_quiet given)
+    run_complete faultless source_quiet out_quiet err_quiet (Err NoMemory) ran given ((is, same_err), none, same_out) = inr is
+    run_complete faultless source_quiet out_quiet err_quiet (Err (Words stop)) ran given told = absurd given
+
+-- the run of a command that reads the input, by what it gave and what was told of that
+module _ {S K E A : Type 0} (left : S → Option (List ℕ)) (read_faults : S → ℕ) (written : K → Option (List ℕ)) (out_faults : K → ℕ) (told : E → Option (List ℕ)) (err_faults : E → ℕ)
+    (positive : A → Bool) (text : A → List ℕ) (printable : A → Type 0) (Answers : Option GrownValue → Option (List ℕ) → Option (List ℕ) → Bool → List ℕ → Type 0)
+    (Takes : List ℕ → Type 0) (Fails : List ℕ → TextFault → Type 0) (one_of_two : (input : List ℕ) (fault : TextFault) → Takes input → Fails input fault → ⊥)
+    (source after : S) (out out_after : K) (err err_after : E) (result : Result (A × Option GrownValue) Stop) (ran : Ran) where
+  pub run_ends : GivesFromSource read_faults positive text printable (λ grown. Answers grown (left source) (left after)) (FailsInput Fails (left source) (left after)) source after result
+      → read_faults source ≤ read_faults after → Tells positive text written out_faults told err_faults out out_after err err_after result ran
+      → EndsCommand left read_faults written out_faults told err_faults Answers Takes (FailsInput Fails) source after out out_after err err_after ran
+  run_ends given later tells =
+      let answers : Option GrownValue → Bool → List ℕ → Type 0 = λ grown. Answers grown (left source) (left after) in
+      let fails : TextFault → Type 0 = FailsInput Fails (left source) (left after) in
+      record {
+        ends = run_ended read_faults written out_faults told err_faults source after out out_after err err_after positive text printable answers fails result ran given tells;
+        quiet = run_quiet read_faults written out_faults told err_faults source after out out_after err err_after positive text printable answers fails result ran given tells;
+        source_later = later;
+        out_later = run_out_later read_faults written out_faults told err_faults source after out out_after err err_after positive text printable answers fails result ran given tells;
+        err_later = run_err_later read_faults written out_faults told err_faults source after out out_after err err_after positive text printable answers fails result ran given tells;
+        complete = λ holds source_quiet out_quiet err_quiet.
+            run_complete read_faults written out_faults told err_faults source after out out_after err err_after positive text printable answers fails
+            (λ fault faulty. held_or_faulty Takes Fails one_of_two (left source) (left after) fault holds faulty)
+            source_quiet out_quiet err_quiet result ran given tells;
+      }

@@ -1,36 +1,32 @@
--- Growths over a grid are full, and their outcome is the growth answer.
-use Rattle.std.proofs.Common.{◌≡◌, ◌∙◌, ℕ, List, length, get_or, Option, Some, None, IfSome, ap, refl, sym, subst, arith}
+-- What a system grew into, and what is told of it.
+use Rattle.std.proofs.Common.{◌≡◌, All, ◌∙◌, ℕ, List, length, get_or, Option, Some, None, IfSome, ap, refl, sym, subst, arith}
 use Rattle.std.specs.Prelude.{slice_get}
 use Rattle.std.proofs.lemmas.Option.{slice_get-get_or}
 use Rattle.atam.specs.declared.place.Place.{Place}
 use Rattle.atam.specs.declared.place.TypeId.{TypeId}
 use Rattle.atam.specs.declared.site.Site.{Site}
+use Rattle.atam.specs.declared.area.BoxArea.{BoxArea}
+use Rattle.atam.specs.Sites.{InBox}
 use Rattle.atam.specs.TileSystem.{TileSystem, IsType}
-use Rattle.atam.specs.Placements.{HasDistinctSites}
 use Rattle.atam.specs.Assembly.{Fits}
-use Rattle.atam.specs.Growth.{IsLegal, IsClosedInBox, IsFullGrowth, IsLeastOpenOutside}
-use Rattle.atam.proofs.Opening.{IsCandidate-same, Fits-part}
-use Rattle.tilebench.specs.declared.grid_growth.GridGrowth.{GridGrowth}
-use Rattle.tilebench.specs.Inner.GridGrowing.{IsInStep}
+use Rattle.atam.specs.Growth.{IsLeastOpenOutside, IsProducible}
+use Rattle.atam.proofs.Canon.{producible_types}
+use Rattle.site_table.specs.Seats.{GrownValue}
 use Rattle.local_check.specs.declared.verdict.Verdict.{Verdict}
 use Rattle.local_check.specs.declared.verdict.Verdict.TheVariants.{Yes, NotExact, Rival, NotTerminal}
 use Rattle.local_check.specs.Judgement.{IsVerdict}
 use Rattle.replay_order.specs.ReplayAnswers.{LacksSeed}
 use Rattle.seq_text.specs.VerdictLines.{NamesTypes}
 use Rattle.tilebench.specs.declared.commands.grow.Growth.{Growth}
-use Rattle.tilebench.specs.Inputs.{IsSystemAlone}
 use Rattle.tilebench.specs.Commands.Replay.{LacksSeedAt}
-use Rattle.tilebench.specs.Commands.Grow.{IsGrowthAnswer, growth_text, is_unique}
+use Rattle.tilebench.specs.Commands.Grow.{IsGrowth, IsGrowthText, growth_text, is_unique}
 use Rattle.tilebench.specs.Inner.Rooms.{GrowsTo, outcome_of}
 
--- a grid in step with a legal sequence that nothing extends in the box
-pub full_growth : (sys : TileSystem) (growth : GridGrowth) → IsLegal sys growth.sequence → Fits sys growth.sequence → IsClosedInBox sys growth.sequence → IsInStep growth →
-    HasDistinctSites growth.grid.tiles → IsFullGrowth sys growth.grid.tiles
-full_growth sys growth legal fits closed step distinct = record {
-  distinct = distinct;
-  inside = (Fits-part sys growth.grid.tiles growth.sequence step.placements.whole fits).sites;
-  producible = record { sequence = growth.sequence; legal = legal; same = step.placements };
-  closed = λ m t within grows. closed m t within (IsCandidate-same sys growth.grid.tiles growth.sequence m t (λ n. sym (step.tiles n)) grows);
+-- a producible assembly in the box is of types of its system
+pub producible_fits : (sys : TileSystem) (area : BoxArea) (tiles : List Place) → area ≡ sys.area → All (λ p. InBox area p.site) tiles → IsProducible sys tiles → Fits sys tiles
+producible_fits sys area tiles same inside producible = record {
+  types = producible_types sys tiles producible;
+  sites = subst (λ (a : BoxArea). All (λ p. InBox a p.site) tiles) same inside;
 }
 
 -- the type that is open outside is one of the system
@@ -45,16 +41,13 @@ verdict_types sys s (NotExact m sum) judged = tt
 verdict_types sys s (Rival m t) judged = judged.1.rival.rival.grows.kind
 verdict_types sys s (NotTerminal m t) judged = judged.2.grows.kind
 
--- what a system grew into is the growth answer to its text
-pub growth_answer : (input : List ℕ) (sys : TileSystem) (growth : Growth) → IsSystemAlone input sys → GrowsTo sys growth →
-    IsGrowthAnswer input (is_unique growth.verdict) (growth_text growth.sys (outcome_of growth))
-growth_answer input sys growth read grows = record {
-  sys = growth.sys;
-  read = subst (IsSystemAlone input) (sym grows.same) read;
-  tiles = grows.tiles;
+-- what a system grew into is told by its text
+pub growth_told : (sys : TileSystem) (table : GrownValue) (growth : Growth) → GrowsTo sys table.grid.tiles growth →
+    IsGrowthText sys table (is_unique growth.verdict) (growth_text growth.sys (outcome_of growth))
+growth_told sys table growth grows = record {
   outcome = outcome_of growth;
-  grown = grows.grown;
-  printed = refl;
+  grown = subst (λ (s : TileSystem). IsGrowth s table.grid.tiles (outcome_of growth)) grows.same grows.grown;
+  printed = ap (λ (s : TileSystem). growth_text s (outcome_of growth)) grows.same;
   answer = refl;
 }
 

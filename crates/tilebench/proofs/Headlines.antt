@@ -1,5 +1,5 @@
 -- What the laws of confluence say of growth answers.
-use Rattle.std.proofs.Common.{◌≡◌, ◌∙◌, ℕ, Bool, true, true≢false, Some, List, refl, sym, ap, subst}
+use Rattle.std.proofs.Common.{◌≡◌, ◌∙◌, ℕ, Bool, true, true≢false, Some, List, Option, refl, sym, ap, subst}
 use Rattle.tile_io.specs.declared.mark.Mark.{Mark}
 use Rattle.tile_io.specs.Formats.{Reads}
 use Rattle.atam.specs.declared.place.Place.{Place}
@@ -18,7 +18,9 @@ use Rattle.local_check.specs.declared.verdict.Verdict.TheVariants.{Yes, NotExact
 use Rattle.local_check.proofs.Verdicts.{verdict_yes}
 use Rattle.unique_law.specs.Outcomes.{Outcome}
 use Rattle.unique_law.proofs.OneOutcome.{canonical_too, one_full_growth, one_outcome, yes_in_some_order, grows_into_outcome}
-use Rattle.tilebench.specs.Commands.Grow.{IsGrowth, IsGrowthAnswer, growth_text, is_unique}
+use Rattle.site_table.specs.Seats.{GrownValue}
+use Rattle.tilebench.specs.Growing.{TellsGrowth}
+use Rattle.tilebench.specs.Commands.Grow.{IsGrowth, IsGrowthText, growth_text, is_unique}
 use Rattle.tilebench.specs.Headline.{IsHeadline}
 use Rattle.tilebench.proofs.ReadingBack.{growth_may, sequence_back}
 
@@ -67,34 +69,35 @@ growth_of_deterministic sys seeds tiles outcome grown s found =
       };
     }
 
-pub headline : (input : List ℕ) (is_yes : Bool) (text : List ℕ) → IsGrowthAnswer input is_yes text → IsHeadline input is_yes text
-headline input is_yes text answer =
+pub headline : (workers : ℕ) (grown : Option GrownValue) (input : List ℕ) (is_yes : Bool) (text : List ℕ) → TellsGrowth IsGrowthText workers grown input is_yes text → IsHeadline input is_yes text
+headline workers grown input is_yes text answer =
     let sys = answer.sys in
     let valid = valid_system input _ answer.read.end sys answer.read.reads in
     let seeds : HasDistinctSites sys.seeds = valid.distinct_seeds in
-    let outcome = answer.outcome in
-    let is = answer.grown.outcome_is in
+    let tiles = answer.table.grid.tiles in
+    let outcome = answer.told.outcome in
+    let is = answer.told.grown.outcome_is in
     let tells = verdict_yes sys outcome.order outcome.verdict is.judged in
-    let tells_some = yes_in_some_order sys seeds answer.tiles outcome.order outcome.verdict is.full.distinct is.full.producible is.canonical is.judged in
-    let yes_it_is : is_yes ≡ true → outcome.verdict ≡ Yes = λ positive. unique_yes outcome.verdict (sym answer.answer ∙ positive) in
+    let tells_some = yes_in_some_order sys seeds tiles outcome.order outcome.verdict is.full.distinct is.full.producible is.canonical is.judged in
+    let yes_it_is : is_yes ≡ true → outcome.verdict ≡ Yes = λ positive. unique_yes outcome.verdict (sym answer.told.answer ∙ positive) in
     record {
       sys = sys;
       read = answer.read;
-      tiles = answer.tiles;
+      tiles = tiles;
       outcome = outcome;
-      grown = answer.grown;
-      printed = answer.printed;
-      legal = answer.grown.ordered.legal;
-      same = answer.grown.ordered.same;
+      grown = answer.told.grown;
+      printed = answer.told.printed;
+      legal = answer.told.grown.ordered.legal;
+      same = answer.told.grown.ordered.same;
       reads_back = sequence_back sys valid outcome.order (Some outcome.outside) (Some outcome.verdict) text
-          (growth_may sys valid answer.tiles outcome.order outcome.outside outcome.verdict is.full.inside answer.grown.ordered.fits is.least is.judged) answer.printed;
+          (growth_may sys valid tiles outcome.order outcome.outside outcome.verdict is.full.inside answer.told.grown.ordered.fits is.least is.judged) answer.told.printed;
       closed = is.full.closed;
       outside = is.least;
-      yes = (λ positive. tells.0 (yes_it_is positive), λ deterministic. answer.answer ∙ ap is_unique (tells.1 deterministic));
-      some_order = (λ positive. tells_some.0 (yes_it_is positive), λ order. answer.answer ∙ ap is_unique (tells_some.1 order));
-      only = λ positive b legal. grows_into_outcome sys seeds answer.tiles b outcome is (yes_it_is positive) legal;
-      same_bytes = λ positive others other grown.
-          let one = one_outcome sys seeds answer.tiles others outcome other is (yes_it_is positive) grown in
-          ap (growth_text sys) (sym one.1) ∙ sym answer.printed;
-      determined = growth_of_deterministic sys seeds answer.tiles outcome answer.grown;
+      yes = (λ positive. tells.0 (yes_it_is positive), λ deterministic. answer.told.answer ∙ ap is_unique (tells.1 deterministic));
+      some_order = (λ positive. tells_some.0 (yes_it_is positive), λ order. answer.told.answer ∙ ap is_unique (tells_some.1 order));
+      only = λ positive b legal. grows_into_outcome sys seeds tiles b outcome is (yes_it_is positive) legal;
+      same_bytes = λ positive others other others_grown.
+          let one = one_outcome sys seeds tiles others outcome other is (yes_it_is positive) others_grown in
+          ap (growth_text sys) (sym one.1) ∙ sym answer.told.printed;
+      determined = growth_of_deterministic sys seeds tiles outcome answer.told.grown;
     }

@@ -1,9 +1,9 @@
 pub mod Endings
 pub mod Growths
 pub mod Headlines
-pub mod Looked
 pub mod Marks
 pub mod Orders
+pub mod Races
 pub mod ReadingBack
 pub mod Scheduling
 pub mod Sources

@@ -2,19 +2,20 @@
 use Rattle.std.proofs.Common.{◌≡◌, ◌≤◌, ◌+◌, ◌++◌, ◌∙◌, ℕ, Bool, List, length, Option, Some, None, Result, Ok, Err, ap, subst, arith, inl, inr, append-nil, length-append}
 use Rattle.std.specs.Io.KnownBytes.{Consumes, IsAtEnd}
 use Rattle.tile_io.specs.declared.fault.TextFault.{TextFault}
+use Rattle.site_table.specs.Seats.{GrownValue}
 use Rattle.tilebench.specs.declared.stop.Stop.{Stop}
 use Rattle.tilebench.specs.declared.stop.Stop.TheVariants.{Words, Text, ReadFault, NoMemory}
 use Rattle.tilebench.specs.Inputs.{AnswersInput, FailsInput, IsWholeInput}
-use Rattle.tilebench.specs.Inner.Gives.{GivesFromSource, GivesReply}
+use Rattle.tilebench.specs.Inner.Gives.{GivesFromSource, GivesGrowth}
 use Rattle.tilebench.specs.Inner.Runs.{HoldsInput}
 
 -- an answer to the input is one to what was left of the source
-module _ {S A : Type 0} (faults : S → ℕ) (positive : A → Bool) (text : A → List ℕ) (printable : A → Type 0) (Answers : List ℕ → Bool → List ℕ → Type 0)
+module _ {S A : Type 0} (faults : S → ℕ) (positive : A → Bool) (text : A → List ℕ) (printable : A → Type 0) (Answers : Option GrownValue → List ℕ → Bool → List ℕ → Type 0)
     (Fails : List ℕ → TextFault → Type 0) (left left_after : Option (List ℕ)) (source after : S) (input : List ℕ) (whole : IsWholeInput left left_after input)
     (quiet : faults after ≡ faults source) where
-  pub from_source : (result : Result A Stop) → GivesReply positive text printable (Answers input) (Fails input) result →
-      GivesFromSource faults positive text printable (AnswersInput Answers left left_after) (FailsInput Fails left left_after) source after result
-  from_source (Ok reply) given = (record { answer = record { input = input; whole = whole; answer = given.answer }; prints = given.prints }, quiet)
+  pub from_source : (result : Result (A × Option GrownValue) Stop) → GivesGrowth positive text printable (λ grown. Answers grown input) (Fails input) result →
+      GivesFromSource faults positive text printable (λ grown. AnswersInput (Answers grown) left left_after) (FailsInput Fails left left_after) source after result
+  from_source (Ok found) given = (record { answer = record { input = input; whole = whole; answer = given.answer }; prints = given.prints }, quiet)
   from_source (Err (Text fault)) given = (inr (record { input = input; whole = whole; fails = given }), quiet)
   from_source (Err NoMemory) given = quiet
   from_source (Err (Words stop)) given = given

@@ -8,13 +8,16 @@ use Rattle.command_line.specs.declared.words_stop.WordsStop.{WordsStop}
 use Rattle.command_line.specs.declared.words_stop.WordsStop.TheVariants.{NoCommand, Usage, NoMemory}
 use Rattle.command_line.specs.Commands.{IsCallOf, IsTaken, IsUsage, command_named, name_of}
 use Rattle.command_line.proofs.CallLemmas.{call_once, taken_not_usage}
+use Rattle.site_table.specs.Seats.{GrownValue}
+use Rattle.tilebench.specs.declared.status.Ran.{Ran}
 use Rattle.tilebench.specs.declared.status.Status.{Status}
 use Rattle.tilebench.specs.declared.status.Status.TheVariants as status
 use Rattle.tilebench.specs.Gains.{Gains}
 use Rattle.tilebench.specs.Headline.{Ends, IsAnswer, IsDue, IsHeadline, IsTextRefusal, IsWordsRefusal}
 use Rattle.tilebench.specs.Inputs.{AnswersInput}
 use Rattle.tilebench.specs.Commands.{Answers, Fails, Takes}
-use Rattle.tilebench.specs.Commands.Grow.{IsGrowthAnswer}
+use Rattle.tilebench.specs.Growing.{TellsGrowth}
+use Rattle.tilebench.specs.Commands.Grow.{IsGrowthText}
 use Rattle.tilebench.specs.Refusals.{IsRefusedAs, refused_words}
 use Rattle.tilebench.specs.Inner.Stops.{stop_of_words}
 use Rattle.tilebench.specs.Statuses.{IsAnswered, answer_status}
@@ -24,9 +27,10 @@ use Rattle.tilebench.proofs.Endings.{Ends-map, written_later}
 use Rattle.tilebench.proofs.Headlines.{headline}
 
 -- the growth answer to what was left of the source
-headline_of : (left left_after : Option (List ℕ)) (is_yes : Bool) (text : List ℕ) → AnswersInput IsGrowthAnswer left left_after is_yes text →
-    AnswersInput IsHeadline left left_after is_yes text
-headline_of left left_after is_yes text answer = record { input = answer.input; whole = answer.whole; answer = headline answer.input is_yes text answer.answer }
+headline_of : (workers : ℕ) (grown : Option GrownValue) (left left_after : Option (List ℕ)) (is_yes : Bool) (text : List ℕ) →
+    AnswersInput (TellsGrowth IsGrowthText workers grown) left left_after is_yes text → AnswersInput IsHeadline left left_after is_yes text
+headline_of workers grown left left_after is_yes text answer =
+    record { input = answer.input; whole = answer.whole; answer = headline workers grown answer.input is_yes text answer.answer }
 
 -- a name that the words name
 same_name : (words : List (List ℕ)) (a b : CommandName) → command_named words ≡ Some a → command_named words ≡ Some b → a ≡ b
@@ -34,38 +38,38 @@ same_name words a b is other = ap (λ (o : Option CommandName). unwrap_or o a) (
 
 module _ {S K E : Type 0} (left : S → Option (List ℕ)) (read_faults : S → ℕ) (written : K → Option (List ℕ)) (out_faults : K → ℕ) (told : E → Option (List ℕ)) (err_faults : E → ℕ)
     (words : List (List ℕ)) (source after : S) (out out_after : K) (err err_after : E) where
-  abbrev Ended : S → Status → Type 0
+  abbrev Ended : S → Status → Option GrownValue → Type 0
   Ended later = Ends read_faults written out_faults told err_faults (IsAnswer words (left source) (left later)) (IsTextRefusal words (left source) (left later)) (IsWordsRefusal words)
       source later out out_after err err_after
 
   -- where the words call for a command
-  module _ (command : Command) (called : IsCallOf words command) (s : Status)
-      (run : EndsCommand left read_faults written out_faults told err_faults (Answers command) (Takes (name_of command)) (Fails (name_of command)) source after out out_after err err_after s) where
-    pub call_ended : Ended after s
+  module _ (command : Command) (called : IsCallOf words command) (ran : Ran)
+      (run : EndsCommand left read_faults written out_faults told err_faults (Answers command) (Takes (name_of command)) (Fails (name_of command)) source after out out_after err err_after ran) where
+    pub call_ended : Ended after ran.status ran.grown
     call_ended =
         Ends-map read_faults written out_faults told err_faults source after out out_after err err_after
-        (Answers command (left source) (left after)) (IsAnswer words (left source) (left after))
+        (λ grown. Answers command grown (left source) (left after)) (IsAnswer words (left source) (left after))
         (IsFaultLine (Fails (name_of command) (left source) (left after))) (IsTextRefusal words (left source) (left after)) (λ text. ⊥) (IsWordsRefusal words)
-        (λ is_yes text answer. record { command = command; called = called; answer = answer })
+        (λ grown is_yes text answer. record { command = command; called = called; answer = answer })
         (λ text line. record { command = command; called = called; fault = line.fault; fails = line.is; told = line.told })
-        (λ text never. absurd never) s run.ends
+        (λ text never. absurd never) ran.status ran.grown run.ends
 
     abbrev Run : Status → Type 0
-    Run = Ends read_faults written out_faults told err_faults (Answers command (left source) (left after)) (IsFaultLine (Fails (name_of command) (left source) (left after))) (λ text. ⊥)
-        source after out out_after err err_after
+    Run s = Ends read_faults written out_faults told err_faults (λ grown. Answers command grown (left source) (left after)) (IsFaultLine (Fails (name_of command) (left source) (left after))) (λ text. ⊥)
+        source after out out_after err err_after s ran.grown
 
-    pub call_grown : (choice : ℕ) (is_yes : Bool) → IsCallOf words (Grow choice) → s ≡ answer_status is_yes →
+    pub call_grown : (workers choice : ℕ) (is_yes : Bool) → IsCallOf words (Grow workers choice) → ran.status ≡ answer_status is_yes →
         Gains written out_faults (AnswersInput IsHeadline (left source) (left after) is_yes) out out_after
-    call_grown choice is_yes grows is = go is_yes (subst Run is run.ends)
+    call_grown workers choice is_yes grows is = go is_yes (subst Run is run.ends)
       where
-        grown : (is_yes : Bool) → Gains written out_faults (Answers command (left source) (left after) is_yes) out out_after →
+        grown : (is_yes : Bool) → Gains written out_faults (Answers command ran.grown (left source) (left after) is_yes) out out_after →
             Gains written out_faults (AnswersInput IsHeadline (left source) (left after) is_yes) out out_after
         grown is_yes gained =
-            let same : command ≡ Grow choice = call_once words command (Grow choice) called grows in
-            let Said : Command → Type 0 = λ c. Answers c (left source) (left after) is_yes gained.text in
+            let same : command ≡ Grow workers choice = call_once words command (Grow workers choice) called grows in
+            let Said : Command → Type 0 = λ c. Answers c ran.grown (left source) (left after) is_yes gained.text in
             record {
               text = gained.text;
-              said = headline_of (left source) (left after) is_yes gained.text (subst Said same gained.said);
+              said = headline_of workers ran.grown (left source) (left after) is_yes gained.text (subst Said same gained.said);
               whole = gained.whole;
               quiet = gained.quiet;
             }
@@ -78,26 +82,29 @@ module _ {S K E : Type 0} (left : S → Option (List ℕ)) (read_faults : S → 
     call_named unnamed = let other : None ≡ Some (name_of command) = sym unnamed ∙ called.named in cc
 
     pub call_complete : IsDue words (left source) → ¬ Rose (read_faults source) (read_faults after) → ¬ Rose (out_faults out) (out_faults out_after) →
-        ¬ Rose (err_faults err) (err_faults err_after) → IsAnswered s ⊎ (s ≡ status.NoMemory)
+        ¬ Rose (err_faults err) (err_faults err_after) → IsAnswered ran.status ⊎ (ran.status ≡ status.NoMemory)
     call_complete due source_quiet out_quiet err_quiet =
         let same = same_name words due.name (name_of command) due.taken.named called.named in
         let Taken : CommandName → Type 0 = λ name. Takes name due.input in
         run.complete (record { input = due.input; known = due.known; short = due.short; takes = subst Taken same due.takes }) source_quiet out_quiet err_quiet
 
   -- where they are refused, or memory is wanting while they are read
-  words_ended : (stop : WordsStop) → IsRefusedAs words stop → (s : Status) → Writes told err_faults err err_after status.Words s (refused_words stop) → out_after ≡ out → Ended source s
+  abbrev Unanswered : Status → Type 0
+  Unanswered s = Ended source s None
+
+  words_ended : (stop : WordsStop) → IsRefusedAs words stop → (s : Status) → Writes told err_faults err err_after status.Words s (refused_words stop) → out_after ≡ out → Ended source s None
   words_ended stop refused s (inl whole) same =
-      subst (Ended source) (sym whole.is)
-      (record { text = refused_words stop; said = record { stop = stop; refused = refused; told = refl }; whole = whole.whole; quiet = whole.quiet }, same, refl)
+      subst Unanswered (sym whole.is)
+      ((record { text = refused_words stop; said = record { stop = stop; refused = refused; told = refl }; whole = whole.whole; quiet = whole.quiet }, same, refl), refl)
   words_ended stop refused s (inr cut) same =
-      subst (Ended source) (sym cut.is)
-      (inr (record { text = refused_words stop; said = inr (record { stop = stop; refused = refused; told = refl }); front = cut.front; fault = cut.fault }, same))
+      subst Unanswered (sym cut.is)
+      (inr (record { text = refused_words stop; said = inr (record { stop = stop; refused = refused; told = refl }); front = cut.front; fault = cut.fault }, same), refl)
 
   pub stop_ended : (stop : WordsStop) → (stop ≡ NoCommand → command_named words ≡ None) → (stop ≡ Usage → IsUsage words) → (s : Status) →
-      Refuses told err_faults err err_after (stop_of_words stop) s → out_after ≡ out → Ended source s
+      Refuses told err_faults err err_after (stop_of_words stop) s → out_after ≡ out → Ended source s None
   stop_ended NoCommand unnamed usage s refuses same = words_ended NoCommand (unnamed refl) s refuses same
   stop_ended Usage unnamed usage s refuses same = words_ended Usage (usage refl) s refuses same
-  stop_ended NoMemory unnamed usage s (is, same_err) same = subst (Ended source) (sym is) (same, same_err)
+  stop_ended NoMemory unnamed usage s (is, same_err) same = subst Unanswered (sym is) ((same, same_err), refl)
 
 module _ {E : Type 0} (told : E → Option (List ℕ)) (err_faults : E → ℕ) (words : List (List ℕ)) (err err_after : E) where
   -- no stop at the words is told as an answer or a read fault

@@ -1,16 +1,16 @@
 -- What the top call promises.
-use Rattle.std.specs.Prelude.{◌≡◌, ◌↔◌, ◌⊎◌, ◌≤◌, ◌++◌, ℕ, Bool, true, false, List, length, Option, Some}
+use Rattle.std.specs.Prelude.{◌≡◌, ◌↔◌, ◌⊎◌, ◌≤◌, ◌++◌, ℕ, Bool, true, false, List, length, Option, Some, None}
 use Rattle.tilebench.specs.declared.status.Status.TheVariants.{Done, No, Words, Text, ReadFault, WriteFault, NoMemory}
 use Rattle.tilebench.specs.Terms.{Command, CommandName, WordsStop, IsCallOf, IsTaken, IsRefusedAs, name_of, refused_words}
 use Rattle.tilebench.specs.Terms.{Status, TextFault, MOST_INPUT, Rose, Gains, GainsFront, Answers, Fails, Takes, refused_text}
-use Rattle.tilebench.specs.Terms.{Outcome, IsOutcome, IsSystemThenSequence, spelling, Place, TileSystem, IsSystemAlone, IsGrowth, IsLegal, SamePlacements, growth_text}
+use Rattle.tilebench.specs.Terms.{GrownValue, Outcome, IsOutcome, IsSystemThenSequence, spelling, Place, TileSystem, IsSystemAlone, IsGrowth, IsLegal, SamePlacements, growth_text}
 use Rattle.tilebench.specs.Terms.{IsClosedInBox, IsLeastOpenOutside, IsLocallyDeterministic, IsDeterministicInBox, IsDeterministicInSomeOrder, GrowsInto}
 
--- An answer: the words call for a command, as clap reads them, and this is what it answers to what was left of the source.
-pub record IsAnswer (words : List (List ℕ)) (left left_after : Option (List ℕ)) (is_yes : Bool) (text : List ℕ) : Type 0 where
+-- An answer: the words call for a command, as clap reads them, and this is what it answers to what was left of the source, with the growth that it hands out.
+pub record IsAnswer (words : List (List ℕ)) (left left_after : Option (List ℕ)) (grown : Option GrownValue) (is_yes : Bool) (text : List ℕ) : Type 0 where
   pub command : Command
   pub called : IsCallOf words command
-  pub answer : Answers command left left_after is_yes text
+  pub answer : Answers command grown left left_after is_yes text
 
 -- A refusal of the words: the first names no command, or clap finds a fault in the list and does not promise to take it.
 pub record IsWordsRefusal (words : List (List ℕ)) (text : List ℕ) : Type 0 where
@@ -26,19 +26,24 @@ pub record IsTextRefusal (words : List (List ℕ)) (left left_after : Option (Li
   pub fails : Fails (name_of command) left left_after fault
   pub told : text ≡ refused_text fault
 
--- How a run ends, by its status: `out` gained an answer, or `err` a refusal, or a count of faults rose, or memory was wanting.
+-- How a run ends, by its status: `out` gained an answer, with which a growth may be handed out; or `err` gained a refusal, or a count of faults rose, or memory was wanting.
 module _ {S K E : Type 0} (read_faults : S → ℕ) (written : K → Option (List ℕ)) (out_faults : K → ℕ) (told : E → Option (List ℕ)) (err_faults : E → ℕ)
-    (Answer : Bool → List ℕ → Type 0) (Refusal WordsRefusal : List ℕ → Type 0) (source source_after : S) (out out_after : K) (err err_after : E) where
-  abbrev pub Ends : Status → Type 0
-  Ends Done = Gains written out_faults (Answer true) out out_after × (err_after ≡ err)
-  Ends No = Gains written out_faults (Answer false) out out_after × (err_after ≡ err)
-  Ends Words = Gains told err_faults WordsRefusal err err_after × (out_after ≡ out) × (source_after ≡ source)
-  Ends Text = Gains told err_faults Refusal err err_after × (out_after ≡ out)
-  Ends ReadFault = Rose (read_faults source) (read_faults source_after) × (out_after ≡ out) × (err_after ≡ err)
-  Ends WriteFault =
-      (GainsFront written out_faults (λ text. (is_yes : Bool) × Answer is_yes text) out out_after × (err_after ≡ err))
+    (Answer : Option GrownValue → Bool → List ℕ → Type 0) (Refusal WordsRefusal : List ℕ → Type 0) (source source_after : S) (out out_after : K) (err err_after : E) where
+  abbrev pub EndsUnanswered : Status → Type 0
+  EndsUnanswered Done = ⊥
+  EndsUnanswered No = ⊥
+  EndsUnanswered Words = Gains told err_faults WordsRefusal err err_after × (out_after ≡ out) × (source_after ≡ source)
+  EndsUnanswered Text = Gains told err_faults Refusal err err_after × (out_after ≡ out)
+  EndsUnanswered ReadFault = Rose (read_faults source) (read_faults source_after) × (out_after ≡ out) × (err_after ≡ err)
+  EndsUnanswered WriteFault =
+      (GainsFront written out_faults (λ text. (lost : Option GrownValue) × (is_yes : Bool) × Answer lost is_yes text) out out_after × (err_after ≡ err))
       ⊎ (GainsFront told err_faults (λ text. Refusal text ⊎ WordsRefusal text) err err_after × (out_after ≡ out))
-  Ends NoMemory = (out_after ≡ out) × (err_after ≡ err)
+  EndsUnanswered NoMemory = (out_after ≡ out) × (err_after ≡ err)
+
+  abbrev pub Ends : Status → Option GrownValue → Type 0
+  Ends Done grown = Gains written out_faults (Answer grown true) out out_after × (err_after ≡ err)
+  Ends No grown = Gains written out_faults (Answer grown false) out out_after × (err_after ≡ err)
+  Ends status grown = EndsUnanswered status × (grown ≡ None)
 
 -- An answer is due: clap promises to take the words, and what is left of the source is known, short, and an input that the command takes.
 pub record IsDue (words : List (List ℕ)) (left : Option (List ℕ)) : Type 0 where

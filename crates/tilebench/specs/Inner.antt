@@ -1,5 +1,5 @@
 pub mod Gives
-pub mod GridGrowing
+pub mod Races
 pub mod Readings
 pub mod Rooms
 pub mod Runs

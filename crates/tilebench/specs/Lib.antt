@@ -1,5 +1,6 @@
 pub mod Commands
 pub mod Gains
+pub mod Growing
 pub mod Headline
 pub mod Inner
 pub mod Inputs

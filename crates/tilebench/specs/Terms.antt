@@ -7,6 +7,7 @@ pub use Rattle.atam.specs.TileSystem.{TileSystem}
 pub use Rattle.atam.specs.Placements.{SamePlacements}
 pub use Rattle.atam.specs.Growth.{IsLegal, IsClosedInBox, IsLeastOpenOutside, GrowsInto}
 pub use Rattle.atam.specs.Determinism.{IsDeterministicInBox, IsLocallyDeterministic}
+pub use Rattle.site_table.specs.Seats.{GrownValue}
 pub use Rattle.unique_law.specs.Outcomes.{Outcome, IsOutcome, IsDeterministicInSomeOrder}
 pub use Rattle.tile_text.specs.Spelling.{spelling}
 pub use Rattle.command_line.specs.declared.commands.Command.{Command}

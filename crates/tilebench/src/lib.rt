@@ -5,10 +5,8 @@
 #![tactic(auto)]
 
 mod commands;
-mod grid_growth;
 mod input;
 mod order;
-mod picker;
 mod room;
 mod run;
 mod status;

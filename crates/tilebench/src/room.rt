@@ -1,13 +1,18 @@
 // What a command is to the top call: it answers an input, and its answer has a text.
-ghost use Rattle.std.specs.Prelude.{◌≡◌, ◌≤◌, ℕ, Bool, List, length};
+ghost use Rattle.std.specs.Prelude.{◌≡◌, ◌≤◌, ℕ, Bool, List, length, IfOk};
 ghost use Rattle.tile_io.specs.declared.fault.TextFault.{TextFault};
 ghost use Rattle.tile_io.specs.declared.limits.TheConstants.{MOST_INPUT};
 ghost use Rattle.tile_io.specs.Prints.{Prints};
-ghost use Rattle.tilebench.specs.Inner.Gives.{GivesReply};
+ghost use Rattle.atam.specs.TileSystem.{TileSystem};
+ghost use Rattle.site_table.specs.Seats.{GrownValue};
+ghost use Rattle.grow_workers.specs.Workers.{IsGrowth};
+ghost use Rattle.tilebench.specs.Inner.Gives.{GivesReply, Replies};
 
 use crate::stop::Stop;
+use site_table::Grown;
 use std::alloc::Global;
 use tile_io::{Failed, Sink};
+use tile_system::{NoMemory, System};
 
 /// What a command answers.
 pub trait Reply {
@@ -52,4 +57,27 @@ pub trait Room {
     /// An input that it takes has no fault.
     ghost one_of_two: { (room : Self) (input : List ℕ) (fault : TextFault) →
         takes room input → fails room input fault → ⊥ };
+}
+
+/// A command that grows the system of its input. It is no [`Room`]: a method of a trait starts no
+/// threads, so the growth stands in front of it.
+pub trait GrowthRoom {
+    type Answer: Reply + Drop;
+
+    /// What it tells of a growth by so many workers: whether it is a yes, and the text.
+    ghost tells: { ℕ → TileSystem → GrownValue → Bool → List ℕ → Type 0 };
+
+    /// What it tells of a growth, or want of memory.
+    fn answer(
+        &self,
+        alloc: Global,
+        sys: System,
+        workers: u32,
+        grown: &Grown,
+    ) -> Result<Self::Answer, NoMemory>
+        requires some { 1 ≤ workers }
+        requires few { workers ≤ 16 }
+        requires grew { IsGrowth sys workers grown.now }
+        ensures { IfOk result (Replies Self.Answer.yes Self.Answer.text Self.Answer.printable
+            (tells workers sys grown.now)) };
 }

@@ -2,6 +2,8 @@
 ghost use Rattle.std.specs.Prelude.{◌≡◌};
 ghost use Rattle.tilebench.specs.Statuses.{number_of};
 
+use site_table::Grown;
+
 /// How a run ended. The numbers are the program's exit codes, from 0 in this order.
 #[derive(Clone, Copy, Debug, PartialEq, Eq)]
 pub enum Status {
@@ -39,7 +41,10 @@ impl Status {
 }
 
 /// What the top call hands back.
-#[derive(Clone, Copy, Debug, PartialEq, Eq)]
+#[derive(Drop)]
 pub struct Ran {
     pub status: Status,
+    /// The closed table on which the system was grown, where the answer of a command that grows was
+    /// printed.
+    pub grown: Option<Grown>,
 }

@@ -1,41 +1,51 @@
 // What is told of an answer or a stop.
 ghost use Rattle.std.specs.Prelude.{◌≡◌, IfOk};
 ghost use Rattle.tile_io.specs.Prints.{Prints};
-ghost use Rattle.tilebench.specs.Inner.Tells.{Tells, Refuses, Writes, written_status};
+ghost use Rattle.tilebench.specs.Inner.Tells.{Tells, Refuses, WritesAnswer, written_status};
 ghost use Rattle.tilebench.specs.Refusals.{refused_text, refused_words};
 ghost use Rattle.tilebench.specs.Statuses.{answer_status};
 
 use crate::room::Reply;
-use crate::status::Status;
+use crate::status::{Ran, Status};
 use crate::stop::Stop;
 use command_line::WordsStop;
 use itoa::Buffer;
+use site_table::Grown;
 use tile_io::{Failed, Sink, TextFault, print_line};
 
 /// Writes the text of an answer, or the refusal where there is none.
 pub fn tell<A: Reply + Drop, K: Sink, E: Sink>(
-    answer: Result<A, Stop>,
+    answer: Result<(A, Option<Grown>), Stop>,
     out: &mut K,
     err: &mut E,
-) -> Status
-    requires { IfOk answer A.printable }
+) -> Ran
+    requires { IfOk answer (λ found. A.printable found.0) }
     ensures { Tells A.yes A.text K.written K.faults E.written E.faults
         out.old out.new err.old err.new answer result }
 {
     match answer {
-        Ok(reply) => print_reply(&reply, out),
-        Err(stop) => refuse(stop, err),
+        Ok((reply, grown)) => print_reply(&reply, grown, out),
+        Err(stop) => Ran {
+            status: refuse(stop, err),
+            grown: None,
+        },
     }
 }
 
-// Writes the text of an answer.
-fn print_reply<A: Reply, K: Sink>(reply: &A, out: &mut K) -> Status
+// Writes the text of an answer, and hands out its growth.
+fn print_reply<A: Reply, K: Sink>(reply: &A, grown: Option<Grown>, out: &mut K) -> Ran
     requires { A.printable reply.now }
-    ensures { Writes K.written K.faults out.old out.new
-        (answer_status (A.yes reply.now)) result (A.text reply.now) }
+    ensures { WritesAnswer K.written K.faults out.old out.new
+        (A.yes reply.now) (A.text reply.now) grown result }
 {
-    let told = answer_status(reply.is_yes());
-    written(reply.print(out), told)
+    let status = answer_status(reply.is_yes());
+    match reply.print(out) {
+        Ok(()) => Ran { status, grown },
+        Err(Failed) => Ran {
+            status: Status::WriteFault,
+            grown: None,
+        },
+    }
 }
 
 // The status of an answer.
@@ -73,7 +83,7 @@ fn print_fault<E: Sink>(fault: TextFault, err: &mut E) -> Result<(), Failed>
     print_line(err, b"refused", &[b"text", b"line", line, cause])
 }
 
-// The status of a text that was to be written.
+// The status of a refusal that was to be written.
 fn written(done: Result<(), Failed>, told: Status) -> Status
     ensures { result ≡ written_status done told }
 {

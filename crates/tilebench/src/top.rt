@@ -22,25 +22,25 @@ use tile_io::{Gate, Sink, Source};
 ///
 /// `words` do not hold the program's name. All memory is taken before the first write.
 pub fn tilebench<R: Threads + Sync, S: Source, K: Sink, E: Sink, G: Gate>(
-    _rt: &R,
+    rt: &R,
     alloc: Global,
     words: &[String],
     source: &mut S,
     out: &mut K,
     err: &mut E,
-    _gate: &G,
+    gate: &G,
 ) -> Ran
-    // By its status: `out` gained an answer, or `err` a refusal, or a count of faults rose, or memory
-    // was wanting.
+    // By its status: `out` gained an answer, with which a growth is handed out where the command
+    // grows; or `err` gained a refusal, or a count of faults rose, or memory was wanting.
     ensures ends { Ends S.faults K.written K.faults E.written E.faults
         (IsAnswer (map string_bytes words.now) (S.left source.old) (S.left source.new))
         (IsTextRefusal (map string_bytes words.now) (S.left source.old) (S.left source.new))
         (IsWordsRefusal (map string_bytes words.now))
-        source.old source.new out.old out.new err.old err.new result.status }
+        source.old source.new out.old out.new err.old err.new result.status result.grown }
 
     // What `grow` printed.
-    ensures growth { (choice : ℕ) (is_yes : Bool)
-        → IsCallOf (map string_bytes words.now) (Grow choice)
+    ensures growth { (workers choice : ℕ) (is_yes : Bool)
+        → IsCallOf (map string_bytes words.now) (Grow workers choice)
         → result.status ≡ answer_status is_yes
         → Gains K.written K.faults
         (AnswersInput IsHeadline (S.left source.old) (S.left source.new) is_yes) out.old out.new }
@@ -63,12 +63,15 @@ pub fn tilebench<R: Threads + Sync, S: Source, K: Sink, E: Sink, G: Gate>(
     // for it.
     ensures complete { IsDue (map string_bytes words.now) (S.left source.old)
         → ¬ Rose (S.faults source.old) (S.faults source.new)
-        → ¬ Rose (K.faults out.old) (K.faults out.new) → ¬ Rose (E.faults err.old) (E.faults err.new)
+        → ¬ Rose (K.faults out.old) (K.faults out.new)
+        → ¬ Rose (E.faults err.old) (E.faults err.new)
         → IsAnswered result.status ⊎ (result.status ≡ Status.NoMemory) }
 {
-    let status = match command_of(alloc, words) {
-        Ok(command) => run_command(alloc, command, source, out, err),
-        Err(stop) => refuse(Stop::from(stop), err),
-    };
-    Ran { status }
+    match command_of(alloc, words) {
+        Ok(command) => run_command(rt, alloc, command, source, out, err, gate),
+        Err(stop) => Ran {
+            status: refuse(Stop::from(stop), err),
+            grown: None,
+        },
+    }
 }

@@ -2,13 +2,13 @@
 use Rattle.std.specs.Prelude.{◌≡◌, ℕ, Bool, true, false, List, ◌++◌}
 use Rattle.atam.specs.declared.place.Place.{Place}
 use Rattle.atam.specs.TileSystem.{TileSystem}
+use Rattle.site_table.specs.Seats.{GrownValue}
 use Rattle.replay_order.specs.ReplayAnswers.{IsWholeOrder}
 use Rattle.local_check.specs.declared.verdict.Verdict.{Verdict}
 use Rattle.local_check.specs.declared.verdict.Verdict.TheVariants.{Yes}
 use Rattle.seq_text.specs.GrowthLines.{place_lines, closed_line}
 use Rattle.seq_text.specs.VerdictLines.{verdict_line}
 use Rattle.unique_law.specs.Outcomes.{Outcome, IsOutcome}
-use Rattle.tilebench.specs.Inputs.{IsSystemAlone}
 
 -- whether a verdict is a yes
 abbrev pub is_unique : Verdict → Bool
@@ -25,12 +25,9 @@ pub record IsGrowth (sys : TileSystem) (tiles : List Place) (outcome : Outcome) 
   pub outcome_is : IsOutcome sys tiles outcome
   pub ordered : IsWholeOrder sys tiles outcome.order
 
--- the input is the text of one system, and this the text of what it grew into
-pub record IsGrowthAnswer (input : List ℕ) (is_yes : Bool) (text : List ℕ) : Type 0 where
-  pub sys : TileSystem
-  pub read : IsSystemAlone input sys
-  pub tiles : List Place
+-- this is the text of what the system grew into, which are the tiles of the closed table
+pub record IsGrowthText (sys : TileSystem) (table : GrownValue) (is_yes : Bool) (text : List ℕ) : Type 0 where
   pub outcome : Outcome
-  pub grown : IsGrowth sys tiles outcome
+  pub grown : IsGrowth sys table.grid.tiles outcome
   pub printed : text ≡ growth_text sys outcome
   pub answer : is_yes ≡ is_unique outcome.verdict

@@ -1,7 +1,8 @@
 -- What the steps towards an answer hand back: a value, or why there is none.
-use Rattle.std.specs.Prelude.{◌≡◌, ℕ, Bool, List, Result, Ok, Err}
+use Rattle.std.specs.Prelude.{◌≡◌, ℕ, Bool, List, Option, Result, Ok, Err}
 use Rattle.tile_io.specs.declared.fault.TextFault.{TextFault}
 use Rattle.tile_io.specs.Faults.{Rose}
+use Rattle.site_table.specs.Seats.{GrownValue}
 use Rattle.tilebench.specs.declared.stop.Stop.{Stop}
 use Rattle.tilebench.specs.declared.stop.Stop.TheVariants.{Words, Text, ReadFault, NoMemory}
 
@@ -21,10 +22,15 @@ pub record Replies {A : Type 0} (positive : A → Bool) (text : A → List ℕ) 
 abbrev pub GivesReply : {A : Type 0} → (A → Bool) → (A → List ℕ) → (A → Type 0) → (Bool → List ℕ → Type 0) → (TextFault → Type 0) → Result A Stop → Type 0
 GivesReply positive text printable Answers Fails result = Gives (Replies positive text printable Answers) Fails result
 
+-- the same with the growth that is to be handed out
+abbrev pub GivesGrowth : {A : Type 0} → (A → Bool) → (A → List ℕ) → (A → Type 0) → (Option GrownValue → Bool → List ℕ → Type 0) → (TextFault → Type 0)
+    → Result (A × Option GrownValue) Stop → Type 0
+GivesGrowth positive text printable Answers Fails result = Gives (λ found. Replies positive text printable (Answers found.1) found.0) Fails result
+
 -- the same of what was left of the source; or the source failed
 module _ {S A : Type 0} (faults : S → ℕ) (positive : A → Bool) (text : A → List ℕ) (printable : A → Type 0) where
-  abbrev pub GivesFromSource : (Bool → List ℕ → Type 0) → (TextFault → Type 0) → S → S → Result A Stop → Type 0
-  GivesFromSource Answers Fails source after (Ok reply) = Replies positive text printable Answers reply × (faults after ≡ faults source)
+  abbrev pub GivesFromSource : (Option GrownValue → Bool → List ℕ → Type 0) → (TextFault → Type 0) → S → S → Result (A × Option GrownValue) Stop → Type 0
+  GivesFromSource Answers Fails source after (Ok found) = Replies positive text printable (Answers found.1) found.0 × (faults after ≡ faults source)
   GivesFromSource Answers Fails source after (Err (Text fault)) = Fails fault × (faults after ≡ faults source)
   GivesFromSource Answers Fails source after (Err ReadFault) = Rose (faults source) (faults after)
   GivesFromSource Answers Fails source after (Err NoMemory) = faults after ≡ faults source

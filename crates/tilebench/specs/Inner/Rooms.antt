@@ -25,10 +25,9 @@ pub record HasTypes (sys : TileSystem) (outcome : Outcome) : Type 0 where
 abbrev pub outcome_of : Growth → Outcome
 outcome_of growth = record { order = growth.order; outside = growth.outside; verdict = growth.verdict }
 
--- a growth of this system
-pub record GrowsTo (sys : TileSystem) (growth : Growth) : Type 0 where
+-- a growth of this system into these tiles
+pub record GrowsTo (sys : TileSystem) (tiles : List Place) (growth : Growth) : Type 0 where
   pub same : growth.sys ≡ sys
-  pub tiles : List Place
   pub grown : IsGrowth growth.sys tiles (outcome_of growth)
   pub types : HasTypes growth.sys (outcome_of growth)
 

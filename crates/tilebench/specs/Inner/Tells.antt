@@ -1,8 +1,10 @@
 -- What is written, and the status that tells it.
-use Rattle.std.specs.Prelude.{◌≡◌, ◌⊎◌, ◌≤◌, ℕ, Bool, List, Option, Result, Ok, Err}
+use Rattle.std.specs.Prelude.{◌≡◌, ◌⊎◌, ◌≤◌, ℕ, Bool, List, Option, None, Result, Ok, Err}
 use Rattle.std.specs.Io.KnownBytes.{Appends}
 use Rattle.tile_io.specs.Faults.{Rose}
 use Rattle.tile_io.specs.Prints.{AppendsFront}
+use Rattle.site_table.specs.Seats.{GrownValue}
+use Rattle.tilebench.specs.declared.status.Ran.{Ran}
 use Rattle.tilebench.specs.declared.status.Status.{Status}
 use Rattle.tilebench.specs.declared.status.Status.TheVariants as status
 use Rattle.tilebench.specs.declared.stop.Stop.{Stop}
@@ -10,7 +12,7 @@ use Rattle.tilebench.specs.declared.stop.Stop.TheVariants.{Words, Text, ReadFaul
 use Rattle.tilebench.specs.Refusals.{refused_text, refused_words}
 use Rattle.tilebench.specs.Statuses.{answer_status}
 
--- the status of a text that was to be written
+-- the status of a refusal that was to be written
 abbrev pub written_status : {T E : Type 0} → Result T E → Status → Status
 written_status (Ok x) told = told
 written_status (Err e) told = status.WriteFault
@@ -39,9 +41,13 @@ module _ {K : Type 0} (written : K → Option (List ℕ)) (faults : K → ℕ) w
   Refuses old new ReadFault outcome = (outcome ≡ status.ReadFault) × (new ≡ old)
   Refuses old new NoMemory outcome = (outcome ≡ status.NoMemory) × (new ≡ old)
 
+  -- the text of an answer was written whole, and its growth is handed out; or a write failed
+  abbrev pub WritesAnswer : K → K → Bool → List ℕ → Option GrownValue → Ran → Type 0
+  WritesAnswer old new is_yes text grown ran =
+      (WritesWhole old new (answer_status is_yes) ran.status text × (ran.grown ≡ grown)) ⊎ (WritesFront old new ran.status text × (ran.grown ≡ None))
+
 -- the text of an answer was written, or the refusal
 module _ {A K E : Type 0} (positive : A → Bool) (text : A → List ℕ) (written : K → Option (List ℕ)) (out_faults : K → ℕ) (told : E → Option (List ℕ)) (err_faults : E → ℕ) where
-  abbrev pub Tells : K → K → E → E → Result A Stop → Status → Type 0
-  Tells out out_after err err_after (Ok reply) outcome =
-      Writes written out_faults out out_after (answer_status (positive reply)) outcome (text reply) × (err_after ≡ err)
-  Tells out out_after err err_after (Err stop) outcome = Refuses told err_faults err err_after stop outcome × (out_after ≡ out)
+  abbrev pub Tells : K → K → E → E → Result (A × Option GrownValue) Stop → Ran → Type 0
+  Tells out out_after err err_after (Ok found) ran = WritesAnswer written out_faults out out_after (positive found.0) (text found.0) found.1 ran × (err_after ≡ err)
+  Tells out out_after err err_after (Err stop) ran = Refuses told err_faults err err_after stop ran.status × (ran.grown ≡ None) × (out_after ≡ out)

@@ -1,51 +1,39 @@
-// `grow`: what a system grows into within its box, on one thread.
+// `grow`: what a system grows into within its box.
 ghost use Rattle.std.specs.Prelude.{◌≡◌, IfOk};
-ghost use Rattle.atam.specs.Assembly.{Fits};
-ghost use Rattle.atam.specs.Growth.{IsFullGrowth};
+ghost use Rattle.atam.specs.Growth.{IsClosedInBox, IsProducible};
 ghost use Rattle.local_check.specs.declared.verdict.Verdict.{Verdict};
-ghost use Rattle.rand_pcg.specs.Lcg.{increment_of, started};
-ghost use Rattle.rand_pcg.specs.Pcg.{multiplier_64};
-ghost use Rattle.tilebench.specs.Inputs.{FailsWithin, IsReadable, alone};
-ghost use Rattle.tilebench.specs.Commands.Grow.{IsGrowthAnswer, growth_text, is_unique};
+ghost use Rattle.tilebench.specs.Commands.Grow.{IsGrowthText, growth_text, is_unique};
 ghost use Rattle.tilebench.specs.Inner.Rooms.{GrowsTo, HasTypes, outcome_of};
-ghost use Rattle.tilebench.specs.Inner.Readings.{taken_or_faulty};
 
-use crate::grid_growth::{GridGrowth, grow_grid};
-use crate::input::read_alone;
 use crate::order::canonical_order;
-use crate::room::{Reply, Room};
-use crate::stop::Stop;
+use crate::room::{GrowthRoom, Reply};
 use assembly::{Grid, Sequence};
 use attach_rule::least_open_outside;
-use frontier_seat::RngChooser;
 use local_check::{Verdict, inputs, judge};
-use rand_pcg::Lcg64Xsh32;
 use seq_text::{print_closed, print_places, print_verdict};
+use site_table::Grown;
 use std::alloc::Global;
 use tile_io::{Failed, Sink};
 use tile_system::{NoMemory, Site, System, TypeId};
 
-/// The command, whose choice picks among the types that attach at a site.
+/// The command.
 #[derive(Clone, Copy)]
-pub struct Grow {
-    pub choice: u64,
-}
+pub struct Grow;
 
-impl Room for Grow {
+impl GrowthRoom for Grow {
     type Answer = Growth;
 
-    ghost answers = { λ room. IsGrowthAnswer };
+    ghost tells = { λ workers. IsGrowthText };
 
-    ghost takes = { λ room. IsReadable alone };
-
-    ghost fails = { λ room. FailsWithin alone };
-
-    fn answer(&self, alloc: Global, input: &[u8]) -> Result<Growth, Stop> {
-        let sys = read_alone(alloc, input)?;
-        Ok(growth_of(alloc, sys, self.choice)?)
+    fn answer(
+        &self,
+        alloc: Global,
+        sys: System,
+        _workers: u32,
+        grown: &Grown,
+    ) -> Result<Growth, NoMemory> {
+        growth_of(alloc, sys, grown.grid())
     }
-
-    ghost one_of_two = { λ room. taken_or_faulty alone };
 }
 
 /// What a system grew into: its tiles in canonical order, what is open outside its box, and the
@@ -83,13 +71,16 @@ pub fn is_unique(verdict: Verdict) -> bool
     matches!(verdict, Verdict::Yes)
 }
 
-/// Grows a system within its box, at each site with the type that the choice picks.
-fn growth_of(alloc: Global, sys: System, choice: u64) -> Result<Growth, NoMemory>
-    ensures { IfOk result (GrowsTo sys) }
+// What a system grew into, by the grid of a full growth.
+fn growth_of(alloc: Global, sys: System, grid: &Grid) -> Result<Growth, NoMemory>
+    requires area { grid.now.area ≡ sys.area }
+    requires producible { IsProducible sys grid.now.tiles }
+    requires closed { IsClosedInBox sys grid.now.tiles }
+    ensures { IfOk result (GrowsTo sys grid.now.tiles) }
 {
-    let grid = grown_grid(alloc, &sys, choice)?;
-    let outside = least_open_outside(&sys, &grid);
-    let order = canonical_order(alloc, &sys, &grid)?;
+    let _box = grid.area();
+    let outside = least_open_outside(&sys, grid);
+    let order = canonical_order(alloc, &sys, grid)?;
     let sides = inputs(alloc, &sys, &order)?;
     let verdict = judge(&sys, &order, &sides);
     Ok(Growth {
@@ -98,23 +89,4 @@ fn growth_of(alloc: Global, sys: System, choice: u64) -> Result<Growth, NoMemory
         outside,
         verdict,
     })
-}
-
-// The grid of a full growth, whose types are picked by the random number generator of the choice.
-fn grown_grid(alloc: Global, sys: &System, choice: u64) -> Result<Grid, NoMemory>
-    ensures area { IfOk result (λ grid. grid.area ≡ sys.now.area) }
-    ensures full { IfOk result (λ grid. IsFullGrowth sys.now grid.tiles) }
-    ensures fits { IfOk result (λ grid. Fits sys.now grid.tiles) }
-{
-    let growth = grow_grid(alloc, sys, RngChooser::make(generator(choice)))?;
-    let GridGrowth { sequence: _, grid } = growth;
-    let _area = grid.area();
-    Ok(grid)
-}
-
-// The random number generator of a choice, which is its state.
-fn generator(choice: u64) -> Lcg64Xsh32
-    ensures { result ≡ started 64 multiplier_64 choice (increment_of 64 0) }
-{
-    Lcg64Xsh32::new(choice, 0)
 }

@@ -1,11 +1,11 @@
-use Rattle.std.proofs.Common.{◌≡◌, rules}
+use Rattle.std.proofs.Common.{◌∙◌, ap, inl, inr, refl}
 use Rattle.tilebench.specs.Statuses.{answer_status}
-use Rattle.tilebench.specs.Inner.Tells.{written_status}
-use Rattle.tilebench.proofs.Writing.{Writes-printed}
 use Rattle.tilebench.proofs.telling.print_reply.Goals as goal
 
-pub returns : goal.returns
-returns g c =
-    let told = answer_status (g.A.Reply.yes c.args.reply.now) in
-    let outcome : c.written.result ≡ written_status c.print.result told = search rules in
-    Writes-printed c.print.result told c.written.result outcome c.print.ensures
+pub returns-in-Ok : goal.returns-in-Ok
+returns-in-Ok g c =
+    inl (record { is = c.answer_status-status.ensures ∙ ap answer_status c.is_yes.ensures; whole = c.in-Ok.ensures.whole; quiet = c.in-Ok.ensures.cause.stays }, refl)
+
+pub returns-in-Err : goal.returns-in-Err
+returns-in-Err g c =
+    inr (record { is = refl; front = c.in-Err.ensures.front; fault = c.in-Err.ensures.cause.failed; later = c.in-Err.ensures.cause.later }, refl)

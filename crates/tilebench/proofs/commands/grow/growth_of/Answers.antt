@@ -1,19 +1,29 @@
-use Rattle.std.proofs.Common.{refl}
-use Rattle.tilebench.proofs.Growths.{open_type, verdict_types}
+use Rattle.std.proofs.Common.{◌∙◌, refl}
+use Rattle.tilebench.proofs.Growths.{open_type, producible_fits, verdict_types}
 use Rattle.tilebench.proofs.commands.grow.growth_of.Goals as goal
+
+pub least_open_outside-outside-requires : goal.least_open_outside-outside-requires
+least_open_outside-outside-requires c = producible_fits c.args.sys c.area-box.result c.args.grid.now.tiles (c.area-box.ensures.area ∙ c.requires.area) c.area-box.ensures.inside c.requires.producible
+
+pub canonical_order-requires-clause-fits : goal.canonical_order-requires-clause-fits
+canonical_order-requires-clause-fits c =
+    producible_fits c.args.sys c.area-box.result c.args.grid.now.tiles (c.area-box.ensures.area ∙ c.requires.area) c.area-box.ensures.inside c.requires.producible
 
 pub returns : goal.returns
 returns c =
     let sys = c.args.sys in
-    let tiles = c.in_ok-grid.grid.tiles in
-    let full = c.in_ok-grid.ensures.full in
+    let tiles = c.args.grid.now.tiles in
     let ordered = c.in_ok-order.ensures in
     record {
       same = refl;
-      tiles = tiles;
       grown = record {
         outcome_is = record {
-          full = full;
+          full = record {
+            distinct = c.area-box.ensures.distinct;
+            inside = (producible_fits sys c.area-box.result tiles (c.area-box.ensures.area ∙ c.requires.area) c.area-box.ensures.inside c.requires.producible).sites;
+            producible = c.requires.producible;
+            closed = c.requires.closed;
+          };
           canonical = ordered.canonical;
           least = c.least_open_outside-outside.ensures;
           judged = c.judge-verdict.ensures;

@@ -1,0 +1,113 @@
+-- What workers win, one after another and together.
+use Rattle.std.proofs.Common.{◌≡◌, All, true, ◌∙◌, ◌<◌, ◌≤◌, ◌+◌, ◌-◌, ◌++◌, ℕ, zero, suc, List, [], ◌∷◌, length, drop, Some, refl, sym, ap, arith, inl, inr, add-one}
+use Rattle.std.specs.Prelude.{slice_get, slice_index, sum, sum_by}
+use Rattle.std.proofs.lemmas.Bool.{cases_lt}
+use Rattle.std.proofs.lemmas.List.Sums.{sum_by-append, sum_by-cons}
+use Rattle.atam.specs.declared.area.BoxArea.{BoxArea}
+use Rattle.atam.specs.Sites.{InBox}
+use Rattle.atam.specs.TileSystem.{TileSystem}
+use Rattle.site_table.specs.Seats.{GrownValue}
+use Rattle.grow_workers.specs.Workers.{IsGrowth}
+use Rattle.tilebench.specs.declared.commands.race.Win.{Win}
+use Rattle.tilebench.specs.Commands.Race.{AreWins, IsRaceText, race_text, won_by}
+use Rattle.tilebench.specs.Inner.Races.{won_together}
+use Rattle.tilebench.proofs.Growths.{producible_fits}
+
+-- an element before the last, and the last
+push_before : (wins : List Win) (win : Win) (k : ℕ) → k < length wins → slice_get (wins ++ win ∷ []) k ≡ slice_get wins k
+push_before [] win k within = absurd (omega (arith, within))
+push_before (x ∷ wins) win zero within = refl
+push_before (x ∷ wins) win (suc k) within = push_before wins win k (omega (arith, within))
+
+push_last : (wins : List Win) (win : Win) → slice_get (wins ++ win ∷ []) (length wins) ≡ Some win
+push_last [] win = refl
+push_last (x ∷ wins) win = push_last wins win
+
+-- one worker more
+pub wins_more : (counts : List ℕ) (wins : List Win) (n : ℕ) (win : Win) → length wins ≡ n → win ≡ record { worker = n; count = won_by counts n } →
+    ((w : ℕ) → w < n → slice_get wins w ≡ Some (record { worker = w; count = won_by counts w })) →
+    (w : ℕ) → w < n + 1 → slice_get (wins ++ win ∷ []) w ≡ Some (record { worker = w; count = won_by counts w })
+wins_more counts wins n win many is each w below = elim (cases_lt w n) [
+  | inl earlier ↦ push_before wins win w (omega (arith, many, earlier)) ∙ each w earlier
+  | inr last ↦
+      let at : w ≡ length wins = omega (arith, many, below, last) in
+      let at_n : w ≡ n = omega (arith, below, last) in
+      ap (slice_get (wins ++ win ∷ [])) at ∙ push_last wins win ∙ ap (λ (o : Win). Some o) is
+      ∙ ap (λ (k : ℕ). Some (record { worker = k; count = won_by counts k })) (sym at_n)
+]
+
+pub together_more : (counts : List ℕ) (wins : List Win) (n : ℕ) (win : Win) → win.count ≡ won_by counts n → sum_by (λ (w : Win). w.count) wins ≡ won_together counts n →
+    sum_by (λ (w : Win). w.count) (wins ++ win ∷ []) ≡ won_together counts (n + 1)
+together_more counts wins n win is together =
+    let sums = sum_by-append (λ (w : Win). w.count) wins (win ∷ []) in
+    let next : won_together counts (n + 1) ≡ won_together counts n + won_by counts n = ap (won_together counts) (add-one n) in
+    omega (arith, sums, next, is, together)
+
+-- a sum without its first elements
+sum_next : (xs : List ℕ) (k : ℕ) → k < length xs → sum (drop k xs) ≡ slice_index xs k + sum (drop (suc k) xs)
+sum_next [] k within = absurd (omega (arith, within))
+sum_next (x ∷ xs) zero within = sum_by-cons (λ (y : ℕ). y) x xs
+sum_next (x ∷ xs) (suc k) within = sum_next xs k (omega (arith, within))
+
+sum_past : (xs : List ℕ) (m k : ℕ) → k + m ≤ length xs → ((n : ℕ) → k ≤ n → n < k + m → slice_index xs n ≡ 0) → sum (drop k xs) ≡ sum (drop (k + m) xs)
+sum_past xs zero k within none = let same : k ≡ k + 0 = omega arith in ap (λ (n : ℕ). sum (drop n xs)) same
+sum_past xs (suc m) k within none =
+    let same : suc k + m ≡ k + suc m = omega arith in
+    let at : sum (drop (suc k + m) xs) ≡ sum (drop (k + suc m) xs) = ap (λ (n : ℕ). sum (drop n xs)) same in
+    let here : slice_index xs k ≡ 0 = none k (omega arith) (omega arith) in
+    let next = sum_next xs k (omega (arith, within)) in
+    let more = sum_past xs m (suc k) (omega (arith, within)) (λ n above below. none n (omega (arith, above)) (omega (arith, below))) in
+    omega (arith, here, next, more, at)
+
+sum_none : (xs : List ℕ) → sum (drop (length xs) xs) ≡ 0
+sum_none [] = refl
+sum_none (x ∷ xs) = sum_none xs
+
+-- the wins of worker 0 and of those with the greatest numbers
+together_is : (counts : List ℕ) (j : ℕ) → length counts ≡ 64 → j ≤ 63 → won_together counts (suc j) ≡ slice_index counts 0 + sum (drop (64 - j) counts)
+together_is counts zero many few =
+    let none : sum (drop 64 counts) ≡ 0 = ap (λ (k : ℕ). sum (drop k counts)) (sym many) ∙ sum_none counts in
+    omega (arith, none)
+together_is counts (suc j) many few =
+    let before = together_is counts j many (omega (arith, few)) in
+    let next = sum_next counts (63 - j) (omega (arith, many)) in
+    let at : suc (63 - j) ≡ 64 - j = omega (arith, few) in
+    let here : 64 - suc j ≡ 63 - j = omega arith in
+    let last : sum (drop (suc (63 - j)) counts) ≡ sum (drop (64 - j) counts) = ap (λ (k : ℕ). sum (drop k counts)) at in
+    let now : sum (drop (64 - suc j) counts) ≡ sum (drop (63 - j) counts) = ap (λ (k : ℕ). sum (drop k counts)) here in
+    omega (arith, before, next, last, now)
+
+-- where no other number has placed tiles, the workers won all
+pub won_in_all : (counts : List ℕ) (workers : ℕ) → length counts ≡ 64 → 1 ≤ workers → workers ≤ 16 → ((n : ℕ) → 0 < n → n + workers ≤ 64 → slice_index counts n ≡ 0) →
+    won_together counts workers ≡ sum counts
+won_in_all counts zero many some few idle = absurd (omega (arith, some))
+won_in_all counts (suc j) many some few idle =
+    let wins = together_is counts j many (omega (arith, few)) in
+    let whole = sum_next counts 0 (omega (arith, many)) in
+    let past = sum_past counts (63 - j) 1 (omega (arith, many, few)) (λ n above below. idle n (omega (arith, above)) (omega (arith, below, few))) in
+    let at : 1 + (63 - j) ≡ 64 - j = omega (arith, few) in
+    let last : sum (drop (1 + (63 - j)) counts) ≡ sum (drop (64 - j) counts) = ap (λ (k : ℕ). sum (drop k counts)) at in
+    omega (arith, wins, whole, past, last)
+
+-- the wins of all workers are told by their text
+pub race_told : (workers : ℕ) (sys : TileSystem) (table : GrownValue) (area : BoxArea) (wins : List Win) (total : ℕ) → 1 ≤ workers → workers ≤ 16 → IsGrowth sys workers table →
+    area ≡ sys.area → All (λ p. InBox area p.site) table.grid.tiles → AreWins workers table.won wins → sum_by (λ (win : Win). win.count) wins ≡ won_together table.won workers →
+    total + length sys.seeds ≡ length table.grid.tiles → IsRaceText workers sys table true (race_text wins total)
+race_told workers sys table area wins total some few grew same inside won together all =
+    let sums = won_in_all table.won workers grew.numbers some few grew.idle in
+    let tiles = grew.total in
+    record {
+      full = record {
+        distinct = grew.distinct;
+        inside = (producible_fits sys area table.grid.tiles same inside grew.producible).sites;
+        producible = grew.producible;
+        closed = grew.closed;
+      };
+      wins = wins;
+      won = won;
+      total = total;
+      sum_is = omega (arith, together, sums, tiles, all);
+      all = all;
+      printed = refl;
+      answer = refl;
+    }

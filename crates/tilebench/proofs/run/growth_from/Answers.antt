@@ -1,0 +1,17 @@
+use Rattle.std.proofs.Common.{List, ℕ, subst}
+use Rattle.tilebench.specs.Inputs.{FailsWithin, alone}
+use Rattle.tilebench.specs.Growing.{TellsGrowth}
+use Rattle.tilebench.specs.Inner.Gives.{GivesGrowth}
+use Rattle.tilebench.proofs.Sources.{from_source}
+use Rattle.tilebench.proofs.run.growth_from.Goals as goal
+
+pub returns-clause-answer : goal.returns-clause-answer
+returns-clause-answer g c =
+    let workers = c.args.workers in
+    let read = c.in_ok-input.ensures in
+    let Replied : List ℕ → Type 0 = λ input. GivesGrowth g.C.Answer.Reply.yes g.C.Answer.Reply.text g.C.Answer.Reply.printable
+    (λ grown. TellsGrowth (g.C.GrowthRoom.tells workers) workers grown input) (FailsWithin alone input) c.growth_answer.result in
+    from_source g.S.Source.faults g.C.Answer.Reply.yes g.C.Answer.Reply.text g.C.Answer.Reply.printable (λ grown. TellsGrowth (g.C.GrowthRoom.tells workers) workers grown)
+    (FailsWithin alone) (g.S.Source.left c.args.source.now) (g.S.Source.left c.read_whole.new.source) c.args.source.now c.read_whole.new.source c.in_ok-input.input.items
+    (record { read = read.bytes; at_end = read.end; short = read.short }) (read.stays (λ never. cc)) c.growth_answer.result
+    (subst Replied c.deref.ensures.value c.growth_answer.ensures)
