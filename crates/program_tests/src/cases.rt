@@ -6,7 +6,15 @@ use worked_systems::{
     CHAIN, FLIPPER, FULL, LIMITS, MISMATCH, NULL_GLUES, RIVALS, SINGLE, SMALL_COUNTER, SQUARE,
 };
 
-const GROWN: [Case; 10] = [
+const GROWN: [Case; 11] = [
+    Case {
+        words: &["race"],
+        system: CHAIN,
+        behind: "",
+        status: Status::Done,
+        out: "won 0 2\ntotal 2\n",
+        err: "",
+    },
     Case {
         words: &["grow"],
         system: SINGLE,
@@ -331,7 +339,7 @@ const REFUSED_TEXTS: [Case; 9] = [
     },
 ];
 
-const REFUSED_WORDS: [Case; 17] = [
+const REFUSED_WORDS: [Case; 19] = [
     Case {
         words: &[],
         system: CHAIN,
@@ -461,7 +469,23 @@ const REFUSED_WORDS: [Case; 17] = [
         err: "refused words Usage\n",
     },
     Case {
-        words: &["grow", "--workers", "2"],
+        words: &["grow", "--workers", "0"],
+        system: CHAIN,
+        behind: "",
+        status: Status::Words,
+        out: "",
+        err: "refused words Usage\n",
+    },
+    Case {
+        words: &["grow", "--workers", "17"],
+        system: CHAIN,
+        behind: "",
+        status: Status::Words,
+        out: "",
+        err: "refused words Usage\n",
+    },
+    Case {
+        words: &["check", "--workers", "2"],
         system: CHAIN,
         behind: "",
         status: Status::Words,

@@ -1,6 +1,7 @@
 // Growths whose text is made by rule, and choices.
 use crate::run::{Outcome, answered};
 use std::alloc::Global;
+use std::process::Abort;
 use std::test::Fail;
 use std::thread::Threads;
 use tilebench::Status;
@@ -26,19 +27,6 @@ fn takes_one_of_two_rivals(rt: HostRuntime) -> Result<(), Fail> {
         }
     }
     assert!(rt; took_first && took_second);
-    Ok(())
-}
-
-// A yes has the same bytes at every choice.
-#[test]
-fn prints_the_same_at_every_choice(rt: HostRuntime) -> Result<(), Fail> {
-    let alloc = rt.alloc();
-    let without = answered(&rt, alloc, &["grow"], SMALL_COUNTER)?;
-    for choice in ["0", "1", "18446744073709551615"] {
-        let ran = answered(&rt, alloc, &["grow", "--choice", choice], SMALL_COUNTER)?;
-        assert_eq!(rt; ran.status, Status::Done, "{choice}");
-        assert_eq!(rt; ran.out.as_slice(), without.out.as_slice(), "{choice}");
-    }
     Ok(())
 }
 
@@ -124,6 +112,21 @@ fn sierpinski_name(x: u32, y: u32) -> &'static str {
     }
 }
 
+// One worker, 4 and 16 of them grow the system into this text, which is a no.
+fn grows_with_any_workers<R: Threads + Sync + Abort>(
+    rt: &R,
+    alloc: Global,
+    system: &str,
+    out: &str,
+) -> Result<(), Fail> {
+    for workers in ["1", "4", "16"] {
+        let ran = answered(rt, alloc, &["grow", "--workers", workers], system)?;
+        assert_eq!(rt; ran.status, Status::No, "{workers}");
+        assert_eq!(rt; ran.out.as_slice(), out.as_bytes(), "{workers}");
+    }
+    Ok(())
+}
+
 #[test]
 fn grows_the_sierpinski_triangle(rt: HostRuntime) -> Result<(), Fail> {
     let alloc = rt.alloc();
@@ -136,10 +139,7 @@ fn grows_the_sierpinski_triangle(rt: HostRuntime) -> Result<(), Fail> {
         }
     }
     out.push_str("closed clipped 8 0 B\nunique no 3 8 0 B\n")?;
-    let ran = answered(&rt, alloc, &["grow"], SIERPINSKI)?;
-    assert_eq!(rt; ran.status, Status::No);
-    assert_eq!(rt; ran.out.as_slice(), out.as_bytes());
-    Ok(())
+    grows_with_any_workers(&rt, alloc, SIERPINSKI, out.as_str())
 }
 
 // A box that one type fills, by y, then x.
@@ -154,8 +154,5 @@ fn fills_a_box(rt: HostRuntime) -> Result<(), Fail> {
         }
     }
     out.push_str("closed clipped 0 -1 T\nunique no 1 1 1 2\n")?;
-    let ran = answered(&rt, rt.alloc(), &["grow"], FULL)?;
-    assert_eq!(rt; ran.status, Status::No);
-    assert_eq!(rt; ran.out.as_slice(), out.as_bytes());
-    Ok(())
+    grows_with_any_workers(&rt, alloc, FULL, out.as_str())
 }

@@ -13,3 +13,5 @@ mod growths;
 mod limits;
 #[cfg(test)]
 mod run;
+#[cfg(test)]
+mod workers;

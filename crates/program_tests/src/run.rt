@@ -1,6 +1,7 @@
 // Runs of the top call over memory.
 ghost use Rattle.std.specs.Prelude.{◌≤◌};
 
+use site_table::Grown;
 use std::alloc::Global;
 use std::process::Abort;
 use std::test::Fail;
@@ -8,10 +9,11 @@ use std::thread::Threads;
 use tile_io::{MemorySink, MemorySource, OpenGate};
 use tilebench::{Status, tilebench};
 
-/// How a run ended, and what its sinks hold.
+/// How a run ended, the growth that it handed out, and what its sinks hold.
 #[derive(Drop)]
 pub struct Outcome {
     pub status: Status,
+    pub grown: Option<Grown>,
     pub out: Vec<u8>,
     pub err: Vec<u8>,
 }
@@ -54,6 +56,7 @@ pub fn run<R: Threads + Sync>(
     let ran = tilebench(rt, alloc, &list, &mut source, &mut out, &mut err, &OpenGate);
     Ok(Outcome {
         status: ran.status,
+        grown: ran.grown,
         out: out.bytes().to_vec(alloc)?,
         err: err.bytes().to_vec(alloc)?,
     })
