@@ -1,5 +1,5 @@
 -- What a system grew into, and what is told of it.
-use Rattle.std.proofs.Common.{◌≡◌, All, ◌∙◌, ℕ, List, length, get_or, Option, Some, None, IfSome, ap, refl, sym, subst, arith}
+use Rattle.std.proofs.Common.{◌≡◌, All, ◌∙◌, List, length, get_or, Option, Some, None, IfSome, ap, refl, sym, subst, arith}
 use Rattle.std.specs.Prelude.{slice_get}
 use Rattle.std.proofs.lemmas.Option.{slice_get-get_or}
 use Rattle.atam.specs.declared.place.Place.{Place}

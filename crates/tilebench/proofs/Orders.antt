@@ -1,12 +1,11 @@
 -- What `replay` answers to a text.
-use Rattle.std.proofs.Common.{◌≡◌, ◌∙◌, ◌++◌, [], ℕ, List, None, refl, sym, ap, subst, append-nil}
+use Rattle.std.proofs.Common.{◌∙◌, ◌++◌, [], ℕ, List, None, refl, sym, ap, subst, append-nil}
 use Rattle.atam.specs.declared.place.Place.{Place}
 use Rattle.atam.specs.Placements.{HasDistinctSites}
 use Rattle.atam.specs.TileSystem.{TileSystem, IsValid}
 use Rattle.atam.proofs.Sequences.{IsLegal-distinct}
 use Rattle.seq_text.specs.GrowthLines.{place_lines}
 use Rattle.tilebench.specs.declared.commands.replay.Reordering.{Reordering}
-use Rattle.tilebench.specs.declared.commands.replay.Reordering.TheVariants.{Whole}
 use Rattle.tilebench.specs.Commands.Replay.{IsAssemblyOf, IsReordering, IsReplayAnswer, IsSystemThenPlacements, is_whole, reordering_text}
 use Rattle.tilebench.proofs.Headlines.{valid_system}
 use Rattle.tilebench.proofs.ReadingBack.{placements_back}

@@ -1,8 +1,8 @@
 -- What is printed of a growth reads back, behind the spelling of its system.
-use Rattle.std.proofs.Common.{take, ◌≡◌, ◌≤◌, ◌<◌, ◌==◌, ◌^◌, ◌++◌, ◌∙◌, ℕ, Bool, true, false, List, Option, Some, None, All, if◌then◌else◌, refl, sym, ap, subst, arith}
+use Rattle.std.proofs.Common.{take, ◌≡◌, ◌≤◌, ◌<◌, ◌==◌, ◌^◌, ◌++◌, ℕ, true, false, List, Option, Some, None, All, if◌then◌else◌, refl, sym, subst, arith}
 use Rattle.std.specs.Prelude.{slice_get}
 use Rattle.std.specs.Option.{option_map_or}
-use Rattle.std.proofs.lemmas.List.Elements.{All-contains, All-map}
+use Rattle.std.proofs.lemmas.List.Elements.{All-contains}
 use Rattle.atam.specs.declared.limits.TheConstants.{MOST_STRENGTH}
 use Rattle.atam.specs.declared.site.Side.{Side}
 use Rattle.atam.specs.declared.site.Side.TheVariants.{North, East, South, West}
@@ -11,7 +11,7 @@ use Rattle.atam.specs.declared.place.GlueId.{GlueId}
 use Rattle.atam.specs.declared.place.TypeId.{TypeId}
 use Rattle.atam.specs.declared.place.Place.{Place}
 use Rattle.atam.specs.Sites.{InBox, IsNearSite, neighbor, opposite}
-use Rattle.atam.specs.Placements.{HasDistinctSites, tile_at}
+use Rattle.atam.specs.Placements.{HasDistinctSites}
 use Rattle.atam.specs.TileSystem.{TileSystem, IsValid, Glue, strength_between, strength_of, pair_strength, side_glue}
 use Rattle.atam.specs.Assembly.{Fits, bond, glue_at, interaction, pull}
 use Rattle.atam.specs.Growth.{IsCandidate, IsLeastOpenOutside}

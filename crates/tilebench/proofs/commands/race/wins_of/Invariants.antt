@@ -1,4 +1,4 @@
-use Rattle.std.proofs.Common.{◌≡◌, ◌<◌, ◌≤◌, ℕ, length, Some}
+use Rattle.std.proofs.Common.{◌≡◌, ◌<◌, ℕ, length, Some}
 use Rattle.std.specs.Prelude.{slice_get, sum_by}
 use Rattle.tilebench.specs.Commands.Race.{won_by}
 use Rattle.tilebench.specs.Inner.Races.{won_together}

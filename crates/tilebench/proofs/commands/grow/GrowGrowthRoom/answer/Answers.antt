@@ -1,4 +1,4 @@
-use Rattle.std.proofs.Common.{List, subst}
+use Rattle.std.proofs.Common.{subst}
 use Rattle.std.proofs.lemmas.Result.{IfOk-weaker}
 use Rattle.assembly.specs.Grids.{TileGrid}
 use Rattle.tilebench.specs.Inner.Rooms.{GrowsTo}

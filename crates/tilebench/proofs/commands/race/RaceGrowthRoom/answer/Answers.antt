@@ -1,4 +1,4 @@
-use Rattle.std.proofs.Common.{◌≡◌, ◌∙◌, ◌+◌, All, ap, length, subst, arith}
+use Rattle.std.proofs.Common.{◌≡◌, ◌∙◌, All, ap, length, subst, arith}
 use Rattle.atam.specs.Sites.{InBox}
 use Rattle.assembly.specs.Grids.{TileGrid}
 use Rattle.tilebench.proofs.Races.{race_told}
