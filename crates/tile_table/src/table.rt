@@ -16,17 +16,21 @@ pub trait Table<K, G> {
     /// The kinds and the labels with their numbers, and what the methods answer of them.
     ghost tiles: { Self → TileSet K G };
 
-    /// The label on a side of a kind.
+    /// The label on a side of a listed kind.
     fn side(&self, kind: K, side: Side) -> Option<G>
+        requires { Contains (tiles self.now).kinds kind }
         ensures { result ≡ (tiles self.now).side kind side };
 
     fn strength(&self, label: G) -> u32
+        requires { Contains (tiles self.now).labels label }
         ensures { result ≡ (tiles self.now).strength label };
 
     fn kind_name(&self, alloc: Global, kind: K) -> Result<Vec<u8>, NoMemory>
+        requires { Contains (tiles self.now).kinds kind }
         ensures { IfOk result (λ name. name.items ≡ (tiles self.now).kind_name kind) };
 
     fn label_name(&self, alloc: Global, label: G) -> Result<Vec<u8>, NoMemory>
+        requires { Contains (tiles self.now).labels label }
         ensures { IfOk result (λ name. name.items ≡ (tiles self.now).label_name label) };
 }
 
