@@ -4,10 +4,10 @@ use Rattle.atam.specs.declared.site.Side.{Side}
 use Rattle.counter_compile.specs.declared.kind.Kind.{Kind}
 use Rattle.counter_compile.specs.declared.kind.Kind.TheVariants.{First, AddEast, AddMiddle, AddWest, CopyWest, CopyMiddle, CopyEast}
 use Rattle.counter_compile.specs.declared.label.Label.{Label}
-use Rattle.counter_compile.specs.Tiles.{bit, by_column, side_in, sides_of}
+use Rattle.counter_compile.specs.Tiles.{bit, by_column, on_side, sides_of}
 
 abbrev pub side : ℕ → ℕ → Kind → Side → Option Label
-side last v k d = side_in (sides_of last v k) d
+side last v k d = on_side (sides_of last v k) d
 
 -- whether the bits below the one of weight 2^p are all 1, so that an added 1 is carried into it
 abbrev pub carry : ℕ → ℕ → Bool

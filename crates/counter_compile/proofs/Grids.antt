@@ -1,20 +1,13 @@
 -- A grid of a counter.
-use Rattle.std.proofs.Common.{◌≡◌, ◌<◌, ◌+◌, ◌-◌, ◌/◌, ◌%◌, ◌^◌, ℕ, suc, length, length-append, map, Some, All, ◌∙◌, ap, subst, arith}
-use Rattle.std.specs.List.{range_with_len}
+use Rattle.std.proofs.Common.{◌≡◌, ◌<◌, ◌+◌, ◌/◌, ◌%◌, ◌^◌, ℕ, Some, All, ◌∙◌, ap, subst, arith}
 use Rattle.std.proofs.lemmas.Int.{ints}
-use Rattle.std.proofs.lemmas.List.{length-map}
-use Rattle.std.proofs.lemmas.List.FromFn.{length-map-range_with_len}
 use Rattle.atam.specs.Sites.{height_of}
 use Rattle.atam.specs.Placements.{HasDistinctSites}
 use Rattle.atam.specs.Growth.{IsProducible, IsClosedInBox}
 use Rattle.assembly.specs.Grids.{TileGrid}
-use Rattle.design.specs.TileSets.{tile_type}
-use Rattle.counter_compile.specs.declared.kind.Kind.TheVariants.{First}
-use Rattle.counter_compile.specs.declared.kind.TheConstants.{LATER_KINDS}
-use Rattle.counter_compile.specs.Tiles.{kinds_of, tiles_of}
 use Rattle.counter_compile.specs.Counters.{IsOfCounter, counter_box, counter_system, number_in_row, row_count}
 use Rattle.counter_compile.specs.Inner.Accepted.{IsAccepted}
-use Rattle.counter_compile.proofs.Limits.{accepted}
+use Rattle.counter_compile.proofs.Limits.{accepted, type_count}
 use Rattle.counter_compile.proofs.Counting.{row_counts}
 
 height : (bits start : ℕ) → IsAccepted bits start → height_of (counter_box bits start) ≡ row_count bits start
@@ -28,11 +21,8 @@ module _ (bits start : ℕ) (grid : TileGrid) (is_grid : IsOfCounter bits start 
   types_listed = λ i d inside.
       let type = is_grid.types i d inside in
       let least = fits.least in
-      let made = length-map (kinds_of (bits - 1)) (tile_type (tiles_of (bits - 1) start)) in
-      let long : length (kinds_of (bits - 1)) ≡ suc (bits - 1) + 16 =
-      length-append (map First (range_with_len 0 (suc (bits - 1)))) LATER_KINDS ∙ ap (λ n. n + 16) (length-map-range_with_len First 0 (suc (bits - 1)))
-      in
-      omega (arith, type, least, made, long)
+      let long = type_count bits start (omega (arith, least)) in
+      omega (arith, type, long)
 
   pub row_within : (y : ℕ) → y < height_of grid.area → y < row_count bits start
   row_within y within = subst (λ n. y < n) (ap height_of is_grid.area ∙ height bits start fits) within

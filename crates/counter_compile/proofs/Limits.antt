@@ -5,12 +5,13 @@ use Rattle.std.specs.Fmt.{digits}
 use Rattle.std.specs.List.{range_with_len}
 use Rattle.std.proofs.lemmas.Bool.Decides.{nat_tests}
 use Rattle.std.proofs.lemmas.Option.{none-some, same_Some}
+use Rattle.std.proofs.lemmas.List.{length-map}
 use Rattle.std.proofs.lemmas.List.FromFn.{length-map-range_with_len}
 use Rattle.atam.specs.declared.limits.TheConstants.{MOST_STRENGTH}
 use Rattle.std.proofs.lemmas.Int.{ints}
 use Rattle.atam.specs.Sites.{InBox, IsBox}
 use Rattle.atam.specs.TileSystem.{IsName, is_name, IsValid}
-use Rattle.design.specs.TileSets.{IsWithinLimits, cell_site}
+use Rattle.design.specs.TileSets.{IsWithinLimits, cell_site, glue_of, tile_type}
 use Rattle.design.proofs.Validity.{is_valid}
 use Rattle.tile_table.proofs.Names.{numbered_name, numbered_apart}
 use Rattle.counter_compile.specs.declared.kind.Kind.{Kind}
@@ -170,16 +171,34 @@ weak (SumWest b) = omega arith
 weak GoAhead = omega arith
 weak (Chain i) = omega arith
 
+pub kinds_long : (last : ℕ) → length (kinds_of last) ≡ suc last + 16
+kinds_long last = length-append (map First (range_with_len 0 (suc last))) LATER_KINDS ∙ ap (λ n. n + 16) (length-map-range_with_len First 0 (suc last))
+
+labels_long : (last : ℕ) → length (labels_of last) ≡ 13 + last
+labels_long last = length-append FIXED_LABELS (map Chain (range_with_len 1 last)) ∙ ap (λ n. 13 + n) (length-map-range_with_len Chain 1 last)
+
+pub glue_count : (bits start : ℕ) → 1 ≤ bits → length (counter_system bits start).glues ≡ bits + 12
+glue_count bits start some =
+    let made = length-map (labels_of (bits - 1)) (glue_of (tiles_of (bits - 1) start)) in
+    let long = labels_long (bits - 1) in
+    omega (arith, made, long, some)
+
+pub type_count : (bits start : ℕ) → 1 ≤ bits → length (counter_system bits start).types ≡ bits + 16
+type_count bits start some =
+    let made = length-map (kinds_of (bits - 1)) (tile_type (tiles_of (bits - 1) start)) in
+    let long = kinds_long (bits - 1) in
+    omega (arith, made, long, some)
+
 pub within_limits : (last v : ℕ) → last ≤ 31 → IsWithinLimits (tiles_of last v)
 within_limits last v small =
-    let kinds_long : length (kinds_of last) ≡ suc last + 16 = length-append (map First (range_with_len 0 (suc last))) LATER_KINDS ∙ ap (λ n. n + 16) (length-map-range_with_len First 0 (suc last)) in
-    let labels_long : length (labels_of last) ≡ 13 + last = length-append FIXED_LABELS (map Chain (range_with_len 1 last)) ∙ ap (λ n. 13 + n) (length-map-range_with_len Chain 1 last) in
+    let kinds = kinds_long last in
+    let labels = labels_long last in
     record {
-      label_count = omega (arith, labels_long, small);
+      label_count = omega (arith, labels, small);
       label_names = λ g listed. label_named last small g (listed_label last v g listed);
       distinct_labels = λ g h listed_g listed_h. labels_apart last small g h (listed_label last v g listed_g) (listed_label last v h listed_h);
       strengths = λ g listed. weak g;
-      kind_count = omega (arith, kinds_long, small);
+      kind_count = omega (arith, kinds, small);
       kind_names = λ k listed. kind_named last small k (listed_kind last v k listed);
       distinct_kinds = λ j k listed_j listed_k. kinds_apart last small j k (listed_kind last v j listed_j) (listed_kind last v k listed_k);
     }

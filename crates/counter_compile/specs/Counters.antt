@@ -1,5 +1,5 @@
 -- The system of a counter, and the numbers that the rows of what grows from it show.
-use Rattle.std.specs.Prelude.{◌≡◌, ℕ, ◌+◌, ◌-◌, ◌*◌, ◌/◌, ◌%◌, ◌^◌, ◌<◌, pos, nat_lt, nat_le, Bool, not, ◌&&◌, if◌then◌else◌, List, [], ◌∷◌, length, map, Option, Some, None, option_map, option_and_then, slice_get, All, Result, Ok, Err}
+use Rattle.std.specs.Prelude.{◌≡◌, ◌≤◌, ℕ, ◌+◌, ◌-◌, ◌*◌, ◌/◌, ◌%◌, ◌^◌, ◌<◌, pos, nat_lt, nat_le, Bool, not, ◌&&◌, if◌then◌else◌, List, [], ◌∷◌, length, map, Option, Some, None, option_map, option_and_then, slice_get, All, Result, Ok, Err}
 use Rattle.std.specs.List.{range_with_len}
 use Rattle.atam.specs.declared.area.BoxArea.{BoxArea}
 use Rattle.atam.specs.declared.place.Place.{Place}
@@ -59,6 +59,10 @@ pub record IsOfCounter (bits start : ℕ) (grid : TileGrid) : Type 0 where
   pub accepted : counter_refusal bits start ≡ None
   pub area : grid.area ≡ counter_box bits start
   pub types : All (λ p. IsType (counter_system bits start) p.tile) grid.tiles
+
+-- The system of a counter has 12 glues and 16 types more than it has bits.
+abbrev pub CountersAreSmall : Type 0
+CountersAreSmall = (bits start : ℕ) → 1 ≤ bits → (length (counter_system bits start).glues ≡ bits + 12) × (length (counter_system bits start).types ≡ bits + 16)
 
 -- Of every counter that is not refused, some list of placements in the box is locally deterministic.
 abbrev pub CountersAreDeterministic : Type 0

@@ -131,17 +131,17 @@ kinds_of last = map First (range_with_len 0 (suc last)) ++ LATER_KINDS
 abbrev pub labels_of : ℕ → List Label
 labels_of last = FIXED_LABELS ++ map Chain (range_with_len 1 last)
 
-abbrev pub side_in : Sides → Side → Option Label
-side_in sides North = sides.north
-side_in sides East = sides.east
-side_in sides South = sides.south
-side_in sides West = sides.west
+abbrev pub on_side : Sides → Side → Option Label
+on_side sides North = sides.north
+on_side sides East = sides.east
+on_side sides South = sides.south
+on_side sides West = sides.west
 
 abbrev pub tiles_of : ℕ → ℕ → TileSet Kind Label
 tiles_of last v = record {
   kinds = kinds_of last;
   labels = labels_of last;
-  side = λ k. side_in (sides_of last v k);
+  side = λ k. on_side (sides_of last v k);
   strength = strength;
   kind_number = kind_number last;
   label_number = label_number;

@@ -1,5 +1,5 @@
-//! A binary counter as tiles: each row of the grown assembly shows a number, from the start to the last number of the
-//! bits, and then 0.
+//! A binary counter as tiles: the rows that grow show the numbers from the start to the last one of
+//! so many bits, and then 0.
 #![tactic(auto)]
 
 mod compile;

@@ -32,7 +32,8 @@ pub fn row_value(bits: u32, grid: &Grid, y: u32) -> Option<u64>
 fn counter_of_box(bits: u32, area: BoxArea) -> Counter
     requires { (start : ℕ) × IsAccepted bits start × (area ≡ counter_box bits start) }
     ensures last { result.last ≡ bits - 1 }
-    ensures start { (start : ℕ) → IsAccepted bits start → area ≡ counter_box bits start → result.start ≡ start }
+    ensures start { (start : ℕ) → IsAccepted bits start → area ≡ counter_box bits start
+        → result.start ≡ start }
 {
     Counter {
         last: bits - 1,
