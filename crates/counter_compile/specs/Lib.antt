@@ -1,0 +1,3 @@
+pub mod Tiles
+pub mod Counters
+pub mod Inner

@@ -1,0 +1,197 @@
+// The table of a counter.
+ghost use Rattle.std.specs.Prelude.{ℕ, ◌≡◌, ◌-◌, ◌<◌, ◌^◌, ◌++◌, IfOk, map};
+ghost use Rattle.std.specs.List.{range_with_len};
+ghost use Rattle.counter_compile.specs.Tiles.{bit, by_column, chain_east, chain_west, kinds_of, labels_of, shown_bit, sides_of, sum_west};
+ghost use Rattle.counter_compile.specs.declared.label.Label.TheVariants.{Bit, BitEast, BitWest};
+
+use crate::kind::{Kind, LATER_KINDS};
+use crate::label::{FIXED_LABELS, Label};
+use atam::Side;
+use std::alloc::Global;
+use tile_system::NoMemory;
+use tile_table::Table;
+
+/// A counter with the columns 0 to `last`, from the number `start` on.
+#[derive(Clone, Copy, Debug)]
+pub struct Counter {
+    pub last: u32,
+    pub start: u64,
+}
+
+impl Table<Kind, Label> for Counter {
+    ghost use Rattle.counter_compile.specs.Tiles.{tiles_of};
+
+    ghost tiles = { λ c. tiles_of c.last c.start };
+
+    fn side(&self, kind: Kind, side: Side) -> Option<Label> {
+        match side {
+            Side::North => self.north(kind),
+            Side::East => self.east(kind),
+            Side::South => south(kind),
+            Side::West => west(kind),
+        }
+    }
+
+    fn strength(&self, label: Label) -> u32 {
+        label.strength()
+    }
+
+    fn kind_name(&self, alloc: Global, kind: Kind) -> Result<Vec<u8>, NoMemory> {
+        Ok(format!(in alloc; "{kind}")?.into_bytes())
+    }
+
+    fn label_name(&self, alloc: Global, label: Label) -> Result<Vec<u8>, NoMemory> {
+        Ok(format!(in alloc; "{label}")?.into_bytes())
+    }
+}
+
+impl Counter {
+    /// The kinds in their order.
+    pub fn kinds(&self, alloc: Global) -> Result<Vec<Kind>, NoMemory>
+        requires { self.now.last < 32 }
+        ensures { IfOk result (λ kinds. kinds.items ≡ kinds_of self.now.last) }
+    {
+        let mut kinds = Vec::new(alloc);
+        for column in 0..self.last + 1 {
+            kinds.push(Kind::First(column))?;
+        }
+        kinds.extend_from_slice(&LATER_KINDS)?;
+        Ok(kinds)
+    }
+
+    /// The labels in their order.
+    pub fn labels(&self, alloc: Global) -> Result<Vec<Label>, NoMemory>
+        requires { self.now.last < 32 }
+        ensures { IfOk result (λ labels. labels.items ≡ labels_of self.now.last) }
+    {
+        let mut labels = Vec::from_slice(alloc, &FIXED_LABELS)?;
+        for column in 0..self.last {
+            labels.push(Label::Chain(column + 1))?;
+        }
+        Ok(labels)
+    }
+
+    /// The bit that a tile shows.
+    pub fn shown_bit(&self, kind: Kind) -> bool
+        ensures { result ≡ shown_bit self.now.last self.now.start kind }
+    {
+        match kind {
+            Kind::First(column) => self.start_bit(column),
+            Kind::AddEast(bit) => !bit,
+            Kind::AddMiddle(bit, carry) | Kind::AddWest(bit, carry) => bit ^ carry,
+            Kind::CopyWest(bit) | Kind::CopyMiddle(bit) | Kind::CopyEast(bit) => bit,
+        }
+    }
+
+    // The bit of the start in a column.
+    fn start_bit(&self, column: u32) -> bool
+        ensures { result ≡ bit (self.now.last - column) self.now.start }
+    {
+        has_bit(self.start, self.last.saturating_sub(column))
+    }
+
+    fn north(&self, kind: Kind) -> Option<Label>
+        ensures { result ≡ (sides_of self.now.last self.now.start kind).north }
+    {
+        match kind {
+            Kind::First(column) => Some(self.first_north(column)),
+            Kind::AddEast(bit) => Some(Label::SumEast(!bit)),
+            Kind::AddMiddle(bit, carry) => Some(Label::Bit(bit ^ carry)),
+            Kind::AddWest(bit, carry) => sum_west(bit, carry),
+            Kind::CopyWest(bit) => Some(Label::BitWest(bit)),
+            Kind::CopyMiddle(bit) => Some(Label::Bit(bit)),
+            Kind::CopyEast(bit) => Some(Label::BitEast(bit)),
+        }
+    }
+
+    fn east(&self, kind: Kind) -> Option<Label>
+        ensures { result ≡ (sides_of self.now.last self.now.start kind).east }
+    {
+        match kind {
+            Kind::First(column) => self.chain_east(column),
+            Kind::AddMiddle(_, carry) | Kind::AddWest(_, carry) => Some(Label::Carry(carry)),
+            Kind::CopyWest(_) | Kind::CopyMiddle(_) => Some(Label::GoAhead),
+            Kind::AddEast(_) | Kind::CopyEast(_) => None,
+        }
+    }
+
+    // What the tile of a column shows upwards in the first row.
+    fn first_north(&self, column: u32) -> Label
+        ensures { (let b = bit (self.now.last - column) self.now.start in
+            result ≡ by_column self.now.last column (BitWest b) (Bit b) (BitEast b)) }
+    {
+        let bit = self.start_bit(column);
+        if column == 0 {
+            Label::BitWest(bit)
+        } else if column == self.last {
+            Label::BitEast(bit)
+        } else {
+            Label::Bit(bit)
+        }
+    }
+
+    // What joins the tile of a column to the next one in the first row.
+    fn chain_east(&self, column: u32) -> Option<Label>
+        ensures { result ≡ chain_east self.now.last column }
+    {
+        if column < self.last {
+            Some(Label::Chain(column + 1))
+        } else {
+            None
+        }
+    }
+}
+
+fn south(kind: Kind) -> Option<Label>
+    ensures { (last start : ℕ) → result ≡ (sides_of last start kind).south }
+{
+    match kind {
+        Kind::First(_) => None,
+        Kind::AddEast(bit) => Some(Label::BitEast(bit)),
+        Kind::AddWest(bit, _) => Some(Label::BitWest(bit)),
+        Kind::AddMiddle(bit, _) | Kind::CopyMiddle(bit) => Some(Label::Bit(bit)),
+        Kind::CopyWest(bit) => Some(Label::SumWest(bit)),
+        Kind::CopyEast(bit) => Some(Label::SumEast(bit)),
+    }
+}
+
+fn west(kind: Kind) -> Option<Label>
+    ensures { (last start : ℕ) → result ≡ (sides_of last start kind).west }
+{
+    match kind {
+        Kind::First(column) => chain_west(column),
+        Kind::AddEast(bit) => Some(Label::Carry(bit)),
+        Kind::AddMiddle(bit, carry) => Some(Label::Carry(bit && carry)),
+        Kind::CopyMiddle(_) | Kind::CopyEast(_) => Some(Label::GoAhead),
+        Kind::AddWest(_, _) | Kind::CopyWest(_) => None,
+    }
+}
+
+// What joins the tile of a column to the one before it in the first row.
+fn chain_west(column: u32) -> Option<Label>
+    ensures { result ≡ chain_west column }
+{
+    if column == 0 {
+        None
+    } else {
+        Some(Label::Chain(column))
+    }
+}
+
+// What a row that adds shows upwards at the west end: nothing where the numbers end.
+fn sum_west(bit: bool, carry: bool) -> Option<Label>
+    ensures { result ≡ sum_west bit carry }
+{
+    if bit && carry {
+        None
+    } else {
+        Some(Label::SumWest(bit ^ carry))
+    }
+}
+
+/// Whether the bit of weight 2^position is 1.
+fn has_bit(number: u64, position: u32) -> bool
+    ensures { result ≡ bit position number }
+{
+    position < 64 && (number >> position) % 2 == 1
+}

@@ -1,0 +1,5 @@
+//! Tests of the counter's tiles.
+#![tactic(auto)]
+
+#[cfg(test)]
+mod counting;

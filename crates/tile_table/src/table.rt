@@ -1,0 +1,165 @@
+// A table of kinds of tiles and of labels, and its system.
+ghost use Rattle.std.specs.Prelude.{◌≡◌, [], ◌∷◌, Contains, OnOk, IfOk, option_map};
+ghost use Rattle.atam.specs.Sites.{InBox, IsBox};
+ghost use Rattle.design.specs.TileSets.{TileSet, IsTileSet, IsWithinLimits, cell_site, glue_id, system_of, type_id};
+ghost use Rattle.tile_table.specs.Drafts.{HasKinds, HasLabels, draft_of, sides_of};
+
+use atam::{BoxArea, GlueId, Place, Side, Site, TypeId};
+use std::alloc::Global;
+use tile_system::{NoMemory, System, SystemBuilder};
+
+// The temperature of a table's system.
+const TAU: u32 = 2;
+
+/// A tile set as a table, of kinds `K` of tiles and labels `G`.
+pub trait Table<K, G> {
+    /// The kinds and the labels with their numbers, and what the methods answer of them.
+    ghost tiles: { Self → TileSet K G };
+
+    /// The label on a side of a listed kind.
+    fn side(&self, kind: K, side: Side) -> Option<G>
+        requires { Contains (tiles self.now).kinds kind }
+        ensures { result ≡ (tiles self.now).side kind side };
+
+    fn strength(&self, label: G) -> u32
+        requires { Contains (tiles self.now).labels label }
+        ensures { result ≡ (tiles self.now).strength label };
+
+    fn kind_name(&self, alloc: Global, kind: K) -> Result<Vec<u8>, NoMemory>
+        requires { Contains (tiles self.now).kinds kind }
+        ensures { IfOk result (λ name. name.items ≡ (tiles self.now).kind_name kind) };
+
+    fn label_name(&self, alloc: Global, label: G) -> Result<Vec<u8>, NoMemory>
+        requires { Contains (tiles self.now).labels label }
+        ensures { IfOk result (λ name. name.items ≡ (tiles self.now).label_name label) };
+}
+
+/// The system of a table. Glues of sides are found by their names, so this takes time that grows
+/// with the number of kinds times the logarithm of the number of labels.
+pub fn build_system<K: Copy, G: Copy, T: Table<K, G>>(
+    alloc: Global,
+    table: &T,
+    labels: &[G],
+    kinds: &[K],
+    seed: K,
+    area: BoxArea,
+) -> Result<System, NoMemory>
+    requires labels { labels.now ≡ (T.tiles table.now).labels }
+    requires kinds { kinds.now ≡ (T.tiles table.now).kinds }
+    requires numbered { IsTileSet (T.tiles table.now) }
+    requires limits { IsWithinLimits (T.tiles table.now) }
+    requires seed { Contains kinds.now seed }
+    requires area { IsBox area }
+    requires start { InBox area (cell_site 0 0) }
+    ensures { IfOk result (λ system. system ≡ system_of (T.tiles table.now) seed area) }
+{
+    let mut builder = SystemBuilder::make(alloc, TAU).map_err(|_| NoMemory)?;
+    push_labels(alloc, &mut builder, table, labels)?;
+    push_kinds(alloc, &mut builder, table, kinds)?;
+    let tile = type_of_kind(alloc, &builder, table, seed)?;
+    builder.set_area(area);
+    builder.set_seed(Place {
+        site: Site { x: 0, y: 0 },
+        tile,
+    });
+    Ok(builder.build())
+}
+
+fn push_labels<K, G: Copy, T: Table<K, G>>(
+    alloc: Global,
+    builder: &mut SystemBuilder,
+    table: &T,
+    labels: &[G],
+) -> Result<(), NoMemory>
+    requires empty { builder.old ≡ draft_of (T.tiles table.now) [] [] }
+    requires labels { labels.now ≡ (T.tiles table.now).labels }
+    requires numbered { IsTileSet (T.tiles table.now) }
+    requires limits { IsWithinLimits (T.tiles table.now) }
+    ensures { OnOk result (builder.new ≡ draft_of (T.tiles table.now) labels.now []) }
+{
+    for label in labels {
+        let name = table.label_name(alloc, *label)?;
+        builder.push_glue(name.as_slice(), table.strength(*label))?;
+    }
+    Ok(())
+}
+
+fn push_kinds<K: Copy, G: Copy, T: Table<K, G>>(
+    alloc: Global,
+    builder: &mut SystemBuilder,
+    table: &T,
+    kinds: &[K],
+) -> Result<(), NoMemory>
+    requires labels { builder.old ≡ draft_of (T.tiles table.now) (T.tiles table.now).labels [] }
+    requires kinds { kinds.now ≡ (T.tiles table.now).kinds }
+    requires numbered { IsTileSet (T.tiles table.now) }
+    requires limits { IsWithinLimits (T.tiles table.now) }
+    ensures { OnOk result (builder.new
+        ≡ draft_of (T.tiles table.now) (T.tiles table.now).labels kinds.now) }
+{
+    for kind in kinds {
+        let name = table.kind_name(alloc, *kind)?;
+        let sides = glues_of_kind(alloc, builder, table, *kind)?;
+        builder.push_type(name.as_slice(), sides)?;
+    }
+    Ok(())
+}
+
+// The glues on the sides of a kind, in the order north, east, south, west.
+fn glues_of_kind<K: Copy, G: Copy, T: Table<K, G>>(
+    alloc: Global,
+    builder: &SystemBuilder,
+    table: &T,
+    kind: K,
+) -> Result<[Option<GlueId>; 4], NoMemory>
+    requires labels { HasLabels (T.tiles table.now) builder.now }
+    requires numbered { IsTileSet (T.tiles table.now) }
+    requires limits { IsWithinLimits (T.tiles table.now) }
+    requires kind { Contains (T.tiles table.now).kinds kind }
+    ensures { IfOk result (λ sides. sides ≡ sides_of (T.tiles table.now) kind) }
+{
+    let north = glue_on_side(alloc, builder, table, kind, Side::North)?;
+    let east = glue_on_side(alloc, builder, table, kind, Side::East)?;
+    let south = glue_on_side(alloc, builder, table, kind, Side::South)?;
+    let west = glue_on_side(alloc, builder, table, kind, Side::West)?;
+    Ok([north, east, south, west])
+}
+
+fn glue_on_side<K: Copy, G: Copy, T: Table<K, G>>(
+    alloc: Global,
+    builder: &SystemBuilder,
+    table: &T,
+    kind: K,
+    side: Side,
+) -> Result<Option<GlueId>, NoMemory>
+    requires labels { HasLabels (T.tiles table.now) builder.now }
+    requires numbered { IsTileSet (T.tiles table.now) }
+    requires limits { IsWithinLimits (T.tiles table.now) }
+    requires kind { Contains (T.tiles table.now).kinds kind }
+    ensures { IfOk result (λ glue. glue
+        ≡ option_map (glue_id (T.tiles table.now)) ((T.tiles table.now).side kind side)) }
+{
+    match table.side(kind, side) {
+        Some(label) => {
+            let name = table.label_name(alloc, label)?;
+            Ok(builder.find_glue(name.as_slice()))
+        }
+        None => Ok(None),
+    }
+}
+
+fn type_of_kind<K: Copy, G: Copy, T: Table<K, G>>(
+    alloc: Global,
+    builder: &SystemBuilder,
+    table: &T,
+    kind: K,
+) -> Result<TypeId, NoMemory>
+    requires kinds { HasKinds (T.tiles table.now) builder.now }
+    requires numbered { IsTileSet (T.tiles table.now) }
+    requires limits { IsWithinLimits (T.tiles table.now) }
+    requires kind { Contains (T.tiles table.now).kinds kind }
+    ensures { IfOk result (λ tile. tile ≡ type_id (T.tiles table.now) kind) }
+{
+    let name = table.kind_name(alloc, kind)?;
+    Ok(builder.find_type(name.as_slice()).unwrap())
+}
