@@ -1,9 +1,9 @@
 -- A machine in the making has what the lines give, and is sound.
-use Rattle.std.proofs.Common.{◌≡◌, ◌≢◌, ◌<◌, ◌≤◌, ◌+◌, ◌-◌, ◌==◌, ℕ, zero, suc, Bool, true, false, List, [], ◌∷◌, ◌++◌, length, get_or, Option, Some, None, All, refl, sym, ◌∙◌, ap, subst, inl, inr, arith, length-append, append-nil}
-use Rattle.std.specs.Prelude.{IsTrue, AllPairs, filter_map, flat_map, bytes_eq, option_map, find}
+use Rattle.std.proofs.Common.{◌≡◌, ◌≢◌, ◌<◌, ◌≤◌, ◌+◌, ◌==◌, ℕ, true, false, List, [], ◌∷◌, ◌++◌, length, get_or, Option, Some, None, refl, sym, ◌∙◌, ap, subst, inl, inr, arith, length-append, append-nil}
+use Rattle.std.specs.Prelude.{IsTrue, AllPairs, filter_map, bytes_eq, option_map, find}
 use Rattle.std.specs.Option.{unwrap_or, option_to_list}
 use Rattle.std.specs.List.{list_any}
-use Rattle.std.proofs.lemmas.Bool.{cases_Bool, eqb-true, eq-eqb}
+use Rattle.std.proofs.lemmas.Bool.{cases_Bool, eqb-true}
 use Rattle.std.proofs.lemmas.List.{flat_map_more}
 use Rattle.std.proofs.lemmas.List.Elements.{All-push, All-append, filter_map-append}
 use Rattle.std.proofs.lemmas.List.Quantifiers.{all_pairs_push}
@@ -21,7 +21,7 @@ use Rattle.machine_text.specs.Machines.{TuringMachine, AreNames, IsTransition, I
 use Rattle.machine_text.specs.MachineText.{MachineItem, machine_of, number_given, state_name_of, symbol_name_of, transition_of, cells_of, rows_of, head_of, tape_of, is_end_line, machine_format, machine_table}
 use Rattle.machine_text.specs.MachineText.MachineItem.{Header, StateLine, SymbolLine, RuleLine, CellsLine, RowsLine, HeadLine, TapeLine, EndLine}
 use Rattle.machine_text.specs.Inner.Kinds.{kind_of, may_stand_after, is_last}
-use Rattle.machine_text.specs.Inner.SoFar.{with_item, IsDraft, HasFewNames, HasAlphabet, HasAll, HasCome, IsFit, HoldsLines}
+use Rattle.machine_text.specs.Inner.SoFar.{with_item, IsDraft, HasAlphabet, HasAll, HasCome, IsFit, HoldsLines}
 use Rattle.machine_text.proofs.Finding.{each_fails, none_found}
 use Rattle.machine_text.proofs.RuleTables.{is_own}
 use Rattle.tile_io.proofs.PassedFields.{and_both}

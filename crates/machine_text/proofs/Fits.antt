@@ -1,16 +1,13 @@
 -- What the checks of a line say of it.
-use Rattle.std.proofs.Common.{◌≡◌, ◌<◌, ◌≤◌, ◌+◌, ◌-◌, ℕ, suc, Bool, true, false, not, is_some, nat_lt, nat_le, List, [], ◌∷◌, length, drop, Option, Some, None, Result, Ok, Err, All, refl, sym, ◌∙◌, ap, subst, arith, length-drop}
-use Rattle.std.specs.Prelude.{IsTrue, bytes_eq, option_map}
-use Rattle.std.specs.List.{list_any}
+use Rattle.std.proofs.Common.{◌≡◌, ◌+◌, ◌-◌, ℕ, Bool, true, false, not, is_some, List, [], ◌∷◌, length, drop, Option, Some, None, Result, Ok, refl, ap, subst, arith, length-drop}
+use Rattle.std.specs.Prelude.{bytes_eq, option_map}
 use Rattle.std.proofs.lemmas.Bool.{ltb-true, leb-true}
-use Rattle.std.proofs.lemmas.Option.{none-some}
 use Rattle.tile_io.specs.declared.fault.Cause.{Cause}
 use Rattle.tile_io.specs.declared.fault.Cause.TheVariants.{DoubleName, NoHeader}
 use Rattle.tile_io.specs.Checks.{◌>>=◌, require, field, count_in, declared, referred}
 use Rattle.tile_io.proofs.Checking.{bind_ok, require_ok}
 use Rattle.tile_io.proofs.PassedFields.{count_ok, declared_ok, referred_ok, not_true}
 use Rattle.machine_text.specs.declared.rule.Turn.{Turn}
-use Rattle.machine_text.specs.declared.rule.Rule.{Rule}
 use Rattle.machine_text.specs.declared.rule.Transition.{Transition}
 use Rattle.machine_text.specs.declared.kind.LineKind.{LineKind}
 use Rattle.machine_text.specs.declared.kind.LineKind.TheVariants as kinds

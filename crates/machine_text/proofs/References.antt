@@ -1,5 +1,5 @@
 -- The names of a line refer, one after another.
-use Rattle.std.proofs.Common.{◌≡◌, ◌<◌, ◌+◌, ℕ, zero, suc, List, [], ◌∷◌, ◌++◌, length, drop, get_or, Result, Ok, Err, All, refl, sym, ◌∙◌, ap, subst, arith, append_assoc, append-nil, drop-cons}
+use Rattle.std.proofs.Common.{◌≡◌, ◌<◌, ◌+◌, ℕ, zero, suc, List, [], ◌∷◌, ◌++◌, length, drop, Result, Ok, Err, All, refl, sym, ◌∙◌, ap, subst, arith, append_assoc, append-nil, drop-cons}
 use Rattle.std.proofs.Math.Seq.{drop-length}
 use Rattle.tile_io.specs.declared.fault.Cause.{Cause}
 use Rattle.tile_io.specs.Checks.{◌>>=◌, field, referred}

@@ -1,6 +1,6 @@
 -- The steps of a machine keep its configurations, and end once.
-use Rattle.std.proofs.Common.{◌≡◌, ◌<◌, ◌≤◌, ◌-◌, ℕ, zero, suc, Bool, true, false, cond, nat_lt, List, length, get_or, slice_get, Option, Some, None, IfSome, option_map, option_and_then, All, refl, sym, ◌∙◌, ap, subst, inl, inr, arith}
-use Rattle.std.specs.Prelude.{find, slice_set}
+use Rattle.std.proofs.Common.{◌≡◌, ◌<◌, ◌≤◌, ◌-◌, ℕ, zero, suc, Bool, true, false, cond, nat_lt, List, length, Option, Some, None, IfSome, option_map, option_and_then, All, refl, ◌∙◌, ap, subst, inl, inr, arith}
+use Rattle.std.specs.Prelude.{find}
 use Rattle.std.proofs.lemmas.Option.{none-some, same_Some}
 use Rattle.std.proofs.lemmas.List.{length-set}
 use Rattle.std.proofs.lemmas.List.Elements.{All-set}
@@ -10,7 +10,7 @@ use Rattle.machine_text.specs.declared.rule.Turn.TheVariants.{Left, Right, Stay}
 use Rattle.machine_text.specs.declared.rule.Rule.{Rule}
 use Rattle.machine_text.specs.declared.rule.Transition.{Transition}
 use Rattle.machine_text.specs.declared.config.Head.{Head}
-use Rattle.machine_text.specs.Machines.{TuringMachine, Configuration, IsMachine, IsConfigOf, IsTransition, is_for, rule_among, rule_of, last_cell, first, moved, acted, next, after}
+use Rattle.machine_text.specs.Machines.{TuringMachine, Configuration, IsMachine, IsConfigOf, IsTransition, is_for, rule_among, last_cell, moved, acted, next, after}
 use Rattle.machine_text.proofs.Finding.{find_has}
 
 -- a rule that a machine has is in range

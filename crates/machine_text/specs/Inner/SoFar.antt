@@ -7,7 +7,6 @@ use Rattle.tile_io.specs.declared.line_reader.LineStop.{LineStop}
 use Rattle.tile_io.specs.declared.line_reader.LineStop.TheVariants as stops
 use Rattle.tile_io.specs.Checks.{last_of}
 use Rattle.machine_text.specs.declared.limits.TheConstants.{MOST_STATES, MOST_SYMBOLS, MOST_CELLS, MOST_ROWS}
-use Rattle.machine_text.specs.declared.rule.Transition.{Transition}
 use Rattle.machine_text.specs.declared.kind.LineKind.{LineKind}
 use Rattle.machine_text.specs.declared.kind.LineKind.TheVariants as kinds
 use Rattle.machine_text.specs.declared.parts.MachineParts.{MachineParts}

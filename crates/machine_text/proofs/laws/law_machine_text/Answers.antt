@@ -9,7 +9,7 @@ returns c = record {
     | inl read ↦ inl (machine_of read.0, read.1, record { items = read.0; reads = read.2; machine = refl })
     | inr faulty ↦ inr faulty
   ];
-  not_both = λ text from to M number cause h fault. not_both machine_format text from to h.items number cause h.reads fault;
+  not_both = λ text from to M number cause h fault. not_both machine_format text from h.items to number cause h.reads fault;
   one_machine = λ text from s t M N g h.
       let same = reads_once machine_format text from g.items h.items s t g.reads h.reads in
       (g.machine ∙ ap machine_of same.0 ∙ sym h.machine, same.1);

@@ -1,4 +1,4 @@
-use Rattle.std.proofs.Common.{◌≡◌, ◌+◌, suc, Some, None, sym, ap, subst, ◌∙◌, arith, option_and_then}
+use Rattle.std.proofs.Common.{◌≡◌, suc, None, sym, ap, ◌∙◌, arith, option_and_then}
 use Rattle.machine_text.specs.Machines.{next, after}
 use Rattle.machine_text.proofs.Steps.{stays_stopped}
 use Rattle.machine_text.proofs.machine.run_machine.Goals as goal

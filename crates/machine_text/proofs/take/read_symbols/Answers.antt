@@ -1,4 +1,4 @@
-use Rattle.std.proofs.Common.{◌≡◌, ◌+◌, Ok, Err, List, ℕ, drop, length, refl, sym, ap, subst, ◌∙◌, ◌++◌, ◌∷◌, [], arith, rules}
+use Rattle.std.proofs.Common.{◌≡◌, ◌+◌, Ok, Err, drop, length, sym, ap, ◌∙◌, arith, rules}
 use Rattle.tile_io.specs.Checks.{field, referred}
 use Rattle.machine_text.specs.Machines.{is_short_name}
 use Rattle.machine_text.specs.MachineText.{references}

@@ -1,4 +1,4 @@
-use Rattle.std.proofs.Common.{◌≡◌, Ok, ap, refl, sym, ◌∙◌}
+use Rattle.std.proofs.Common.{ap, refl, sym, ◌∙◌}
 use Rattle.tile_io.specs.Checks.{count_in, field}
 use Rattle.machine_text.specs.MachineText.{head_fields}
 use Rattle.machine_text.specs.MachineText.MachineItem.{HeadLine}

@@ -1,4 +1,4 @@
-use Rattle.std.proofs.Common.{◌≡◌, List, ℕ, ap, refl, sym, ◌∙◌, ◌++◌}
+use Rattle.std.proofs.Common.{List, ℕ, ap, refl, ◌∙◌, ◌++◌}
 use Rattle.machine_text.specs.MachineText.{tape_fields}
 use Rattle.machine_text.specs.MachineText.MachineItem.{TapeLine}
 use Rattle.machine_text.specs.Machines.{TuringMachine}

@@ -3,7 +3,7 @@ use Rattle.tile_io.specs.Checks.{last_of}
 use Rattle.machine_text.specs.declared.kind.LineKind.{LineKind}
 use Rattle.machine_text.specs.Machines.{TuringMachine}
 use Rattle.machine_text.specs.MachineText.{MachineItem, machine_table}
-use Rattle.machine_text.specs.Inner.Kinds.{row_of, kind_of, is_last, may_stand_after}
+use Rattle.machine_text.specs.Inner.Kinds.{kind_of, is_last, may_stand_after}
 use Rattle.machine_text.specs.Inner.SoFar.{HoldsLines, IsFit, machine_in, with_item}
 use Rattle.machine_text.proofs.Built.{holds-push, last_is}
 use Rattle.machine_text.proofs.Fits.{fit_of, room_by_machine, follows_is}

@@ -1,8 +1,8 @@
-use Rattle.std.proofs.Common.{◌≡◌, List, ℕ, Some, None, Option, sym, subst, ap, ◌∙◌, ◌++◌, ◌∷◌, []}
+use Rattle.std.proofs.Common.{◌≡◌, List, ℕ, Some, None, sym, subst, ◌++◌, ◌∷◌, []}
 use Rattle.std.specs.Prelude.{slice_set}
 use Rattle.machine_text.specs.declared.rule.Transition.{Transition}
 use Rattle.machine_text.specs.Machines.{rule_among}
-use Rattle.machine_text.specs.Inner.Tables.{entry, IsTableOf}
+use Rattle.machine_text.specs.Inner.Tables.{IsTableOf}
 use Rattle.machine_text.proofs.RuleTables.{IsTableOf-push}
 use Rattle.machine_text.proofs.rule_list.RuleList.push.Goals as goal
 
