@@ -1,7 +1,6 @@
 -- The steps of a machine keep its configurations, and end once.
-use Rattle.std.proofs.Common.{◌≡◌, ◌<◌, ◌≤◌, ◌-◌, ℕ, zero, suc, Bool, true, false, cond, nat_lt, List, length, Option, Some, None, IfSome, option_map, option_and_then, All, refl, ◌∙◌, ap, subst, inl, inr, arith}
+use Rattle.std.proofs.Common.{◌≡◌, ◌<◌, ◌≤◌, ◌-◌, ℕ, zero, suc, Bool, true, false, cond, nat_lt, length, Option, Some, None, IfSome, option_map, option_and_then, refl, ◌∙◌, ap, subst, inl, inr, arith}
 use Rattle.std.specs.Prelude.{find}
-use Rattle.std.proofs.lemmas.Option.{none-some, same_Some}
 use Rattle.std.proofs.lemmas.List.{length-set}
 use Rattle.std.proofs.lemmas.List.Elements.{All-set}
 use Rattle.std.proofs.lemmas.Bool.{cases_lt, ltb-true}
@@ -10,21 +9,19 @@ use Rattle.machine_text.specs.declared.rule.Turn.TheVariants.{Left, Right, Stay}
 use Rattle.machine_text.specs.declared.rule.Rule.{Rule}
 use Rattle.machine_text.specs.declared.rule.Transition.{Transition}
 use Rattle.machine_text.specs.declared.config.Head.{Head}
-use Rattle.machine_text.specs.Machines.{TuringMachine, Configuration, IsMachine, IsConfigOf, IsTransition, is_for, rule_among, last_cell, moved, acted, next, after}
+use Rattle.machine_text.specs.Machines.{TuringMachine, Configuration, IsMachine, IsConfigOf, IsTransition, is_for, rule_of, last_cell, moved, acted, next, after}
 use Rattle.machine_text.proofs.Finding.{find_has}
 
 -- a rule that a machine has is in range
-found_transition : (found : Option Transition) (rule : Rule) → option_map (λ t. t.rule) found ≡ Some rule → (t : Transition) × (found ≡ Some t) × (t.rule ≡ rule)
-found_transition None rule is = absurd (none-some rule is)
-found_transition (Some t) rule is = (t, refl, same_Some t.rule rule is)
+rule_of_one : (states symbols : ℕ) (found : Option Transition) → ((t : Transition) → found ≡ Some t → IsTransition states symbols t) →
+    IfSome (option_map (λ t. t.rule) found) (λ rule. rule.state < states) × IfSome (option_map (λ t. t.rule) found) (λ rule. rule.symbol < symbols)
+rule_of_one states symbols None is = (tt, tt)
+rule_of_one states symbols (Some t) is = ((is t refl).next_state, (is t refl).next_symbol)
 
-pub rule_in_range : (transitions : List Transition) (states symbols state symbol : ℕ) (rule : Rule) → All (IsTransition states symbols) transitions → rule_among transitions state symbol ≡ Some rule →
-    (rule.state < states) × (rule.symbol < symbols)
-rule_in_range transitions states symbols state symbol rule all is =
-    let found = found_transition (find (is_for state symbol) transitions) rule is in
-    let t = find_has (is_for state symbol) (IsTransition states symbols) transitions found.0 all found.1 in
-    let InRange : Rule → Type 0 = λ r. (r.state < states) × (r.symbol < symbols) in
-    subst InRange found.2 (t.next_state, t.next_symbol)
+pub rule_in_range : (M : TuringMachine) (state symbol : ℕ) → IsMachine M → IfSome (rule_of M state symbol) (λ rule. rule.state < length M.states) × IfSome (rule_of M state symbol) (λ rule. rule.symbol < length M.symbols)
+rule_in_range M state symbol valid =
+    rule_of_one (length M.states) (length M.symbols) (find (is_for state symbol) M.rules) (λ t found.
+    find_has (is_for state symbol) (IsTransition (length M.states) (length M.symbols)) M.rules t valid.transitions found)
 
 right_within : (test : Bool) (cells states cell state : ℕ) → nat_lt cell (cells - 1) ≡ test → state < states →
     IfSome {T = Head} (cond test (Some (record { cell = suc cell; state = state })) None) (λ head. (head.cell < cells) × (head.state < states))

@@ -30,14 +30,11 @@ impl Model for Config {
 impl Config {
     ghost use Rattle.machine_text.specs.Machines.{Configuration, acted};
 
-    /// A configuration of these symbols.
-    pub(crate) fn new(symbols: Vec<u32>, head: Head) -> Config
-        ensures { result ≡ record { symbols = symbols.items; head = Some head } }
+    /// A configuration of these symbols, one for each cell.
+    pub fn new(symbols: Vec<u32>, head: Option<Head>) -> Config
+        ensures { result ≡ record { symbols = symbols.items; head = head } }
     {
-        Config {
-            symbols,
-            head: Some(head),
-        }
+        Config { symbols, head }
     }
 
     /// The symbol of a cell, by its number.

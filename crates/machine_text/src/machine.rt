@@ -1,7 +1,7 @@
 // A machine, and its run.
 ghost use Rattle.std.specs.Prelude.{◌≡◌, ◌<◌, length, slice_get, true, false, Some, None, IfOk, IfSome};
 ghost use Rattle.machine_text.specs.declared.limits.TheConstants.{MOST_ROWS};
-ghost use Rattle.machine_text.specs.Machines.{TuringMachine, IsMachine, IsConfigOf, rule_of, first, next, after};
+ghost use Rattle.machine_text.specs.Machines.{TuringMachine, IsMachine, IsConfigOf, rule_of, symbol_at, first, next, after};
 
 use crate::config::{Config, Head};
 use crate::limits::MOST_ROWS;
@@ -104,7 +104,9 @@ impl Machine {
     pub fn rule(&self, state: u32, symbol: u32) -> Option<Rule>
         requires state { state < length self.now.states }
         requires symbol { symbol < length self.now.symbols }
-        ensures { result ≡ rule_of self.now state symbol }
+        ensures rule { result ≡ rule_of self.now state symbol }
+        ensures next_state { IfSome result (λ rule. rule.state < length self.now.states) }
+        ensures next_symbol { IfSome result (λ rule. rule.symbol < length self.now.symbols) }
     {
         self.rules.find(state, symbol)
     }
@@ -130,11 +132,25 @@ impl Machine {
     {
         let mut symbols = Vec::from_slice(alloc, self.tape.as_slice())?;
         symbols.resize(self.cells as usize, 0)?;
-        let head = Head {
+        Ok(Config::new(symbols, Some(self.first_head())))
+    }
+
+    /// The symbol of a cell in the first configuration.
+    pub fn first_symbol(&self, cell: u32) -> u32
+        requires { cell < self.now.cells }
+        ensures { result ≡ symbol_at (first self.now) cell }
+    {
+        self.tape.get(cell as usize).copied().unwrap_or(0)
+    }
+
+    /// The head in the first configuration.
+    pub fn first_head(&self) -> Head
+        ensures { Some result ≡ (first self.now).head }
+    {
+        Head {
             cell: self.head,
             state: 0,
-        };
-        Ok(Config::new(symbols, head))
+        }
     }
 
     /// Makes one step, and tells whether there is one. It takes no memory.
