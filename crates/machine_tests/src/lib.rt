@@ -1,0 +1,9 @@
+//! Tests of Turing machines.
+#![tactic(auto)]
+
+#[cfg(test)]
+mod machines;
+#[cfg(test)]
+mod runs;
+#[cfg(test)]
+mod texts;

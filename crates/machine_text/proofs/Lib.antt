@@ -1,0 +1,6 @@
+pub mod Built
+pub mod Finding
+pub mod Fits
+pub mod References
+pub mod RuleTables
+pub mod Steps

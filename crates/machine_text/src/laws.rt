@@ -1,0 +1,22 @@
+// A law of machine texts.
+ghost use Rattle.std.specs.Prelude.{◌≡◌, ◌⊎◌, ℕ, List};
+ghost use Rattle.tile_io.specs.declared.mark.Mark.{Mark};
+ghost use Rattle.tile_io.specs.declared.fault.Cause.{Cause};
+ghost use Rattle.tile_io.specs.Formats.{Fault, IsFaulty};
+ghost use Rattle.machine_text.specs.Machines.{TuringMachine};
+ghost use Rattle.machine_text.specs.MachineText.{ReadsMachine, machine_format};
+
+/// Each text, from each start, either reads as one machine, up to one mark, or has one fault.
+pub fn law_machine_text()
+    ensures one { (text : List ℕ) (from : Mark) →
+        ((M : TuringMachine) × (to : Mark) × ReadsMachine text from M to)
+        ⊎ IsFaulty machine_format text from }
+    ensures not_both { (text : List ℕ) (from to : Mark) (M : TuringMachine) (number : ℕ)
+        (cause : Cause) → ReadsMachine text from M to →
+        Fault machine_format text from number cause → ⊥ }
+    ensures one_machine { (text : List ℕ) (from s t : Mark) (M N : TuringMachine) →
+        ReadsMachine text from M s → ReadsMachine text from N t → (M ≡ N) × (s ≡ t) }
+    ensures one_fault { (text : List ℕ) (from : Mark) (m n : ℕ) (a b : Cause) →
+        Fault machine_format text from m a →
+        Fault machine_format text from n b → (m ≡ n) × (a ≡ b) }
+{}
