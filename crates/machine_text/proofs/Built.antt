@@ -1,6 +1,7 @@
 -- A machine in the making has what the lines give, and is sound.
 use Rattle.std.proofs.Common.{◌≡◌, ◌≢◌, ◌<◌, ◌≤◌, ◌+◌, ◌==◌, ℕ, true, false, List, [], ◌∷◌, ◌++◌, length, get_or, Option, Some, None, refl, sym, ◌∙◌, ap, subst, inl, inr, arith, length-append, append-nil}
 use Rattle.std.specs.Prelude.{IsTrue, AllPairs, filter_map, bytes_eq, option_map, find}
+use Rattle.std.specs.List.{cons_option}
 use Rattle.std.specs.Option.{unwrap_or, option_to_list}
 use Rattle.std.specs.List.{list_any}
 use Rattle.std.proofs.lemmas.Bool.{cases_Bool, eqb-true}
@@ -9,7 +10,6 @@ use Rattle.std.proofs.lemmas.List.Elements.{All-push, All-append, filter_map-app
 use Rattle.std.proofs.lemmas.List.Quantifiers.{all_pairs_push}
 use Rattle.std.proofs.lemmas.Slice.Eq.{bytes_eq-Decides}
 use Rattle.std.proofs.lemmas.Option.{none-some}
-use Rattle.atam.proofs.Lists.{some_or_none}
 use Rattle.tile_io.specs.declared.mark.Mark.{Mark}
 use Rattle.tile_io.specs.Checks.{last_of}
 use Rattle.tile_io.specs.Formats.{Reads}
@@ -27,14 +27,12 @@ use Rattle.machine_text.proofs.RuleTables.{is_own}
 use Rattle.tile_io.proofs.PassedFields.{and_both}
 
 -- One line more.
-list_of_one : {X : Type 0} (of : MachineItem → Option X) (item : MachineItem) → filter_map of (item ∷ []) ≡ option_to_list (of item)
-list_of_one of item = elim (some_or_none (of item)) [
-  | inl none ↦ rw none refl
-  | inr some ↦ rw some.1 refl
-]
+one_or_none : {X : Type 0} (o : Option X) → cons_option o [] ≡ option_to_list o
+one_or_none None = refl
+one_or_none (Some x) = refl
 
 list_push : {X : Type 0} (of : MachineItem → Option X) (items : List MachineItem) (item : MachineItem) → filter_map of (items ++ item ∷ []) ≡ filter_map of items ++ option_to_list (of item)
-list_push of items item = filter_map-append of items (item ∷ []) ∙ ap (λ l. filter_map of items ++ l) (list_of_one of item)
+list_push of items item = filter_map-append of items (item ∷ []) ∙ ap (λ l. filter_map of items ++ l) (one_or_none (of item))
 
 last_given : (given : List ℕ) (more : Option ℕ) → unwrap_or (last_of (given ++ option_to_list more)) 0 ≡ unwrap_or more (unwrap_or (last_of given) 0)
 last_given given None = ap (λ l. unwrap_or (last_of l) 0) (append-nil given)

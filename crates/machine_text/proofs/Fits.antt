@@ -1,5 +1,5 @@
 -- What the checks of a line say of it.
-use Rattle.std.proofs.Common.{◌≡◌, ◌+◌, ◌-◌, ℕ, Bool, true, false, not, is_some, List, [], ◌∷◌, length, drop, Option, Some, None, Result, Ok, refl, ap, subst, arith, length-drop}
+use Rattle.std.proofs.Common.{◌≡◌, ◌<◌, ◌+◌, ◌-◌, ℕ, Bool, true, false, not, is_some, List, [], ◌∷◌, length, drop, Option, Some, None, Result, Ok, refl, ap, subst, arith, length-drop}
 use Rattle.std.specs.Prelude.{bytes_eq, option_map}
 use Rattle.std.proofs.lemmas.Bool.{ltb-true, leb-true}
 use Rattle.tile_io.specs.declared.fault.Cause.{Cause}
@@ -22,35 +22,40 @@ none_of : {X : Type 0} (o : Option X) → is_some o ≡ false → o ≡ None
 none_of None is = refl
 none_of (Some x) is = absurd (cc is)
 
--- a rule that was read is in range and new
-transition_ok : (M : TuringMachine) (words : List (List ℕ)) (t : Transition) → transition_in M words ≡ Ok t → IsTransition (length M.states) (length M.symbols) t × (rule_among M.rules t.state t.symbol ≡ None)
-unfolding transition_in
-transition_ok M words t is =
-    let state : ℕ → Result ℕ Cause = λ i. referred is_short_name M.states (field words i) in
-    let symbol : ℕ → Result ℕ Cause = λ i. referred is_short_name M.symbols (field words i) in
-    let made : ℕ → ℕ → ℕ → ℕ → Turn → Transition = λ q a p b turn. record { state = q; symbol = a; rule = record { state = p; symbol = b; turn = turn } } in
-    let free : ℕ → ℕ → Bool = λ q a. not (is_some (rule_among M.rules q a)) in
-    let last : ℕ → ℕ → ℕ → ℕ → Result Transition Cause = λ q a p b. turn_field (field words 5) >>= (λ turn. Ok (made q a p b turn)) in
-    let fourth : ℕ → ℕ → ℕ → Result Transition Cause = λ q a p. symbol 4 >>= (λ b. last q a p b) in
-    let third : ℕ → ℕ → Result Transition Cause = λ q a. state 3 >>= (λ p. fourth q a p) in
-    let one = bind_ok (state 1) (λ q. symbol 2 >>= (λ a. require (free q a) DoubleName >>= (λ _. third q a))) t is in
-    let two = bind_ok (symbol 2) (λ a. require (free one.0 a) DoubleName >>= (λ _. third one.0 a)) t one.2 in
-    let new = bind_ok (require (free one.0 two.0) DoubleName) (λ _. third one.0 two.0) t two.2 in
-    let three = bind_ok (state 3) (λ p. fourth one.0 two.0 p) t new.2 in
-    let four = bind_ok (symbol 4) (λ b. last one.0 two.0 three.0 b) t three.2 in
-    let five = bind_ok (turn_field (field words 5)) (λ turn. Ok (made one.0 two.0 three.0 four.0 turn)) t four.2 in
-    let same : made one.0 two.0 three.0 four.0 five.0 ≡ t = cc (five.2) in
-    let none = none_of (rule_among M.rules one.0 two.0) (not_true (is_some (rule_among M.rules one.0 two.0)) (require_ok (free one.0 two.0) DoubleName new.0 new.1)) in
-    let Good : Transition → Type 0 = λ u. IsTransition (length M.states) (length M.symbols) u × (rule_among M.rules u.state u.symbol ≡ None) in
-    subst Good same (
-      record {
-        state = referred_ok is_short_name M.states (field words 1) one.0 one.1;
-        symbol = referred_ok is_short_name M.symbols (field words 2) two.0 two.1;
-        next_state = referred_ok is_short_name M.states (field words 3) three.0 three.1;
-        next_symbol = referred_ok is_short_name M.symbols (field words 4) four.0 four.1;
-      },
-      none,
-    )
+module _ (M : TuringMachine) where
+  -- a transition is in range and new
+  abbrev IsNew : Transition → Type 0
+  IsNew t = IsTransition (length M.states) (length M.symbols) t × (rule_among M.rules t.state t.symbol ≡ None)
+
+  abbrev made : ℕ → ℕ → ℕ → ℕ → Turn → Transition
+  made q a p b turn = record { state = q; symbol = a; rule = record { state = p; symbol = b; turn = turn } }
+
+  is_new : (q a p b : ℕ) (turn : Turn) (t : Transition) → q < length M.states → a < length M.symbols → p < length M.states → b < length M.symbols → is_some (rule_among M.rules q a) ≡ false → made q a p b turn ≡ t → IsNew t
+  is_new q a p b turn t state symbol next_state next_symbol free same = subst IsNew same (record { state = state; symbol = symbol; next_state = next_state; next_symbol = next_symbol }, none_of (rule_among M.rules q a) free)
+
+  -- a rule that was read is
+  transition_ok : (words : List (List ℕ)) (t : Transition) → transition_in M words ≡ Ok t → IsNew t
+  unfolding transition_in
+  transition_ok words t is =
+      let state : ℕ → Result ℕ Cause = λ i. referred is_short_name M.states (field words i) in
+      let symbol : ℕ → Result ℕ Cause = λ i. referred is_short_name M.symbols (field words i) in
+      let free : ℕ → ℕ → Bool = λ q a. not (is_some (rule_among M.rules q a)) in
+      let last : ℕ → ℕ → ℕ → ℕ → Result Transition Cause = λ q a p b. turn_field (field words 5) >>= (λ turn. Ok (made q a p b turn)) in
+      let fourth : ℕ → ℕ → ℕ → Result Transition Cause = λ q a p. symbol 4 >>= (λ b. last q a p b) in
+      let third : ℕ → ℕ → Result Transition Cause = λ q a. state 3 >>= (λ p. fourth q a p) in
+      let one = bind_ok (state 1) (λ q. symbol 2 >>= (λ a. require (free q a) DoubleName >>= (λ _. third q a))) t is in
+      let two = bind_ok (symbol 2) (λ a. require (free one.0 a) DoubleName >>= (λ _. third one.0 a)) t one.2 in
+      let new = bind_ok (require (free one.0 two.0) DoubleName) (λ _. third one.0 two.0) t two.2 in
+      let three = bind_ok (state 3) (λ p. fourth one.0 two.0 p) t new.2 in
+      let four = bind_ok (symbol 4) (λ b. last one.0 two.0 three.0 b) t three.2 in
+      let five = bind_ok (turn_field (field words 5)) (λ turn. Ok (made one.0 two.0 three.0 four.0 turn)) t four.2 in
+      is_new one.0 two.0 three.0 four.0 five.0 t
+      (referred_ok is_short_name M.states (field words 1) one.0 one.1)
+      (referred_ok is_short_name M.symbols (field words 2) two.0 two.1)
+      (referred_ok is_short_name M.states (field words 3) three.0 three.1)
+      (referred_ok is_short_name M.symbols (field words 4) four.0 four.1)
+      (not_true (is_some (rule_among M.rules one.0 two.0)) (require_ok (free one.0 two.0) DoubleName new.0 new.1))
+      (cc (five.2))
 
 module _ (M : TuringMachine) (words : List (List ℕ)) (item : MachineItem) where
   header_fit : header_fields words ≡ Ok item → IsFit M item
