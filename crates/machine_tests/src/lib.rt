@@ -7,3 +7,5 @@ mod machines;
 mod runs;
 #[cfg(test)]
 mod texts;
+#[cfg(test)]
+mod tiles;

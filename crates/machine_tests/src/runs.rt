@@ -7,7 +7,7 @@ use std::alloc::{AllocError, Global};
 use std::test::Fail;
 
 // The symbols of a configuration, cell by cell.
-fn symbols(alloc: Global, machine: &Machine, config: &Config) -> Result<Vec<u32>, AllocError>
+pub fn symbols(alloc: Global, machine: &Machine, config: &Config) -> Result<Vec<u32>, AllocError>
     requires { IsConfigOf machine.now config.now }
 {
     let mut symbols = Vec::new(alloc);
