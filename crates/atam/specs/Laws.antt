@@ -74,7 +74,14 @@ IsProducibleWhereNothingIsLeft = (sys : TileSystem) (tiles : List Place) → Has
     All (λ p. IsType sys p.tile) tiles →
     IsProducible sys tiles ↔ (IsPartOf sys.seeds tiles × ((s : List Place) → IsCanonical sys tiles s → LeavesNothing tiles s))
 
--- there is one least open site, or none, over the plane and over the sites outside the box
+-- where the temperature isn't 0, a least open site is there or none is open, over the plane and over the sites outside the box
+abbrev pub HasLeastOpenSite : Type 0
+HasLeastOpenSite = (sys : TileSystem) (tiles : List Place) → 1 ≤ sys.tau → (f : Option (Site × TypeId)) × IsLeastOpen sys tiles f
+
+abbrev pub HasLeastOpenSiteOutside : Type 0
+HasLeastOpenSiteOutside = (sys : TileSystem) (tiles : List Place) → 1 ≤ sys.tau → (f : Option (Site × TypeId)) × IsLeastOpenOutside sys tiles f
+
+-- and it is the only one
 abbrev pub HasOneLeastOpenSite : Type 0
 HasOneLeastOpenSite = (sys : TileSystem) (tiles : List Place) (f g : Option (Site × TypeId)) →
     IsLeastOpen sys tiles f → IsLeastOpen sys tiles g → f ≡ g

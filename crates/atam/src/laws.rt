@@ -1,5 +1,5 @@
 // Laws of the model, each as the contract of a function that does nothing.
-ghost use Rattle.atam.specs.Laws.{InteractionIsSymmetric, AttachesBesideTile, HoldsOneTileEachSite, LegalIsAssembly, LegalBeginsLegally, PullsNeverFall, AttachmentLasts, ClosedPartIsWhole, HasCanonicalSequence, HasOneCanonicalSequence, ProducesInCanonicalOrder, IsProducibleWhereNothingIsLeft, HasOneLeastOpenSite, HasOneLeastOpenSiteOutside};
+ghost use Rattle.atam.specs.Laws.{InteractionIsSymmetric, AttachesBesideTile, HoldsOneTileEachSite, LegalIsAssembly, LegalBeginsLegally, PullsNeverFall, AttachmentLasts, ClosedPartIsWhole, HasCanonicalSequence, HasOneCanonicalSequence, ProducesInCanonicalOrder, IsProducibleWhereNothingIsLeft, HasLeastOpenSite, HasLeastOpenSiteOutside, HasOneLeastOpenSite, HasOneLeastOpenSiteOutside};
 
 /// Tiles are held by their neighbours alone.
 pub fn law_neighbors()
@@ -38,8 +38,10 @@ pub fn law_canonical()
     ensures producible { IsProducibleWhereNothingIsLeft }
 {}
 
-/// The least open site is unique.
+/// Exactly one answer to the question for the least open site is right.
 pub fn law_least_open()
+    ensures exists { HasLeastOpenSite }
+    ensures exists_outside { HasLeastOpenSiteOutside }
     ensures everywhere { HasOneLeastOpenSite }
     ensures outside { HasOneLeastOpenSiteOutside }
 {}

@@ -33,7 +33,8 @@ pub fn number_option<'a>(
 
 // The number that a parse found.
 pub fn number_of(found: &ArgMatches, id: &str) -> u64
-    requires { (least most : ℕ) × (most < 2 ^ 64) × FindsInRange (found_of found.now) id.now least most }
+    requires { (least most : ℕ) × (most < 2 ^ 64)
+        × FindsInRange (found_of found.now) id.now least most }
     ensures number { FindsNumber (found_of found.now) id.now result }
     ensures range { (least most : ℕ) → FindsInRange (found_of found.now) id.now least most
         → (least ≤ result) × (result ≤ most) }

@@ -59,8 +59,8 @@ pub fn tilebench<R: Threads + Sync, S: Source, K: Sink, E: Sink, G: Gate>(
         × (K.faults out.old ≤ K.faults out.new) × (E.faults err.old ≤ E.faults err.new) }
     ensures quiet { result.status ≢ Status.ReadFault → S.faults source.new ≡ S.faults source.old }
 
-    // Where the words and the input are in order and nothing fails, there is an answer, or no memory
-    // for it.
+    // Where the words and the input are in order and nothing fails, there is an answer, or no
+    // memory for it.
     ensures complete { IsDue (map string_bytes words.now) (S.left source.old)
         → ¬ Rose (S.faults source.old) (S.faults source.new)
         → ¬ Rose (K.faults out.old) (K.faults out.new)

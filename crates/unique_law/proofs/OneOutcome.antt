@@ -1,18 +1,20 @@
 -- A locally deterministic sequence in the box leaves one outcome.
-use Rattle.std.proofs.Common.{◌≡◌, ◌↔◌, List, take, get_or, All, subst}
+use Rattle.std.proofs.Common.{◌≡◌, ◌≤◌, ◌↔◌, List, take, get_or, All, subst}
 use Rattle.std.proofs.lemmas.List.Elements.{All-contains, Contains-get_or}
 use Rattle.atam.specs.declared.site.Site.{Site}
 use Rattle.atam.specs.declared.place.Place.{Place}
 use Rattle.atam.specs.Sites.{InBox}
 use Rattle.atam.specs.Placements.{HasDistinctSites, IsPartOf, SamePlacements}
 use Rattle.atam.specs.TileSystem.{TileSystem, IsType}
-use Rattle.atam.specs.Growth.{IsLegal, IsProducible, GrowsInto, IsClosedInBox}
+use Rattle.atam.specs.Growth.{IsLegal, IsProducible, GrowsInto, IsClosedInBox, IsFullGrowth}
 use Rattle.atam.specs.Canonical.{IsReady, IsCanonical}
-use Rattle.atam.specs.Determinism.{IsLocallyDeterministic}
+use Rattle.atam.specs.Determinism.{IsLocallyDeterministic, IsDeterministicInBox}
 use Rattle.atam.proofs.Sequences.{IsLegal-distinct}
 use Rattle.atam.proofs.Closure.{closure_of_part}
 use Rattle.atam.proofs.Canon.{canonical_unique, canonical_same, canonical_IsLegal, producible_seeded, producible_types}
 use Rattle.atam.proofs.Open.{least_open_unique, least_open_same}
+use Rattle.atam.proofs.Existence.{canonical_exists}
+use Rattle.atam.proofs.Deciding.{least_outside_exists}
 use Rattle.atam.proofs.Confluence.{confluence, confluence_part}
 use Rattle.atam.proofs.Extension.{deterministic_extension}
 use Rattle.atam.proofs.SameVerdict.{same_verdict}
@@ -20,6 +22,7 @@ use Rattle.atam.proofs.Tiles.{SamePlacements-trans, SameTiles-from, same_back}
 use Rattle.local_check.specs.declared.verdict.Verdict.{Verdict}
 use Rattle.local_check.specs.declared.verdict.Verdict.TheVariants.{Yes}
 use Rattle.local_check.specs.Judgement.{IsVerdict}
+use Rattle.local_check.proofs.Existence.{verdict_exists}
 use Rattle.local_check.proofs.Verdicts.{verdict_unique, verdict_yes}
 use Rattle.unique_law.specs.Matches.{IsMatchedIn}
 use Rattle.unique_law.specs.Outcomes.{Outcome, IsOutcome, IsDeterministicInSomeOrder}
@@ -48,7 +51,18 @@ module _ (sys : TileSystem) (a b : List Place) (same : SamePlacements a b) where
     whole = λ q ready. canonical.whole q (ready_back s q ready);
   }
 
--- so they have one outcome
+-- a full growth has an outcome
+pub outcome_exists : (sys : TileSystem) (tiles : List Place) → 1 ≤ sys.tau → HasDistinctSites sys.seeds → IsFullGrowth sys tiles → (o : Outcome) × IsOutcome sys tiles o
+outcome_exists sys tiles some_tau seeds_distinct full =
+    let order = canonical_exists sys tiles full.distinct seeds_distinct (producible_seeded sys tiles seeds_distinct full.producible) in
+    let legal : IsLegal sys order.0 = canonical_IsLegal sys tiles order.0 full.distinct (producible_types sys tiles full.producible) seeds_distinct order.1 in
+    let outside = least_outside_exists sys tiles some_tau in
+    let verdict = verdict_exists sys order.0 some_tau legal in (
+      record { order = order.0; outside = outside.0; verdict = verdict.0 },
+      record { full = full; canonical = order.1; least = outside.1; judged = verdict.1 },
+    )
+
+-- lists with the same placements have one outcome
 pub outcome_by_placements : (sys : TileSystem) (a b : List Place) (o p : Outcome) → IsOutcome sys a o → IsOutcome sys b p → SamePlacements a b → o ≡ p
 outcome_by_placements sys a b o p of_a of_b same =
     let order : o.order ≡ p.order = canonical_unique sys b of_b.full.distinct o.order p.order (canonical_too sys a b same o.order of_a.canonical) of_b.canonical in
@@ -61,6 +75,17 @@ outcome_by_placements sys a b o p of_a of_b same =
     λ i. record { order = order i; outside = outside i; verdict = verdict i }
 
 module _ (sys : TileSystem) (seeds_distinct : HasDistinctSites sys.seeds) where
+  -- a locally deterministic sequence in the box is a full growth
+  pub deterministic_full : (s : List Place) → IsDeterministicInBox sys s → IsFullGrowth sys s
+  deterministic_full s found =
+      let legal = found.deterministic.legal in
+      record {
+        distinct = IsLegal-distinct sys s seeds_distinct legal;
+        inside = found.inside;
+        producible = record { sequence = s; legal = legal; same = record { part = λ p h. h; whole = λ p h. h } };
+        closed = λ m t inside. found.deterministic.terminal m t;
+      }
+
   -- a producible assembly that is closed in the box has the places of a locally deterministic sequence there
   pub one_full_growth : (s tiles : List Place) → IsLocallyDeterministic sys s → All (λ p. InBox sys.area p.site) s →
       HasDistinctSites tiles → IsProducible sys tiles → IsClosedInBox sys tiles → SamePlacements tiles s

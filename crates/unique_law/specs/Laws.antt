@@ -1,9 +1,9 @@
 -- Laws of locally deterministic sequences, over every system and all lists of placements, at whatever sites.
-use Rattle.std.specs.Prelude.{◌≡◌, ◌↔◌, List}
+use Rattle.std.specs.Prelude.{◌≡◌, ◌≤◌, ◌↔◌, List}
 use Rattle.atam.specs.declared.place.Place.{Place}
 use Rattle.atam.specs.Placements.{HasDistinctSites, SamePlacements}
 use Rattle.atam.specs.TileSystem.{TileSystem}
-use Rattle.atam.specs.Growth.{IsLegal, IsProducible, GrowsInto, IsClosedInBox}
+use Rattle.atam.specs.Growth.{IsLegal, IsProducible, GrowsInto, IsClosedInBox, IsFullGrowth}
 use Rattle.atam.specs.Canonical.{IsCanonical}
 use Rattle.atam.specs.Determinism.{IsLocallyDeterministic, IsDeterministicInBox}
 use Rattle.local_check.specs.declared.verdict.Verdict.{Verdict}
@@ -22,10 +22,19 @@ abbrev pub GrowsIntoDeterministic : Type 0
 GrowsIntoDeterministic = (sys : TileSystem) (a b : List Place) → HasDistinctSites sys.seeds →
     IsLocallyDeterministic sys a → IsLegal sys b → GrowsInto sys b a
 
--- where some list in the box is locally deterministic, a producible assembly that is closed in the box has its placements
+-- a list in the box that is locally deterministic is itself a full growth
+abbrev pub DeterministicIsFullGrowth : Type 0
+DeterministicIsFullGrowth = (sys : TileSystem) (s : List Place) → HasDistinctSites sys.seeds → IsDeterministicInBox sys s → IsFullGrowth sys s
+
+-- and where there is such a list, a producible assembly that is closed in the box has its placements
 abbrev pub HasOneFullGrowth : Type 0
 HasOneFullGrowth = (sys : TileSystem) (s tiles : List Place) → HasDistinctSites sys.seeds →
     IsDeterministicInBox sys s → HasDistinctSites tiles → IsProducible sys tiles → IsClosedInBox sys tiles → SamePlacements tiles s
+
+-- each full growth has an outcome
+abbrev pub HasOutcome : Type 0
+HasOutcome = (sys : TileSystem) (tiles : List Place) → 1 ≤ sys.tau → HasDistinctSites sys.seeds → IsFullGrowth sys tiles →
+    (o : Outcome) × IsOutcome sys tiles o
 
 -- assemblies with the same placements have one outcome
 abbrev pub HasOutcomeByPlacements : Type 0

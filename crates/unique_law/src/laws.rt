@@ -1,6 +1,6 @@
 // Laws over all lists of placements, at whatever sites, each as the contract of a function that
 // does nothing.
-ghost use Rattle.unique_law.specs.Laws.{HasNoOtherPlaces, GrowsIntoDeterministic, HasOneFullGrowth, HasOutcomeByPlacements, HasOneOutcome, IsYesThroughout, GrowsIntoOutcome, HasVerdictByPlacements, IsYesWhereSomeOrderIs};
+ghost use Rattle.unique_law.specs.Laws.{HasNoOtherPlaces, GrowsIntoDeterministic, DeterministicIsFullGrowth, HasOneFullGrowth, HasOutcome, HasOutcomeByPlacements, HasOneOutcome, IsYesThroughout, GrowsIntoOutcome, HasVerdictByPlacements, IsYesWhereSomeOrderIs};
 
 /// Each legal sequence has places of a locally deterministic one alone, and grows into it.
 pub fn law_confluence()
@@ -11,7 +11,9 @@ pub fn law_confluence()
 /// A producible assembly that is closed in the box is the only one where some sequence in the box
 /// is locally deterministic, and all that is told of it is the same each time.
 pub fn law_one_outcome()
+    ensures itself { DeterministicIsFullGrowth }
     ensures placements { HasOneFullGrowth }
+    ensures exists { HasOutcome }
     ensures outcome { HasOutcomeByPlacements }
     ensures yes { HasOneOutcome }
     ensures throughout { IsYesThroughout }

@@ -1,5 +1,11 @@
-use Rattle.unique_law.proofs.OneOutcome.{one_full_growth, outcome_by_placements, one_outcome, yes_throughout, grows_into_outcome}
+use Rattle.unique_law.proofs.OneOutcome.{deterministic_full, one_full_growth, outcome_exists, outcome_by_placements, one_outcome, yes_throughout, grows_into_outcome}
 use Rattle.unique_law.proofs.laws.law_one_outcome.Goals as goal
+
+pub returns-clause-itself : goal.returns-clause-itself
+returns-clause-itself c = λ sys s distinct found. deterministic_full sys distinct s found
+
+pub returns-clause-exists : goal.returns-clause-exists
+returns-clause-exists c = outcome_exists
 
 pub returns-clause-placements : goal.returns-clause-placements
 returns-clause-placements c = λ sys s tiles distinct found. one_full_growth sys distinct s tiles found.deterministic found.inside
