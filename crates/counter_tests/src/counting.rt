@@ -50,6 +50,9 @@ fn rows_show_numbers(rt: HostRuntime) -> Result<(), Fail> {
         assert_eq!(rt; row_value(2, &whole, y), Some(values[y as usize]));
     }
     let part = read_grid(rt.alloc(), &system, &GROWN[..43], Mark::start())?;
-    assert_eq!(rt; (row_value(2, &part, 0), row_value(2, &part, 1)), (Some(0), None));
+    assert_eq!(rt;
+        (row_value(2, &part, 0), row_value(2, &part, 1)),
+        (Some(0), None)
+    );
     Ok(())
 }

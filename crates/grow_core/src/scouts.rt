@@ -132,9 +132,8 @@ impl Scouts {
     // The scout of a name gives its greatest number to a new one.
     pub(crate) fn split(&mut self, alloc: Global, name: u32) -> Result<Seen, CoreStop>
         requires names { length self.old.scouts ≡ 64 }
-        requires some_number {
-            (v : ScoutState) → scout_at self.old.scouts name ≡ Some v → 0 < v.owned
-        }
+        requires some_number { (v : ScoutState) → scout_at self.old.scouts name ≡ Some v →
+            0 < v.owned }
         requires numbers { (v : ScoutState) → scout_at self.old.scouts name ≡ Some v →
             v.owned < 2 ^ 64 }
         requires room { (v : ScoutState) → scout_at self.old.scouts name ≡ Some v →
