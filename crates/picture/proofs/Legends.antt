@@ -1,5 +1,5 @@
 -- Which types stand, and the entries of a legend.
-use Rattle.std.proofs.Common.{◌≡◌, ◌⊎◌, ◌<◌, ◌≤◌, ◌+◌, ◌==◌, ◌||◌, ℕ, zero, suc, Bool, true, false, List, [], ◌∷◌, ◌++◌, length, filter, flat_map, get_or, Option, Some, None, slice_get, Contains, All, refl, sym, ◌∙◌, ap, subst, inl, inr, arith}
+use Rattle.std.proofs.Common.{◌≡◌, ◌<◌, ◌+◌, ◌*◌, ◌==◌, ◌||◌, ℕ, zero, suc, Bool, true, false, List, [], ◌∷◌, ◌++◌, length, filter, flat_map, take, get_or, Option, Some, None, slice_get, Contains, All, refl, sym, ◌∙◌, ap, subst, inl, inr, arith}
 use Rattle.std.specs.List.{list_any, range_with_len}
 use Rattle.std.proofs.lemmas.Bool.{cases_Bool}
 use Rattle.std.proofs.lemmas.Bool.Decides.{eqb_tells}
@@ -8,15 +8,17 @@ use Rattle.std.proofs.lemmas.List.Folds.{list_any_at}
 use Rattle.std.proofs.lemmas.List.FromFn.{get_or-range_with_len, length-range_with_len}
 use Rattle.atam.specs.declared.place.Place.{Place}
 use Rattle.atam.specs.declared.place.TypeId.{TypeId}
-use Rattle.atam.specs.Sites.{InBox}
+use Rattle.atam.specs.declared.site.Site.{Site}
+use Rattle.atam.specs.declared.area.BoxArea.{BoxArea}
+use Rattle.atam.specs.Sites.{InBox, width_of, height_of}
 use Rattle.atam.specs.Placements.{HasDistinctSites, tile_at}
-use Rattle.atam.specs.TileSystem.{TileSystem}
+use Rattle.atam.specs.TileSystem.{TileSystem, IsType}
 use Rattle.atam.proofs.Lists.{slice_get-Contains, Contains-slice_get}
 use Rattle.atam.proofs.Placements.{tile_at-Contains, Contains-tile_at}
 use Rattle.assembly.specs.Cells.{cell_count, site_at}
 use Rattle.assembly.specs.Grids.{TileGrid}
 use Rattle.assembly.proofs.Cells.{index_of}
-use Rattle.picture.specs.Pictures.{is_standing, legend_line}
+use Rattle.picture.specs.Pictures.{is_standing, legend, legend_line}
 use Rattle.picture.specs.Inner.Entries.{entry, is_of, is_seen}
 
 -- the entries of those that pass a test are its lines
@@ -107,3 +109,49 @@ seen_all grid t distinct inside = same_by (is_seen grid (cell_count grid.area) t
         let i = index_of grid.area p.0.site (contained (λ q. InBox grid.area q.site) grid.tiles p.0 inside p.1) in
         range_any (λ n. is_of (tile_at grid.tiles (site_at grid.area n)) t) (cell_count grid.area) i.0 i.1
         (ap (λ o. is_of o t) (ap (tile_at grid.tiles) i.2 ∙ Contains-tile_at grid.tiles p.0 distinct p.1) ∙ p.2)
+
+-- nothing is marked at first
+abbrev unmarked : ℕ → List Bool
+unmarked zero = []
+unmarked (suc n) = false ∷ unmarked n
+
+pub none_marked : (n t : ℕ) → get_or (unmarked n) t false ≡ false
+none_marked zero t = refl
+none_marked (suc n) zero = refl
+none_marked (suc n) (suc t) = none_marked n t
+
+-- one site more
+pub marked_more : (grid : TileGrid) (n t : ℕ) (area : BoxArea) (site : Site) (tile : Option TypeId) (old new : Bool) → old ≡ is_seen grid n t → new ≡ (old || is_of tile t) →
+    area ≡ grid.area → site ≡ site_at area n → tile ≡ tile_at grid.tiles site → new ≡ is_seen grid (n + 1) t
+marked_more grid n t area site tile old new so_far marked same at there =
+    let here : tile ≡ tile_at grid.tiles (site_at grid.area n) = there ∙ ap (tile_at grid.tiles) (at ∙ ap (λ a. site_at a n) same) in
+    marked ∙ ap (λ b. b || is_of tile t) so_far ∙ ap (λ o. is_seen grid n t || is_of o t) here ∙ sym (seen_more grid n t)
+
+-- all sites of the box
+pub marked_all : (grid : TileGrid) (n w h t : ℕ) (area : BoxArea) (mark : Bool) → mark ≡ is_seen grid n t → area ≡ grid.area → n ≡ w * h → w ≡ width_of area → h ≡ height_of area →
+    HasDistinctSites grid.tiles → All (λ p. InBox area p.site) grid.tiles → mark ≡ is_standing grid.tiles t
+marked_all grid n w h t area mark marked same all wide high distinct inside =
+    let sites : n ≡ cell_count area = all ∙ ap (λ m. m * h) wide ∙ ap (λ m. width_of area * m) high in
+    marked ∙ ap (λ m. is_seen grid m t) (sites ∙ ap cell_count same) ∙ seen_all grid t distinct (subst (λ a. All (λ p. InBox a p.site) grid.tiles) same inside)
+
+-- a type that stands is one of the system
+pub standing_type : (sys : TileSystem) (tiles : List Place) (t : ℕ) → All (λ p. IsType sys p.tile) tiles → is_standing tiles t ≡ true → t < length sys.types
+standing_type sys tiles t types standing =
+    let p = any_passes (λ p. p.tile.0 == t) tiles standing in
+    let type = contained (λ q. IsType sys q.tile) tiles p.0 types p.1 in
+    elim (eqb_tells p.0.tile.0 t) [
+      | inl same ↦ let e = same.1 in omega (arith, type, e)
+      | inr other ↦ absurd (cc (sym p.2 ∙ other.0))
+    ]
+
+-- the entry of one type
+pub entry_is : (sys : TileSystem) (tiles : List Place) (k : ℕ) (mark : Bool) → k < 62 → mark ≡ is_standing tiles k →
+    entry sys mark (record { 0 = k }) ≡ entry sys (is_standing tiles (get_or (range_with_len 0 62) k 0)) (record { 0 = get_or (range_with_len 0 62) k 0 })
+entry_is sys tiles k mark less marked =
+    let here : get_or (range_with_len 0 62) k 0 ≡ k = get_or-range_with_len 0 62 k 0 less ∙ omega arith in
+    ap (λ m. entry sys m (record { 0 = k })) marked ∙ ap (λ n. entry sys (is_standing tiles n) (record { 0 = n })) (sym here)
+
+pub entries_all : (sys : TileSystem) (tiles : List Place) (k : ℕ) → k ≡ 62 →
+    flat_map (λ t. entry sys (is_standing tiles t) (record { 0 = t })) (take k (range_with_len 0 62)) ≡ legend sys tiles
+entries_all sys tiles k all =
+    ap (λ n. flat_map (λ t. entry sys (is_standing tiles t) (record { 0 = t })) (take n (range_with_len 0 62))) all ∙ entries sys (is_standing tiles) (range_with_len 0 62)

@@ -12,10 +12,7 @@ pub const CHARACTERS: [u8; 62] = *b"ABCDEFGHIJKLMNOPQRSTUVWXYZabcdefghijklmnopqr
 pub(crate) fn type_character(tile: TypeId) -> u8
     ensures { result ≡ type_character tile }
 {
-    CHARACTERS
-        .get(tile.0 as usize)
-        .copied()
-        .unwrap_or(b'#')
+    CHARACTERS.get(tile.0 as usize).copied().unwrap_or(b'#')
 }
 
 pub(crate) fn site_character(grid: &Grid, site: Site) -> u8

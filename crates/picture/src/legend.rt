@@ -1,5 +1,5 @@
 // The legend of a picture.
-ghost use Rattle.std.specs.Prelude.{◌≡◌, ℕ, ◌<◌, ◌||◌, length, true, All};
+ghost use Rattle.std.specs.Prelude.{◌≡◌, ℕ, ◌<◌, ◌||◌, length, true, false, All};
 ghost use Rattle.std.specs.List.{slice_index_or};
 ghost use Rattle.atam.specs.TileSystem.{IsType};
 ghost use Rattle.tile_io.specs.Chunks.{PassesOn};
@@ -32,7 +32,7 @@ pub(crate) fn put_legend<K: Sink>(
 
 // Which of the types of index 0 to 61 stand in the grid.
 fn standing_types(grid: &Grid) -> [bool; 62]
-    ensures { (t : ℕ) → t < 62 → slice_index_or result t true ≡ is_standing grid.now.tiles t }
+    ensures { (t : ℕ) → t < 62 → slice_index_or result t false ≡ is_standing grid.now.tiles t }
 {
     let mut standing = [false; 62];
     let area = grid.area();
@@ -46,8 +46,8 @@ fn standing_types(grid: &Grid) -> [bool; 62]
 // Marks a type that has a mark.
 fn mark(marks: &mut [bool], tile: Option<TypeId>)
     ensures length { length marks.new ≡ length marks.old }
-    ensures marked { (t : ℕ) → t < length marks.old → slice_index_or marks.new t true
-        ≡ (slice_index_or marks.old t true || is_of tile t) }
+    ensures marked { (t : ℕ) → t < length marks.old → slice_index_or marks.new t false
+        ≡ (slice_index_or marks.old t false || is_of tile t) }
 {
     if let Some(tile) = tile {
         if (tile.0 as usize) < marks.len() {

@@ -4,7 +4,7 @@ ghost use Rattle.atam.specs.Sites.{HasCorners, height_of};
 ghost use Rattle.atam.specs.TileSystem.{IsType};
 ghost use Rattle.tile_io.specs.Chunks.{PassesOn};
 ghost use Rattle.tile_io.specs.Prints.{Prints};
-ghost use Rattle.picture.specs.Pictures.{head_line, picture_text, row_line, rows_text};
+ghost use Rattle.picture.specs.Pictures.{head_line, picture_text, row_line, rows_text, sites_text};
 
 use crate::characters::site_character;
 use crate::legend::put_legend;
@@ -65,15 +65,25 @@ fn put_rows<K: Sink>(grid: &Grid, chunk: &mut Chunk, sink: &mut K) -> Result<(),
     Ok(())
 }
 
-// Adds the sites of a row, from the west, and a newline.
+// Adds the sites of a row and a newline.
 fn put_row<K: Sink>(grid: &Grid, row: u32, chunk: &mut Chunk, sink: &mut K) -> Result<(), Failed>
     requires { row < height_of grid.now.area }
     ensures { PassesOn K.written K.faults sink.old sink.new chunk.old chunk.new result
         (row_line grid.now row) }
 {
+    put_sites(grid, row, chunk, sink)?;
+    chunk.put(sink, b"\n")
+}
+
+// Adds the sites of a row, from the west.
+fn put_sites<K: Sink>(grid: &Grid, row: u32, chunk: &mut Chunk, sink: &mut K) -> Result<(), Failed>
+    requires { row < height_of grid.now.area }
+    ensures { PassesOn K.written K.faults sink.old sink.new chunk.old chunk.new result
+        (sites_text grid.now row) }
+{
     let area = grid.area();
     for column in 0..area.width() {
         chunk.put(sink, &[site_character(grid, area.site(column, row))])?;
     }
-    chunk.put(sink, b"\n")
+    Ok(())
 }

@@ -4,7 +4,7 @@ use Rattle.atam.specs.Sites.{width_of}
 use Rattle.tile_io.specs.declared.outside.Failed.{Failed}
 use Rattle.tile_io.specs.Chunks.{PassesOn}
 use Rattle.picture.proofs.Rows.{cell_text}
-use Rattle.picture.proofs.picture.put_row.Given as goal
+use Rattle.picture.proofs.picture.put_sites.Given as goal
 
 -- the sites so far have been taken
 abbrev pub invariant-loop-column : goal.invariant-loop-column
