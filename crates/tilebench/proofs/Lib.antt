@@ -2,7 +2,6 @@ pub mod Endings
 pub mod Growths
 pub mod Headlines
 pub mod Looked
-pub mod Marks
 pub mod Orders
 pub mod ReadingBack
 pub mod Scheduling
