@@ -1,11 +1,11 @@
 -- A box's sites and their numbers.
-use Rattle.std.proofs.Common.{◌≡◌, ◌<◌, ◌≤◌, ℕ, ◌+◌, ◌*◌, ◌/◌, ◌%◌, ◌∙◌, sym, ap, arith, ℤ, pos, ◌+ℤ◌, ◌-ℤ◌, nat_abs}
+use Rattle.std.proofs.Common.{◌≡◌, ◌<◌, ◌≤◌, ℕ, ◌+◌, ◌*◌, ◌/◌, ◌%◌, ◌∙◌, sym, ap, inl, inr, arith, ℤ, pos, ◌+ℤ◌, ◌-ℤ◌, nat_abs}
 use Rattle.std.proofs.lemmas.Int.{ints}
 use Rattle.std.proofs.lemmas.Nat.{mul-add-lt, mod-mul-add, div-mul-add, div-add-mod', mul-le}
 use Rattle.std.proofs.Math.Nat.{div-lt_iff_lt-mul, mul_comm}
 use Rattle.atam.specs.declared.site.Site.{Site}
 use Rattle.atam.specs.declared.area.BoxArea.{BoxArea}
-use Rattle.atam.specs.Sites.{InBox, IsBox, width_of, height_of, site_in}
+use Rattle.atam.specs.Sites.{IsBefore, InBox, IsBox, width_of, height_of, site_in}
 use Rattle.atam.proofs.Boxes.{same_coordinates}
 use Rattle.assembly.specs.Cells.{cell_count, site_at}
 
@@ -69,3 +69,30 @@ cell_count-most area limits =
     mul-le (width_of area) (height_of area) 1024 1024
     (omega (arith, ints, corners.columns, limits.width))
     (omega (arith, ints, corners.rows, limits.height))
+
+-- a later number is no site before
+later_row : (w a b c d : ℕ) → a * w + b ≤ c * w + d → b < w → d < w → c < a → ⊥
+later_row w a b c d order b_within d_within less =
+    let more : c * w + w ≤ a * w = grind (arith, mul-le) in
+    let never : ⊥ = omega (arith, more, order, d_within) in
+    never
+
+pub not_before : (area : BoxArea) (i j : ℕ) → i ≤ j → 0 < width_of area → ¬ IsBefore (site_at area j) (site_at area i)
+not_before area i j order wide before =
+    let w = width_of area in
+    let at_i : i / w * w + i % w ≡ i = div-add-mod' i w in
+    let at_j : j / w * w + j % w ≡ j = div-add-mod' j w in
+    let in_i : i % w < w = omega (arith, wide) in
+    let in_j : j % w < w = omega (arith, wide) in
+    let ordered : i / w * w + i % w ≤ j / w * w + j % w = omega (arith, order, at_i, at_j) in
+    elim before [
+      | inl row ↦
+          let less : j / w < i / w = omega (arith, ints, row) in
+          later_row w (i / w) (i % w) (j / w) (j % w) ordered in_i in_j less
+      | inr column ↦
+          let same : j / w ≡ i / w = omega (arith, ints, column.0) in
+          let less : j % w < i % w = omega (arith, ints, column.1) in
+          let rows : j / w * w ≡ i / w * w = ap (λ r. r * w) same in
+          let never : ⊥ = omega (arith, rows, less, ordered) in
+          never
+    ]

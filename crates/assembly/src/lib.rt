@@ -3,10 +3,12 @@
 
 mod cell;
 mod grid;
+mod laws;
 mod seeding;
 mod sequence;
 
 pub use cell::{site_index, site_of_index};
 pub use grid::Grid;
+pub use laws::law_numbers;
 pub use seeding::put_seeds;
 pub use sequence::Sequence;

@@ -1,5 +1,11 @@
 // Laws of the model, each as the contract of a function that does nothing.
-ghost use Rattle.atam.specs.Laws.{InteractionIsSymmetric, AttachesBesideTile, HoldsOneTileEachSite, LegalIsAssembly, LegalBeginsLegally, PullsNeverFall, AttachmentLasts, ClosedPartIsWhole, HasCanonicalSequence, HasOneCanonicalSequence, ProducesInCanonicalOrder, IsProducibleWhereNothingIsLeft, HasLeastOpenSite, HasLeastOpenSiteOutside, HasOneLeastOpenSite, HasOneLeastOpenSiteOutside};
+ghost use Rattle.atam.specs.Laws.{HaveSameTiles, HaveSameCandidates, InteractionIsSymmetric, AttachesBesideTile, HoldsOneTileEachSite, IsNearThroughout, LegalIsAssembly, LegalBeginsLegally, PullsNeverFall, AttachmentLasts, ClosedPartIsWhole, HasCanonicalSequence, HasOneCanonicalSequence, SharesCanonicalSequence, ProducesInCanonicalOrder, IsProducibleWhereNothingIsLeft, HasLeastOpenSite, HasLeastOpenSiteOutside, HasOneLeastOpenSite, HasOneLeastOpenSiteOutside};
+
+/// The order of a list of placements says nothing of the assembly.
+pub fn law_placements()
+    ensures tiles { HaveSameTiles }
+    ensures candidates { HaveSameCandidates }
+{}
 
 /// Tiles are held by their neighbours alone.
 pub fn law_neighbors()
@@ -7,9 +13,10 @@ pub fn law_neighbors()
     ensures beside { AttachesBesideTile }
 {}
 
-/// A box holds at most one tile at each of its sites.
+/// A box holds at most one tile at each of its sites, and these lie within the machine's numbers.
 pub fn law_box()
-    ensures { HoldsOneTileEachSite }
+    ensures count { HoldsOneTileEachSite }
+    ensures near { IsNearThroughout }
 {}
 
 /// A legal sequence is an assembly, and begins legally.
@@ -34,6 +41,7 @@ pub fn law_closure()
 pub fn law_canonical()
     ensures exists { HasCanonicalSequence }
     ensures unique { HasOneCanonicalSequence }
+    ensures same { SharesCanonicalSequence }
     ensures legal { ProducesInCanonicalOrder }
     ensures producible { IsProducibleWhereNothingIsLeft }
 {}

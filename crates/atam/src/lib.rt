@@ -11,6 +11,7 @@ mod site;
 pub use area::BoxArea;
 pub use laws::{
     law_box, law_canonical, law_closure, law_least_open, law_legal, law_monotone, law_neighbors,
+    law_placements,
 };
 pub use limits::{
     GREATEST_CORNER, LEAST_CORNER, LONGEST_NAME, LONGEST_SIDE, MOST_GLUES, MOST_PAIRS, MOST_SEEDS,

@@ -21,33 +21,6 @@ use Rattle.atam.proofs.Opening.{pull-beside}
 use Rattle.atam.proofs.Tiles.{tile_at-push_other, tile_at-push_here}
 use Rattle.replay_order.specs.Inner.Replays.{IsReadySite, AreReadySites, AreReadySitesBut, AddsIfReady, AddsReadyBeside}
 
--- a site beside one of a box can be stepped from
-pub near_beside : (area : BoxArea) (m : Site) (d : Side) → IsBox area → InBox area m → IsNearSite (neighbor m d)
-near_beside area m North limits inside = record {
-  left = omega (arith, ints, limits.corners.left, inside.left);
-  right = omega (arith, ints, limits.corners.right, inside.right);
-  bottom = omega (arith, ints, limits.corners.bottom, inside.bottom);
-  top = omega (arith, ints, limits.corners.top, inside.top);
-}
-near_beside area m East limits inside = record {
-  left = omega (arith, ints, limits.corners.left, inside.left);
-  right = omega (arith, ints, limits.corners.right, inside.right);
-  bottom = omega (arith, ints, limits.corners.bottom, inside.bottom);
-  top = omega (arith, ints, limits.corners.top, inside.top);
-}
-near_beside area m South limits inside = record {
-  left = omega (arith, ints, limits.corners.left, inside.left);
-  right = omega (arith, ints, limits.corners.right, inside.right);
-  bottom = omega (arith, ints, limits.corners.bottom, inside.bottom);
-  top = omega (arith, ints, limits.corners.top, inside.top);
-}
-near_beside area m West limits inside = record {
-  left = omega (arith, ints, limits.corners.left, inside.left);
-  right = omega (arith, ints, limits.corners.right, inside.right);
-  bottom = omega (arith, ints, limits.corners.bottom, inside.bottom);
-  top = omega (arith, ints, limits.corners.top, inside.top);
-}
-
 -- the tile at a site of an assembly that fits
 pub Fits-tile : (sys : TileSystem) (tiles : List Place) (m : Site) (t : TypeId) → Fits sys tiles → tile_at tiles m ≡ Some t → IsType sys t × InBox sys.area m
 Fits-tile sys tiles m t fits found =

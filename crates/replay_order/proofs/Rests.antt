@@ -1,7 +1,5 @@
 -- The least site of a box with a tile that isn't listed, by the sites' numbers.
-use Rattle.std.proofs.Common.{◌≡◌, ◌<◌, ◌≤◌, ◌+◌, ◌*◌, ◌/◌, ◌%◌, ℕ, List, Option, Some, None, true, false, true≢false, is_some, sym, ap, subst, inl, inr, arith}
-use Rattle.std.proofs.lemmas.Int.{ints}
-use Rattle.std.proofs.lemmas.Nat.{div-add-mod', mul-le}
+use Rattle.std.proofs.Common.{◌≡◌, ◌<◌, ◌≤◌, ◌+◌, ℕ, List, Option, Some, None, true, false, true≢false, is_some, sym, subst, inl, inr, arith}
 use Rattle.std.proofs.lemmas.Bool.{cases_lt}
 use Rattle.atam.specs.declared.site.Site.{Site}
 use Rattle.atam.specs.declared.place.TypeId.{TypeId}
@@ -10,7 +8,7 @@ use Rattle.atam.specs.declared.area.BoxArea.{BoxArea}
 use Rattle.atam.specs.Sites.{IsBefore, width_of}
 use Rattle.atam.specs.Placements.{tile_at}
 use Rattle.assembly.specs.Cells.{cell_count, site_at}
-use Rattle.assembly.proofs.Cells.{index_of}
+use Rattle.assembly.proofs.Cells.{index_of, not_before}
 use Rattle.replay_order.specs.Inner.Replays.{IsLeftAt, IsLeastLeft}
 
 -- no site with a number below this one has a tile that isn't listed
@@ -24,33 +22,6 @@ none_more_left area tiles s n before none k below left = elim (cases_lt k n) [
       let same : k ≡ n = omega (arith, below, last) in
       none (subst (λ j. IsLeftAt tiles s (site_at area j)) same left)
 ]
-
--- a later number is no site before
-later_row : (w a b c d : ℕ) → a * w + b ≤ c * w + d → b < w → d < w → c < a → ⊥
-later_row w a b c d order b_within d_within less =
-    let more : c * w + w ≤ a * w = grind (arith, mul-le) in
-    let never : ⊥ = omega (arith, more, order, d_within) in
-    never
-
-not_before : (area : BoxArea) (i j : ℕ) → i ≤ j → 0 < width_of area → ¬ IsBefore (site_at area j) (site_at area i)
-not_before area i j order wide before =
-    let w = width_of area in
-    let at_i : i / w * w + i % w ≡ i = div-add-mod' i w in
-    let at_j : j / w * w + j % w ≡ j = div-add-mod' j w in
-    let in_i : i % w < w = omega (arith, wide) in
-    let in_j : j % w < w = omega (arith, wide) in
-    let ordered : i / w * w + i % w ≤ j / w * w + j % w = omega (arith, order, at_i, at_j) in
-    elim before [
-      | inl row ↦
-          let less : j / w < i / w = omega (arith, ints, row) in
-          later_row w (i / w) (i % w) (j / w) (j % w) ordered in_i in_j less
-      | inr column ↦
-          let same : j / w ≡ i / w = omega (arith, ints, column.0) in
-          let less : j % w < i % w = omega (arith, ints, column.1) in
-          let rows : j / w * w ≡ i / w * w = ap (λ r. r * w) same in
-          let never : ⊥ = omega (arith, rows, less, ordered) in
-          never
-    ]
 
 pub least_left-none : (area : BoxArea) (tiles s : List Place) → NoneLeftBelow area tiles s (cell_count area) → IsLeastLeft area tiles s None
 least_left-none area tiles s none m inside left =

@@ -21,13 +21,13 @@ use Rattle.atam.proofs.Opening.{pull-beside}
 use Rattle.assembly.proofs.Putting.{take_more, same_empty}
 
 -- a place of the sequence, after legal ones that stand in the grid
-module _ (sys : TileSystem) (s tiles : List Place) (n : ℕ) (p : Place) (there : slice_get s n ≡ Some p) (legal : IsLegal sys (take n s)) (same : SamePlacements (take n s) tiles) where
+module _ (sys : TileSystem) (s tiles : List Place) (n : ℕ) (p : Place) (later : length sys.seeds ≤ n) (there : slice_get s n ≡ Some p) (legal : IsLegal sys (take n s)) (same : SamePlacements (take n s) tiles) where
   -- its site is taken
   pub first_taken : (found : Option TypeId) → found ≡ tile_at tiles p.site → is_some found ≡ true → IsFirstTaken sys s n
   first_taken None at some = absurd (true≢false (sym some))
   first_taken (Some t) at some = elim (some_or_none (tile_at (take n s) p.site)) [
     | inl empty ↦ absurd (none-some t (sym (same_empty (take n s) tiles same p.site empty) ∙ sym at))
-    | inr other ↦ record { before = legal; place = p; there = there; other = other.0; taken = other.1 }
+    | inr other ↦ record { later = later; before = legal; place = p; there = there; other = other.0; taken = other.1 }
   ]
 
   module _ (seeds_distinct : HasDistinctSites sys.seeds) (distinct : HasDistinctSites tiles) where
@@ -46,7 +46,7 @@ module _ (sys : TileSystem) (s tiles : List Place) (n : ℕ) (p : Place) (there 
 
       -- the pull on its type is too weak
       pub first_weak : pull < sys.tau → IsFirstWeak sys s n pull
-      first_weak weak = record { before = legal; place = p; there = there; empty = empty_there; pulled = is ∙ pull_there; weak = weak }
+      first_weak weak = record { later = later; before = legal; place = p; there = there; empty = empty_there; pulled = is ∙ pull_there; weak = weak }
 
       -- it attaches
       pub legal_more : IsType sys p.tile → sys.tau ≤ pull → IsLegal sys (take (n + 1) s)
@@ -57,13 +57,13 @@ module _ (sys : TileSystem) (s tiles : List Place) (n : ℕ) (p : Place) (there 
           )
 
 -- a breach is none of a legal sequence
-pub taken_illegal : (sys : TileSystem) (s : List Place) (n : ℕ) → length sys.seeds ≤ n → IsFirstTaken sys s n → ¬ IsLegal sys s
-taken_illegal sys s n later taken legal =
-    none-some taken.other (sym (legal.each n taken.place later taken.there).empty ∙ taken.taken)
+pub taken_illegal : (sys : TileSystem) (s : List Place) (n : ℕ) → IsFirstTaken sys s n → ¬ IsLegal sys s
+taken_illegal sys s n taken legal =
+    none-some taken.other (sym (legal.each n taken.place taken.later taken.there).empty ∙ taken.taken)
 
-pub weak_illegal : (sys : TileSystem) (s : List Place) (n pull : ℕ) → length sys.seeds ≤ n → IsFirstWeak sys s n pull → ¬ IsLegal sys s
-weak_illegal sys s n pull later is_weak legal =
-    let held = (legal.each n is_weak.place later is_weak.there).held in
+pub weak_illegal : (sys : TileSystem) (s : List Place) (n pull : ℕ) → IsFirstWeak sys s n pull → ¬ IsLegal sys s
+weak_illegal sys s n pull is_weak legal =
+    let held = (legal.each n is_weak.place is_weak.later is_weak.there).held in
     let never : ⊥ = omega (arith, held, is_weak.weak, is_weak.pulled) in
     never
 

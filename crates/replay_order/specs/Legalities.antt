@@ -1,5 +1,5 @@
 -- Whether a sequence is legal, and the first place that breaks legality.
-use Rattle.std.specs.Prelude.{◌≡◌, ◌≢◌, ℕ, ◌<◌, List, [], length, take, Some, None, slice_get}
+use Rattle.std.specs.Prelude.{◌≡◌, ◌≢◌, ℕ, ◌<◌, ◌≤◌, List, [], length, take, Some, None, slice_get}
 use Rattle.atam.specs.declared.place.TypeId.{TypeId}
 use Rattle.atam.specs.declared.place.Place.{Place}
 use Rattle.atam.specs.Placements.{tile_at}
@@ -9,16 +9,18 @@ use Rattle.atam.specs.Growth.{IsLegal}
 use Rattle.replay_order.specs.declared.legal.Legality.{Legality}
 use Rattle.replay_order.specs.declared.legal.Legality.TheVariants.{Legal, WrongSeed, SiteTaken, TooWeak}
 
--- the places before the index are legal, and its site is theirs
+-- a place that is no seed: the places before the index are legal, and its site is theirs
 pub record IsFirstTaken (sys : TileSystem) (seq : List Place) (index : ℕ) : Type 0 where
+  pub later : length sys.seeds ≤ index
   pub before : IsLegal sys (take index seq)
   pub place : Place
   pub there : slice_get seq index ≡ Some place
   pub other : TypeId
   pub taken : tile_at (take index seq) place.site ≡ Some other
 
--- the places before the index are legal, its site is empty, and this pull is less than the temperature
+-- a place that is no seed: the places before the index are legal, its site is empty, and this pull is less than the temperature
 pub record IsFirstWeak (sys : TileSystem) (seq : List Place) (index pull : ℕ) : Type 0 where
+  pub later : length sys.seeds ≤ index
   pub before : IsLegal sys (take index seq)
   pub place : Place
   pub there : slice_get seq index ≡ Some place

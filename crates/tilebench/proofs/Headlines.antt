@@ -17,7 +17,8 @@ use Rattle.local_check.specs.declared.verdict.Verdict.{Verdict}
 use Rattle.local_check.specs.declared.verdict.Verdict.TheVariants.{Yes, NotExact, Rival, NotTerminal}
 use Rattle.local_check.proofs.Verdicts.{verdict_yes}
 use Rattle.unique_law.specs.Outcomes.{Outcome}
-use Rattle.unique_law.proofs.OneOutcome.{canonical_too, one_full_growth, one_outcome, yes_in_some_order, grows_into_outcome}
+use Rattle.atam.proofs.Canon.{canonical_too}
+use Rattle.unique_law.proofs.OneOutcome.{one_full_growth, one_outcome, yes_in_some_order, grows_into_outcome}
 use Rattle.site_table.specs.Seats.{GrownValue}
 use Rattle.tilebench.specs.Growing.{TellsGrowth}
 use Rattle.tilebench.specs.Commands.Grow.{IsGrowth, IsGrowthText, growth_text, is_unique}

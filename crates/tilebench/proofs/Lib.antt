@@ -1,7 +1,6 @@
 pub mod Endings
 pub mod Growths
 pub mod Headlines
-pub mod Marks
 pub mod Orders
 pub mod Races
 pub mod ReadingBack

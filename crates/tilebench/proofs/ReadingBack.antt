@@ -16,11 +16,10 @@ use Rattle.atam.specs.TileSystem.{TileSystem, IsValid, Glue, strength_between, s
 use Rattle.atam.specs.Assembly.{Fits, bond, glue_at, interaction, pull}
 use Rattle.atam.specs.Growth.{IsCandidate, IsLeastOpenOutside}
 use Rattle.atam.proofs.Bonds.{beside_a_tile, neighbor-opposite}
-use Rattle.atam.proofs.Boxes.{near_inside}
+use Rattle.atam.proofs.Boxes.{near_inside, near_beside}
 use Rattle.atam.proofs.Lists.{All-slice_get}
 use Rattle.atam.proofs.Placements.{tile_at-Contains}
 use Rattle.atam.proofs.Systems.{pair_strength-bound}
-use Rattle.replay_order.proofs.ReadySites.{near_beside}
 use Rattle.local_check.specs.declared.verdict.Verdict.{Verdict}
 use Rattle.local_check.specs.declared.verdict.Verdict.TheVariants.{Yes, NotExact, Rival, NotTerminal}
 use Rattle.local_check.specs.Judgement.{IsVerdict}

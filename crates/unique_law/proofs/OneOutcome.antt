@@ -1,5 +1,5 @@
 -- A locally deterministic sequence in the box leaves one outcome.
-use Rattle.std.proofs.Common.{◌≡◌, ◌≤◌, ◌↔◌, List, take, get_or, All, subst}
+use Rattle.std.proofs.Common.{◌≡◌, ◌≤◌, ◌↔◌, List, get_or, All, subst}
 use Rattle.std.proofs.lemmas.List.Elements.{All-contains, Contains-get_or}
 use Rattle.atam.specs.declared.site.Site.{Site}
 use Rattle.atam.specs.declared.place.Place.{Place}
@@ -7,11 +7,11 @@ use Rattle.atam.specs.Sites.{InBox}
 use Rattle.atam.specs.Placements.{HasDistinctSites, IsPartOf, SamePlacements}
 use Rattle.atam.specs.TileSystem.{TileSystem, IsType}
 use Rattle.atam.specs.Growth.{IsLegal, IsProducible, GrowsInto, IsClosedInBox, IsFullGrowth}
-use Rattle.atam.specs.Canonical.{IsReady, IsCanonical}
+use Rattle.atam.specs.Canonical.{IsCanonical}
 use Rattle.atam.specs.Determinism.{IsLocallyDeterministic, IsDeterministicInBox}
 use Rattle.atam.proofs.Sequences.{IsLegal-distinct}
 use Rattle.atam.proofs.Closure.{closure_of_part}
-use Rattle.atam.proofs.Canon.{canonical_unique, canonical_same, canonical_IsLegal, producible_seeded, producible_types}
+use Rattle.atam.proofs.Canon.{canonical_unique, canonical_too, canonical_same, canonical_IsLegal, producible_seeded, producible_types}
 use Rattle.atam.proofs.Open.{least_open_unique, least_open_same}
 use Rattle.atam.proofs.Existence.{canonical_exists}
 use Rattle.atam.proofs.Deciding.{least_outside_exists}
@@ -31,25 +31,6 @@ pub matched : (sys : TileSystem) (a b : List Place) → HasDistinctSites sys.see
 matched sys a b distinct ld legal i p there =
     let match = confluence sys a b distinct ld legal i p there in
     record { index = match.index; there = match.there; inputs = match.inputs }
-
-module _ (sys : TileSystem) (a b : List Place) (same : SamePlacements a b) where
-  ready_too : (listed : List Place) (p : Place) → IsReady sys a listed p → IsReady sys b listed p
-  ready_too listed p ready = record { placed = same.part p ready.placed; unlisted = ready.unlisted; held = ready.held }
-
-  ready_back : (listed : List Place) (p : Place) → IsReady sys b listed p → IsReady sys a listed p
-  ready_back listed p ready = record { placed = same.whole p ready.placed; unlisted = ready.unlisted; held = ready.held }
-
-  -- lists with the same placements have the same canonical sequence
-  pub canonical_too : (s : List Place) → IsCanonical sys a s → IsCanonical sys b s
-  canonical_too s canonical = record {
-    begins = record {
-      seeded = λ p seed. same.part p (canonical.begins.seeded p seed);
-      seeds = canonical.begins.seeds;
-      ready = λ i p later there. ready_too (take i s) p (canonical.begins.ready i p later there);
-      least = λ i p q later there ready. canonical.begins.least i p q later there (ready_back (take i s) q ready);
-    };
-    whole = λ q ready. canonical.whole q (ready_back s q ready);
-  }
 
 -- a full growth has an outcome
 pub outcome_exists : (sys : TileSystem) (tiles : List Place) → 1 ≤ sys.tau → HasDistinctSites sys.seeds → IsFullGrowth sys tiles → (o : Outcome) × IsOutcome sys tiles o

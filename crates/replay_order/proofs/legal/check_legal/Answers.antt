@@ -11,16 +11,16 @@ use Rattle.replay_order.proofs.legal.check_legal.Goals as goal
 
 pub returns-then-is_some-clause-answer : goal.returns-then-is_some-clause-answer
 returns-then-is_some-clause-answer c =
-    first_taken c.args.sys.now c.args.seq.now c.loop-index.scratch.tiles c.loop-index.index c.get-place.result c.get-place.ensures
+    first_taken c.args.sys.now c.args.seq.now c.loop-index.scratch.tiles c.loop-index.index c.get-place.result c.loop-index.invariant.seeded c.get-place.ensures
     c.loop-index.invariant.legal c.loop-index.invariant.placed c.at.result c.at.ensures.tile (sym c.is_some.ensures ∙ c.if-is_some.true)
 
 pub returns-then-is_some-clause-legal : goal.returns-then-is_some-clause-legal
 returns-then-is_some-clause-legal c =
     let taken =
-    first_taken c.args.sys.now c.args.seq.now c.loop-index.scratch.tiles c.loop-index.index c.get-place.result c.get-place.ensures
+    first_taken c.args.sys.now c.args.seq.now c.loop-index.scratch.tiles c.loop-index.index c.get-place.result c.loop-index.invariant.seeded c.get-place.ensures
     c.loop-index.invariant.legal c.loop-index.invariant.placed c.at.result c.at.ensures.tile (sym c.is_some.ensures ∙ c.if-is_some.true)
     in
-    (λ e. absurd (cc e), λ legal. absurd (taken_illegal c.args.sys.now c.args.seq.now c.loop-index.index c.loop-index.invariant.seeded taken legal))
+    (λ e. absurd (cc e), λ legal. absurd (taken_illegal c.args.sys.now c.args.seq.now c.loop-index.index taken legal))
 
 pub pull-pull-requires-clause-kind : goal.pull-pull-requires-clause-kind
 pull-pull-requires-clause-kind c =
@@ -38,7 +38,7 @@ pull-pull-requires-clause-fits c =
 
 pub returns-then-pull-tau-clause-answer : goal.returns-then-pull-tau-clause-answer
 returns-then-pull-tau-clause-answer c =
-    first_weak c.args.sys.now c.args.seq.now c.loop-index.scratch.tiles c.loop-index.index c.get-place.result c.get-place.ensures
+    first_weak c.args.sys.now c.args.seq.now c.loop-index.scratch.tiles c.loop-index.index c.get-place.result c.loop-index.invariant.seeded c.get-place.ensures
     c.loop-index.invariant.legal c.loop-index.invariant.placed c.tau-tau.ensures.valid.distinct_seeds c.at.ensures.distinct
     c.at.result c.at.ensures.tile (sym c.is_some.ensures ∙ c.if-is_some.false) c.pull-pull.result c.pull-pull.ensures.value
     (omega (arith, c.if-pull-tau.true, c.tau-tau.ensures.tau))
@@ -46,12 +46,12 @@ returns-then-pull-tau-clause-answer c =
 pub returns-then-pull-tau-clause-legal : goal.returns-then-pull-tau-clause-legal
 returns-then-pull-tau-clause-legal c =
     let is_weak =
-    first_weak c.args.sys.now c.args.seq.now c.loop-index.scratch.tiles c.loop-index.index c.get-place.result c.get-place.ensures
+    first_weak c.args.sys.now c.args.seq.now c.loop-index.scratch.tiles c.loop-index.index c.get-place.result c.loop-index.invariant.seeded c.get-place.ensures
     c.loop-index.invariant.legal c.loop-index.invariant.placed c.tau-tau.ensures.valid.distinct_seeds c.at.ensures.distinct
     c.at.result c.at.ensures.tile (sym c.is_some.ensures ∙ c.if-is_some.false) c.pull-pull.result c.pull-pull.ensures.value
     (omega (arith, c.if-pull-tau.true, c.tau-tau.ensures.tau))
     in
-    (λ e. absurd (cc e), λ legal. absurd (weak_illegal c.args.sys.now c.args.seq.now c.loop-index.index c.pull-pull.result c.loop-index.invariant.seeded is_weak legal))
+    (λ e. absurd (cc e), λ legal. absurd (weak_illegal c.args.sys.now c.args.seq.now c.loop-index.index c.pull-pull.result is_weak legal))
 
 pub put-requires-clause-inside : goal.put-requires-clause-inside
 put-requires-clause-inside c =
@@ -71,7 +71,7 @@ loop-index-preserved c =
       seeded = omega (arith, c.loop-index.invariant.seeded);
       within = omega (arith, c.loop-index-test.true, c.len-index-end.ensures);
       legal =
-          legal_more c.args.sys.now c.args.seq.now c.loop-index.scratch.tiles c.loop-index.index c.get-place.result c.get-place.ensures
+          legal_more c.args.sys.now c.args.seq.now c.loop-index.scratch.tiles c.loop-index.index c.get-place.result c.loop-index.invariant.seeded c.get-place.ensures
           c.loop-index.invariant.legal c.loop-index.invariant.placed c.tau-tau.ensures.valid.distinct_seeds c.at.ensures.distinct
           c.at.result c.at.ensures.tile (sym c.is_some.ensures ∙ c.if-is_some.false) c.pull-pull.result c.pull-pull.ensures.value kind
           (omega (arith, c.if-pull-tau.false, c.tau-tau.ensures.tau));

@@ -2,7 +2,7 @@ use Rattle.std.proofs.Common.{refl}
 use Rattle.atam.proofs.Opening.{Fits-part}
 use Rattle.grow_core.specs.Core.{places}
 use Rattle.atam.proofs.Tiles.{same_back}
-use Rattle.unique_law.proofs.OneOutcome.{canonical_too}
+use Rattle.atam.proofs.Canon.{canonical_too}
 use Rattle.tilebench.proofs.Scheduling.{core_fits}
 use Rattle.tilebench.proofs.commands.schedule.schedule_of.Goals as goal
 
