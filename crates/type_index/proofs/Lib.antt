@@ -1,0 +1,4 @@
+pub mod Bearers
+pub mod Cursors
+pub mod Walks
+pub mod Holding
