@@ -77,7 +77,7 @@ module _ (sys : TileSystem) (d : Side) (valid : IsValid sys) where
       let Next : ℕ → Type 0 = λ n. IsNextBearer sys d g (index + 1) n in
       let At : ℕ → Type 0 = λ n. IsNextBearer sys d g (n + 1) (slice_index links.next n) in
       let found : IsNextBearer sys d g (index + 1) (slice_index links.next index) =
-          subst At at (lists.next (record { 0 = cursor.at }) g zero-le below meets.same)
+      subst At at (lists.next (record { 0 = cursor.at }) g zero-le below meets.same)
       in
       cursor_next g (index + 1) past (strength ∙ meets.strength ∙ between_same sys g) (omega (arith, is.bound, strength)) (subst Next (sym next) found)
 

@@ -12,7 +12,7 @@ use Rattle.attach_rule.specs.Facing.{facing_pull}
 use Rattle.type_index.specs.declared.cursor.Cursor.{Cursor}
 use Rattle.type_index.specs.declared.cursor.Walk.{Walk}
 use Rattle.type_index.specs.Inner.Cursors.{IsCursor, IsWalk, strength_at, least_of, pull_at}
-use Rattle.type_index.specs.Inner.HeldTypes.{IsHeld, NextHeld, IsNextHeld}
+use Rattle.type_index.specs.HeldTypes.{IsHeld, NextHeld, IsNextHeld}
 
 strength_here : (cursor : Cursor) (index : ℕ) → cursor.at ≡ index → strength_at cursor index ≡ cursor.strength
 strength_here cursor index at = grind (arith, tests)

@@ -4,7 +4,7 @@ ghost use Rattle.atam.specs.TileSystem.{IsValid};
 ghost use Rattle.attach_rule.specs.declared.facing.FacingGlues.{FacingGlues};
 ghost use Rattle.type_index.specs.Indexes.{IsIndexOf};
 ghost use Rattle.type_index.specs.Inner.Cursors.{IsWalk};
-ghost use Rattle.type_index.specs.Inner.HeldTypes.{NextHeld};
+ghost use Rattle.type_index.specs.HeldTypes.{NextHeld};
 
 use crate::cursor::Walk;
 use crate::side_lists::SideLists;

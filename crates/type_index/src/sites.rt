@@ -27,13 +27,7 @@ impl TypeFinder for TypeIndex {
 impl TypeIndex {
     /// Lists all types that attach at the site, and tries those alone that have one of the glues
     /// that face it.
-    pub fn candidates<P: Placed>(
-        &self,
-        sys: &System,
-        placed: &P,
-        site: Site,
-        into: &mut TypeList,
-    )
+    pub fn candidates<P: Placed>(&self, sys: &System, placed: &P, site: Site, into: &mut TypeList)
         requires index { IsIndexOf sys.now self.now }
         requires near { IsNearSite site }
         requires fits { Fits sys.now (P.placements placed.now) }

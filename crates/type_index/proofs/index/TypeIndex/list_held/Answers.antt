@@ -1,6 +1,6 @@
 use Rattle.std.proofs.Common.{◌≡◌, ◌++◌, ◌∷◌, [], List, arith, ◌∙◌, refl, subst, sym}
 use Rattle.atam.specs.declared.place.TypeId.{TypeId}
-use Rattle.type_index.specs.Inner.HeldTypes.{AreHeldBefore}
+use Rattle.type_index.specs.HeldTypes.{AreHeldBefore}
 use Rattle.type_index.proofs.Holding.{held_none, held_more, held_all}
 use Rattle.type_index.proofs.index.TypeIndex.list_held.Goals as goal
 

@@ -25,7 +25,7 @@ pub loop-index-smaller : goal.loop-index-smaller
 loop-index-smaller c =
     let at = c.loop-index.invariant in
     let walk : IsWalk c.args.sys.now c.args.glues.now c.past.result =
-        c.past.ensures.walk c.args.glues.now (walk_at_least c.args.sys.now c.args.glues.now c.loop-index.walk at.walk c.loop-index.index at.least)
+    c.past.ensures.walk c.args.glues.now (walk_at_least c.args.sys.now c.args.glues.now c.loop-index.walk at.walk c.loop-index.index at.least)
     in
     omega (
       arith,

@@ -23,7 +23,7 @@ returns c d lists =
     let within : g.0 < length c.self.inside.first.items = omega (arith, c.requires, known, ap length first_is) in
     let Next : ℕ → Type 0 = λ n. IsNextBearer sys d g 0 n in
     let read : c.index.result.now ≡ get_or c.args.self.now.first g.0 0 =
-        c.index.ensures ∙ get_or_default_zero c.self.inside.first.items g.0 c.index.result.now within ∙ ap (λ xs. get_or xs g.0 0) first_is
+    c.index.ensures ∙ get_or_default_zero c.self.inside.first.items g.0 c.index.result.now within ∙ ap (λ xs. get_or xs g.0 0) first_is
     in
     rw c.in-Some.is (
     cursor_next sys d c.tau-valid.ensures.valid g 0 _ c.strength.ensures.strength c.strength.ensures.bound (subst Next (sym read) (lists.first g known))
