@@ -1,17 +1,16 @@
 -- Cursors along the list of the types that have a glue on a side.
-use Rattle.std.proofs.Common.{◌≡◌, ◌≢◌, ℕ, ◌+◌, ◌<◌, ◌≤◌, [], List, length, sym, refl, subst, ap, ◌∙◌, inl, inr, arith, tests, Option, Some, None, IfSome, zero-le}
+use Rattle.std.proofs.Common.{◌≡◌, ◌≢◌, ℕ, ◌+◌, ◌<◌, ◌≤◌, [], length, sym, refl, subst, ap, ◌∙◌, arith, tests, Option, Some, None, IfSome, zero-le}
 use Rattle.std.specs.Prelude.{slice_index}
 use Rattle.std.proofs.lemmas.Option.{none-some}
 use Rattle.atam.specs.declared.limits.TheConstants.{MOST_STRENGTH}
 use Rattle.atam.specs.declared.site.Side.{Side}
 use Rattle.atam.specs.declared.place.GlueId.{GlueId}
-use Rattle.atam.specs.declared.place.TypeId.{TypeId}
-use Rattle.atam.specs.TileSystem.{TileSystem, IsValid, IsType, side_glue, strength_of, strength_between}
+use Rattle.atam.specs.TileSystem.{TileSystem, IsValid, side_glue, strength_of, strength_between}
 use Rattle.atam.specs.Assembly.{interaction}
 use Rattle.atam.proofs.Bonds.{interaction-none}
 use Rattle.atam.proofs.Systems.{side_glue-in_range}
 use Rattle.type_index.specs.declared.cursor.Cursor.{Cursor}
-use Rattle.type_index.specs.Indexes.{Bears, IsNextBearer, SideLinks, AreListsOf}
+use Rattle.type_index.specs.Indexes.{IsNextBearer, SideLinks, AreListsOf}
 use Rattle.type_index.specs.Inner.Cursors.{IsCursor}
 
 -- a glue has its own strength with itself, and none with another one

@@ -1,5 +1,5 @@
 -- Types that are held, as lists and as the first ones.
-use Rattle.std.proofs.Common.{◌≡◌, ◌≤◌, ◌<◌, ◌++◌, ◌∙◌, ℕ, refl, sym, ap, subst, inl, inr, arith, List, [], ◌∷◌, length, Option, Some, None, Contains, zero-le}
+use Rattle.std.proofs.Common.{◌≡◌, ◌≤◌, ◌<◌, ◌++◌, ◌∙◌, ℕ, refl, sym, ap, subst, inl, inr, arith, List, [], ◌∷◌, Option, None, Contains, zero-le}
 use Rattle.std.proofs.lemmas.Bool.{cases_lt}
 use Rattle.std.proofs.lemmas.List.{length-append}
 use Rattle.std.proofs.lemmas.List.Elements.{All-nil, All-push, Contains-append_left, Contains-append_right}

@@ -1,5 +1,5 @@
 -- Walks along the types that interact with the glues that face a site.
-use Rattle.std.proofs.Common.{◌≡◌, ◌≢◌, ℕ, ◌+◌, ◌<◌, ◌≤◌, ◌==◌, if◌then◌else◌, min, length, sym, refl, subst, ap, ◌∙◌, inl, inr, arith, tests, Option, zero-le}
+use Rattle.std.proofs.Common.{◌≡◌, ◌≢◌, ℕ, ◌+◌, ◌<◌, ◌≤◌, length, sym, subst, ap, ◌∙◌, inl, inr, arith, tests, Option}
 use Rattle.std.proofs.lemmas.Bool.{cases_eq, cases_lt}
 use Rattle.atam.specs.declared.site.Side.{Side}
 use Rattle.atam.specs.declared.site.Side.TheVariants.{North, East, South, West}
@@ -12,7 +12,7 @@ use Rattle.attach_rule.specs.Facing.{facing_pull}
 use Rattle.type_index.specs.declared.cursor.Cursor.{Cursor}
 use Rattle.type_index.specs.declared.cursor.Walk.{Walk}
 use Rattle.type_index.specs.Inner.Cursors.{IsCursor, IsWalk, strength_at, least_of, pull_at}
-use Rattle.type_index.specs.HeldTypes.{IsHeld, NextHeld, IsNextHeld}
+use Rattle.type_index.specs.HeldTypes.{IsHeld, IsNextHeld}
 
 strength_here : (cursor : Cursor) (index : ℕ) → cursor.at ≡ index → strength_at cursor index ≡ cursor.strength
 strength_here cursor index at = grind (arith, tests)

@@ -1,5 +1,5 @@
 -- What is found at a site: the number of the types that attach there, the first and the second of them.
-use Rattle.std.specs.Prelude.{◌≡◌, ℕ, ◌+◌, List, All, length, slice_get}
+use Rattle.std.specs.Prelude.{◌≡◌, List, All, length, slice_get}
 use Rattle.atam.specs.declared.site.Site.{Site}
 use Rattle.atam.specs.declared.place.TypeId.{TypeId}
 use Rattle.atam.specs.declared.place.Place.{Place}

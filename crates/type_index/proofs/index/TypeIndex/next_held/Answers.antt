@@ -1,4 +1,4 @@
-use Rattle.std.proofs.Common.{◌≡◌, ◌<◌, ◌≤◌, ◌+◌, arith, length}
+use Rattle.std.proofs.Common.{arith}
 use Rattle.atam.specs.declared.place.TypeId.{TypeId}
 use Rattle.atam.specs.TileSystem.{IsType}
 use Rattle.type_index.specs.Inner.Cursors.{IsWalk}

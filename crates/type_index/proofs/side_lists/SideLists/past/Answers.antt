@@ -1,4 +1,4 @@
-use Rattle.std.proofs.Common.{◌≡◌, ◌<◌, ◌∙◌, ap, arith, get_or, length, refl}
+use Rattle.std.proofs.Common.{◌<◌, ◌∙◌, ap, arith, get_or, length, refl}
 use Rattle.std.proofs.lemmas.Grind.{get_or_default_zero}
 use Rattle.type_index.proofs.Cursors.{cursor_past, cursor_stays}
 use Rattle.type_index.proofs.side_lists.SideLists.past.Goals as goal

@@ -1,6 +1,6 @@
 use Rattle.std.proofs.Common.{◌≡◌, ◌<◌, ◌∙◌, ℕ, ap, arith, get_or, length, subst, sym, refl}
 use Rattle.std.proofs.lemmas.Grind.{get_or_default_zero}
-use Rattle.std.proofs.lemmas.Option.{none-some, same_Some}
+use Rattle.std.proofs.lemmas.Option.{same_Some}
 use Rattle.type_index.specs.Indexes.{IsNextBearer}
 use Rattle.type_index.proofs.Cursors.{cursor_next, cursor_none}
 use Rattle.type_index.proofs.side_lists.SideLists.start.Goals as goal
