@@ -1,5 +1,5 @@
 -- What holds a place, by its input sides, and what holds a rival, by the sides that aren't output sides.
-use Rattle.std.proofs.Common.{◌≡◌, ◌≢◌, ◌<◌, ◌≤◌, ◌+◌, ℕ, Bool, true, false, not, ◌&&◌, ◌||◌, nat_lt, List, length, take, Some, None, slice_get, refl, sym, ◌∙◌, ap, subst, inl, inr, arith}
+use Rattle.std.proofs.Common.{◌≡◌, ◌≢◌, ◌≤◌, ◌+◌, ℕ, Bool, true, false, not, ◌&&◌, ◌||◌, nat_lt, if◌then◌else◌, List, length, take, Option, Some, None, slice_get, refl, sym, ◌∙◌, ap, subst, inl, inr, arith}
 use Rattle.std.specs.List.{list_any}
 use Rattle.std.proofs.Math.Seq.{take-length}
 use Rattle.std.proofs.lemmas.Int.{ints}
@@ -9,17 +9,18 @@ use Rattle.std.proofs.lemmas.Option.{same_Some, slice_get_within}
 use Rattle.atam.specs.declared.site.Side.{Side}
 use Rattle.atam.specs.declared.site.Side.TheVariants.{North, East, South, West}
 use Rattle.atam.specs.declared.site.Site.{Site}
+use Rattle.atam.specs.declared.place.GlueId.{GlueId}
 use Rattle.atam.specs.declared.place.TypeId.{TypeId}
 use Rattle.atam.specs.declared.place.Place.{Place}
-use Rattle.atam.specs.Sites.{neighbor, directions, same_site}
+use Rattle.atam.specs.Sites.{neighbor, opposite, directions, same_site}
 use Rattle.atam.specs.Placements.{HasDistinctSites, SamePlacements, tile_at}
-use Rattle.atam.specs.TileSystem.{TileSystem, IsType}
-use Rattle.atam.specs.Assembly.{bond, pull}
+use Rattle.atam.specs.TileSystem.{TileSystem, side_glue}
+use Rattle.atam.specs.Assembly.{interaction, glue_at, bond, pull}
 use Rattle.atam.specs.Growth.{IsLegal}
 use Rattle.atam.specs.Determinism.{is_input, is_output, without_outputs, IsExact, IsRival, HasExactInputs, HasNoRivals}
 use Rattle.atam.proofs.Boxes.{same_site_tells, same_site-refl}
 use Rattle.atam.proofs.Lists.{some_or_none}
-use Rattle.atam.proofs.Bonds.{bond_is, bond-none}
+use Rattle.atam.proofs.Bonds.{bond_is, bond-none, interaction-none}
 use Rattle.atam.proofs.Placements.{Extends, Extends-take, tile_at-filter, tile_at-filtered}
 use Rattle.atam.proofs.Sequences.{IsLegal-distinct}
 use Rattle.atam.proofs.Confluence.{is_input-later}
@@ -27,7 +28,11 @@ use Rattle.atam.proofs.Opening.{bond-beside}
 use Rattle.atam.proofs.Tiles.{SameTiles, SameTiles-from}
 use Rattle.local_check.specs.declared.side_set.SideSet.{SideSet}
 use Rattle.local_check.specs.SideSets.{has}
-use Rattle.local_check.specs.Inner.Sides.{bond_if, pull_on}
+use Rattle.attach_rule.specs.declared.facing.FacingGlues.{FacingGlues}
+use Rattle.attach_rule.specs.Facing.{FacesSite, facing_pull}
+use Rattle.type_index.specs.HeldTypes.{IsHeld, FirstHeldBut}
+use Rattle.local_check.specs.Inner.Sides.{bond_if, pull_on, glues_on}
+use Rattle.local_check.specs.Inner.FirstRivals.{IsFirstRivalHere}
 use Rattle.local_check.specs.Judgement.{AllExactBelow, NoRivalBelow}
 use Rattle.local_check.proofs.Sides.{apart}
 
@@ -85,6 +90,25 @@ bond_part sys part whole m t d extends = elim (some_or_none (tile_at part (neigh
       in
       counted (bond sys part m t d) ∙ ap (bond_if (nat_lt 0 (bond sys part m t d))) both
 ]
+
+-- the pull by some sides is that of the glues that face them alone
+facing_on : (sys : TileSystem) (own : Option GlueId) (glue : Option GlueId) (on : Bool) → interaction sys own (if on then glue else None) ≡ bond_if on (interaction sys own glue)
+facing_on sys own glue true = refl
+facing_on sys own glue false = interaction-none sys own
+
+facing_pull-on : (sys : TileSystem) (tiles : List Place) (m : Site) (sides : SideSet) (glues : FacingGlues) → FacesSite sys tiles m glues → (t : TypeId) →
+    facing_pull sys (glues_on sides glues) t ≡ pull_on sys tiles m t sides
+unfolding bond
+facing_pull-on sys tiles m sides glues faces t =
+    let side : (d : Side) (on : Bool) (glue : Option GlueId) → glue ≡ glue_at sys tiles (neighbor m d) (opposite d) →
+    interaction sys (side_glue sys t d) (if on then glue else None) ≡ bond_if on (bond sys tiles m t d) =
+    λ d on glue is. facing_on sys (side_glue sys t d) glue on ∙ ap (λ g. bond_if on (interaction sys (side_glue sys t d) g)) is
+    in
+    let north = side North sides.north glues.north faces.north in
+    let east = side East sides.east glues.east faces.east in
+    let south = side South sides.south glues.south faces.south in
+    let west = side West sides.west glues.west faces.west in
+    λ k. north k + east k + south k + west k
 
 -- a pull is that by some sides, if each bond is
 pull_by : (sys : TileSystem) (part whole : List Place) (m : Site) (t : TypeId) (sides : SideSet) →
@@ -190,19 +214,28 @@ module _ (sys : TileSystem) (s tiles : List Place) (distinct : HasDistinctSites 
       pub pull_kept : pull sys (without_outputs sys s i p.site) p.site t ≡ pull_on sys tiles p.site t sides
       pull_kept = pull_by sys rest tiles p.site t sides (λ d. bond_kept t d ∙ ap (λ b. bond_if b (bond sys tiles p.site t d)) (sym (are d)))
 
-      pub rival_from : t.0 ≢ p.tile.0 → IsType sys t → sys.tau ≤ pull_on sys tiles p.site t sides → IsRival sys s i p t
-      rival_from other kind held =
-          let Held : ℕ → Type 0 = λ n. sys.tau ≤ n in
+    -- the first type that the glues on the sides that are kept hold, other than that of the place, is its first rival
+    module _ (sides : SideSet) (are : (d : Side) → has sides d ≡ not (is_output sys s i d)) (glues : FacingGlues) (faces : FacesSite sys tiles p.site glues) where
+      pull_facing : (t : TypeId) → pull sys (without_outputs sys s i p.site) p.site t ≡ facing_pull sys (glues_on sides glues) t
+      pull_facing t = pull_kept sides are t ∙ sym (facing_pull-on sys tiles p.site sides glues faces t)
+
+      held_rival : (t : TypeId) → t ≢ p.tile → IsHeld sys (glues_on sides glues) t → IsRival sys s i p t
+      held_rival t other held =
+          let same = pull_facing t in
           record {
-            other = λ same. other (ap (λ u. u.0) same);
-            grows = record { kind = kind; attaches = record { empty = gone_here; held = subst Held (sym pull_kept) held } };
+            other = other;
+            grows = record { kind = held.kind; attaches = record { empty = gone_here; held = omega (arith, same, held.held) } };
           }
 
-      pub no_rival_same : t.0 ≡ p.tile.0 → ¬ IsRival sys s i p t
-      no_rival_same one rival = rival.other (λ k. record { 0 = one k })
+      rival_held : (t : TypeId) → IsRival sys s i p t → IsHeld sys (glues_on sides glues) t
+      rival_held t rival = let same = pull_facing t in record { kind = rival.grows.kind; held = omega (arith, same, rival.grows.attaches.held) }
 
-      pub no_rival_weak : pull_on sys tiles p.site t sides < sys.tau → ¬ IsRival sys s i p t
-      no_rival_weak weak rival = let held = rival.grows.attaches.held in let never : ⊥ = omega (arith, held, weak, pull_kept) in never
+      pub first_rival : (found : Option TypeId) → FirstHeldBut sys (glues_on sides glues) p.tile found → IsFirstRivalHere sys s i p found
+      first_rival None none = λ t rival. rival.other (none t (rival_held t rival))
+      first_rival (Some t) first = record {
+        rival = held_rival t first.other first.holds;
+        least = λ u rival. first.least u (rival_held u rival) rival.other;
+      }
 
 -- one index more
 module _ (sys : TileSystem) (s : List Place) (n : ℕ) (p : Place) (there : slice_get s n ≡ Some p) where

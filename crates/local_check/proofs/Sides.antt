@@ -21,6 +21,7 @@ use Rattle.atam.proofs.Placements.{Extends-take, empty_in_part, index_at-none, i
 use Rattle.atam.proofs.Sequences.{IsLegal-empty, IsLegal-tile_at, IsLegal-listed, IsLegal-distinct}
 use Rattle.atam.proofs.Confluence.{is_input-seed, is_input-later}
 use Rattle.atam.proofs.SameVerdict.{is_output-some, is_output-none}
+use Rattle.type_index.specs.Indexes.{TypeLists, IsIndexOf}
 use Rattle.local_check.specs.declared.side_set.SideSet.{SideSet}
 use Rattle.local_check.specs.SideSets.{has, has_at, AreSidesOf}
 use Rattle.local_check.specs.Inner.Sides.{bound_sides, difference, AreEarlierAt, AreOutputsAt, AreEarlierSides, AreOutputSides}
@@ -203,8 +204,8 @@ has_at-some sets i x d there = rw there refl
 -- the table of a sequence
 module _ (sys : TileSystem) (s tiles : List Place) (earlier outputs : List SideSet) (distinct : HasDistinctSites sys.seeds) (legal : IsLegal sys s) where
   pub table : AreEarlierSides sys s earlier → AreOutputSides sys s outputs → SamePlacements s tiles → (seeds : ℕ) → seeds ≡ length sys.seeds →
-      AreSidesOf sys s (record { tiles = tiles; seeds = seeds; earlier = earlier; outputs = outputs })
-  table are_earlier are_outputs same seeds is_count = record {
+      (index : TypeLists) → IsIndexOf sys index → AreSidesOf sys s (record { tiles = tiles; seeds = seeds; earlier = earlier; outputs = outputs; index = index })
+  table are_earlier are_outputs same seeds is_count index is_index = record {
     same = same;
     count = are_outputs.count;
     inputs = λ i d within.
@@ -217,4 +218,5 @@ module _ (sys : TileSystem) (s tiles : List Place) (earlier outputs : List SideS
     outputs = λ i d within.
         let x = slice_get-some outputs i (omega (arith, within, are_outputs.count)) in
         has_at-some outputs i x.0 d x.1 ∙ are_outputs.each i x.0 x.1 d;
+    index = is_index;
   }

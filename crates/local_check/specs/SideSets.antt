@@ -7,6 +7,7 @@ use Rattle.atam.specs.declared.place.Place.{Place}
 use Rattle.atam.specs.Placements.{SamePlacements}
 use Rattle.atam.specs.TileSystem.{TileSystem}
 use Rattle.atam.specs.Determinism.{is_input, is_output}
+use Rattle.type_index.specs.Indexes.{TypeLists, IsIndexOf}
 use Rattle.local_check.specs.declared.side_set.SideSet.{SideSet}
 
 -- whether a side is in the set
@@ -20,12 +21,13 @@ has sides West = sides.west
 abbrev pub has_at : List SideSet → ℕ → Side → Bool
 has_at sets i d = option_map_or (λ sides. has sides d) (slice_get sets i) false
 
--- the tiles of a sequence, the number of seeds, for each place the sides that interact with the seeds or with an earlier place, and its output sides
+-- the tiles of a sequence, the number of seeds, for each place the sides that interact with the seeds or with an earlier place, and its output sides; and an index of types
 pub record SideTable : Type 0 where
   pub tiles : List Place
   pub seeds : ℕ
   pub earlier : List SideSet
   pub outputs : List SideSet
+  pub index : TypeLists
 
 -- whether a side of the place with this index is an input side, and whether it is an output side
 abbrev pub input_at : SideTable → ℕ → Side → Bool
@@ -40,3 +42,4 @@ pub record AreSidesOf (sys : TileSystem) (s : List Place) (sides : SideTable) : 
   pub count : length sides.outputs ≡ length s
   pub inputs : (i : ℕ) (d : Side) → i < length s → input_at sides i d ≡ is_input sys s i d
   pub outputs : (i : ℕ) (d : Side) → i < length s → output_at sides i d ≡ is_output sys s i d
+  pub index : IsIndexOf sys sides.index

@@ -11,12 +11,13 @@ ghost use Rattle.local_check.specs.Inner.FirstRivals.{IsFirstRivalHere};
 use crate::side_set::pull_on;
 use crate::{SideSets, Verdict};
 use assembly::Sequence;
-use attach_rule::least_open;
+use attach_rule::glues_facing;
 use tile_system::{Site, System, TypeId};
 
 /// The verdict on a legal sequence with its sides: the first condition that fails, at the first
 /// place of the sequence where it fails, or at the least open site. It takes no memory. Its time
-/// grows with the number of places times that of types, and with the number of sites of the box.
+/// grows with the number of places, for each with that of the types that have one of the glues that
+/// face it, and with the number of sites of the box.
 pub fn judge(sys: &System, seq: &Sequence, sides: &SideSets) -> Verdict
     requires legal { IsLegal sys.now seq.now }
     requires fits { Fits sys.now seq.now }
@@ -29,7 +30,7 @@ pub fn judge(sys: &System, seq: &Sequence, sides: &SideSets) -> Verdict
     if let Some((site, tile)) = first_rival(sys, seq, sides) {
         return Verdict::Rival { site, tile };
     }
-    match least_open(sys, sides) {
+    match sides.index().least_open(sys, sides) {
         Some((site, tile)) => Verdict::NotTerminal { site, tile },
         None => Verdict::Yes,
     }
@@ -82,14 +83,9 @@ fn rival(sys: &System, seq: &Sequence, sides: &SideSets, index: usize) -> Option
     ensures { (p : Place) → slice_get seq.now index ≡ Some p →
         IsFirstRivalHere sys.now seq.now index p result }
 {
-    let tau = sys.tau();
+    let _valid = sys.tau();
     let place = seq.get(index);
-    let kept = sides.kept_at(index);
-    for number in 0..sys.type_count() {
-        let other = TypeId(number);
-        if number != place.tile.0 && pull_on(sys, sides, place.site, other, kept) >= tau {
-            return Some(other);
-        }
-    }
-    None
+    let facing = glues_facing(sys, sides, place.site);
+    let kept = sides.kept_at(index).glues_on(&facing);
+    sides.index().first_held_but(sys, &kept, place.tile)
 }

@@ -5,9 +5,9 @@ ghost use Rattle.atam.specs.Sites.{IsNearSite};
 ghost use Rattle.atam.specs.TileSystem.{IsType};
 ghost use Rattle.atam.specs.Assembly.{Fits};
 ghost use Rattle.local_check.specs.SideSets.{has};
-ghost use Rattle.local_check.specs.Inner.Sides.{bound_sides, difference, complement, pull_on, bond_if};
+ghost use Rattle.local_check.specs.Inner.Sides.{bound_sides, difference, complement, pull_on, bond_if, glues_on};
 
-use attach_rule::bond;
+use attach_rule::{FacingGlues, bond};
 use tile_system::{Place, Placed, Side, Site, System, TypeId};
 
 // The sides of a tile that something holds of.
@@ -48,6 +48,18 @@ impl SideSet {
             east: !self.east,
             south: !self.south,
             west: !self.west,
+        }
+    }
+
+    // The glues that face these sides alone.
+    pub(crate) fn glues_on(self, glues: &FacingGlues) -> FacingGlues
+        ensures { result ≡ glues_on self glues.now }
+    {
+        FacingGlues {
+            north: if self.north { glues.north } else { None },
+            east: if self.east { glues.east } else { None },
+            south: if self.south { glues.south } else { None },
+            west: if self.west { glues.west } else { None },
         }
     }
 

@@ -13,14 +13,17 @@ use assembly::{Grid, Sequence, put_seeds};
 use std::alloc::Global;
 use std::marker::Model;
 use tile_system::{NoMemory, Place, Placed, Side, Site, System, TypeId};
+use type_index::TypeIndex;
 
-/// The input and output sides of each place of a sequence, and a grid of its places.
+/// The input and output sides of each place of a sequence, a grid of its places, and an index of the
+/// system's types.
 #[derive(Drop)]
 pub struct SideSets {
     grid: Grid,
     seed_count: usize,
     earlier: Vec<SideSet>,
     outputs: Vec<SideSet>,
+    index: TypeIndex,
 }
 
 impl Model for SideSets {
@@ -34,6 +37,7 @@ impl Model for SideSets {
       seeds = s.seed_count;
       earlier = s.earlier.items;
       outputs = s.outputs.items;
+      index = s.index;
     } };
 
     ghost invariant = { λ s. length s.earlier.items ≡ length s.outputs.items };
@@ -68,6 +72,13 @@ impl SideSets {
         }
     }
 
+    // The index of the system's types.
+    pub(crate) fn index(&self) -> &TypeIndex
+        ensures { result.now ≡ self.now.index }
+    {
+        &self.index
+    }
+
     // The sides of a place that are no output sides.
     pub(crate) fn kept_at(&self, i: usize) -> SideSet
         requires { i < length self.now.outputs }
@@ -85,8 +96,8 @@ impl Placed for SideSets {
     }
 }
 
-/// The sides of the places of a legal sequence, in memory for a grid over the box and for the
-/// sequence. Its time grows with the number of places and with the number of sites of the box.
+/// The sides of the places of a legal sequence, in memory for a grid over the box, for the sequence
+/// and for an index of the types. Its time grows with the number of places and with the number of sites of the box.
 pub fn inputs(alloc: Global, sys: &System, seq: &Sequence) -> Result<SideSets, NoMemory>
     requires legal { IsLegal sys.now seq.now }
     requires fits { Fits sys.now seq.now }
@@ -96,11 +107,13 @@ pub fn inputs(alloc: Global, sys: &System, seq: &Sequence) -> Result<SideSets, N
     put_seeds(sys, &mut grid);
     let earlier = earlier_sides(alloc, sys, seq, &mut grid)?;
     let outputs = output_sides(alloc, sys, seq, &grid, &earlier)?;
+    let index = TypeIndex::build(alloc, sys)?;
     Ok(SideSets {
         grid,
         seed_count: sys.seeds().len(),
         earlier,
         outputs,
+        index,
     })
 }
 

@@ -1,5 +1,5 @@
 -- Sides that interact with the tiles beside them, and the pull by some sides.
-use Rattle.std.specs.Prelude.{◌≡◌, ℕ, ◌+◌, Bool, not, ◌&&◌, nat_lt, if◌then◌else◌, List, length, slice_get, take, max, Some}
+use Rattle.std.specs.Prelude.{◌≡◌, ℕ, ◌+◌, Bool, not, ◌&&◌, nat_lt, if◌then◌else◌, List, length, slice_get, take, max, Some, None}
 use Rattle.atam.specs.declared.site.Side.{Side}
 use Rattle.atam.specs.declared.site.Side.TheVariants.{North, East, South, West}
 use Rattle.atam.specs.declared.site.Site.{Site}
@@ -8,6 +8,7 @@ use Rattle.atam.specs.declared.place.Place.{Place}
 use Rattle.atam.specs.TileSystem.{TileSystem}
 use Rattle.atam.specs.Assembly.{bond}
 use Rattle.atam.specs.Determinism.{is_output}
+use Rattle.attach_rule.specs.declared.facing.FacingGlues.{FacingGlues}
 use Rattle.local_check.specs.declared.side_set.SideSet.{SideSet}
 use Rattle.local_check.specs.SideSets.{has}
 
@@ -35,6 +36,15 @@ abbrev pub pull_on : TileSystem → List Place → Site → TypeId → SideSet �
 pull_on sys tiles m t sides =
     bond_if sides.north (bond sys tiles m t North) + bond_if sides.east (bond sys tiles m t East)
     + bond_if sides.south (bond sys tiles m t South) + bond_if sides.west (bond sys tiles m t West)
+
+-- the glues that face these sides alone
+abbrev pub glues_on : SideSet → FacingGlues → FacingGlues
+glues_on sides glues = record {
+  north = if sides.north then glues.north else None;
+  east = if sides.east then glues.east else None;
+  south = if sides.south then glues.south else None;
+  west = if sides.west then glues.west else None;
+}
 
 -- each set has the sides that interact with the seeds or with an earlier place
 abbrev pub AreEarlierAt : TileSystem → List Place → List SideSet → Type 0

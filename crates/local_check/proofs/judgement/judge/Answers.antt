@@ -4,8 +4,8 @@ use Rattle.local_check.proofs.Judging.{exact_all, no_rival_all, one_map}
 use Rattle.atam.proofs.Open.{least_open_same}
 use Rattle.local_check.proofs.judgement.judge.Goals as goal
 
-pub least_open-requires : goal.least_open-requires
-least_open-requires c = Fits-part c.args.sys.now c.args.sides.now.tiles c.args.seq.now c.requires.sides.same.whole c.requires.fits
+pub least_open-requires-clause-fits : goal.least_open-requires-clause-fits
+least_open-requires-clause-fits c = Fits-part c.args.sys.now c.args.sides.now.tiles c.args.seq.now c.requires.sides.same.whole c.requires.fits
 
 pub returns-in-Some-least_open : goal.returns-in-Some-least_open
 returns-in-Some-least_open c =

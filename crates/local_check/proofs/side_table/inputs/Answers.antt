@@ -6,4 +6,4 @@ pub returns : goal.returns
 returns c =
     table c.args.sys.now c.args.seq.now c.earlier_sides.new.grid.tiles c.in_ok-earlier.earlier.items c.in_ok-outputs.outputs.items
     c.area.ensures.valid.distinct_seeds c.requires.legal c.in_ok-earlier.ensures.sides c.in_ok-outputs.ensures c.in_ok-earlier.ensures.placements
-    (length c.seeds.result.now) (ap length c.seeds.ensures.seeds)
+    (length c.seeds.result.now) (ap length c.seeds.ensures.seeds) c.in_ok-index.index c.in_ok-index.ensures
