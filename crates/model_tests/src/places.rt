@@ -43,7 +43,7 @@ pub fn grid_of(alloc: Global, sys: &System, spots: &[Spot]) -> Result<Grid, NoMe
 }
 
 // Puts a place where it fits and its site is free.
-fn put_fitting(sys: &System, grid: &mut Grid, spot: Spot)
+pub fn put_fitting(sys: &System, grid: &mut Grid, spot: Spot)
     requires area { grid.old.area ≡ sys.now.area }
     requires fits { Fits sys.now grid.old.tiles }
     ensures area { grid.new.area ≡ sys.now.area }

@@ -1,0 +1,5 @@
+pub mod Bearers
+pub mod Cursors
+pub mod Walks
+pub mod Holding
+pub mod Seconds

@@ -1,0 +1,5 @@
+pub mod Indexes
+pub mod Others
+pub mod HeldTypes
+pub mod Findings
+pub mod Inner

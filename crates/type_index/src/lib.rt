@@ -1,0 +1,14 @@
+//! The types of a system by the glue on each side, and what attaches at a site by them.
+#![tactic(auto)]
+
+mod cache;
+mod cursor;
+mod found;
+mod held;
+mod index;
+mod side_lists;
+mod sites;
+
+pub use cache::FacingCache;
+pub use found::Found;
+pub use index::TypeIndex;
