@@ -1,7 +1,6 @@
 -- One look at a site, and the lists of sites.
 use Rattle.std.proofs.Common.{◌≡◌, ◌≢◌, ◌<◌, ◌≤◌, ◌+◌, ◌-◌, ◌*◌, ◌++◌, ℕ, List, [], ◌∷◌, length, length-append, Some, None, All, Contains, append-nil, append_assoc, get_or, pos, refl, sym, ◌∙◌, ap, subst, inl, inr, arith}
-use Rattle.std.proofs.lemmas.List.{get_or_append_left}
-use Rattle.std.proofs.lemmas.List.Elements.{Contains-push, Contains-push_cases, Contains-append_left, All-nil, All-cons, All-push, All-append, All-map, Contains-get_or}
+use Rattle.std.proofs.lemmas.List.Elements.{Contains-push, Contains-push_cases, Contains-append_left, All-nil, All-cons, All-append, Contains-get_or}
 use Rattle.std.proofs.lemmas.Option.{none-some}
 use Rattle.std.proofs.Math.Nat.{le_trans}
 use Rattle.atam.specs.declared.site.Side.TheVariants.{North, East, South, West}
@@ -9,10 +8,9 @@ use Rattle.atam.specs.declared.site.Site.{Site}
 use Rattle.atam.specs.declared.place.TypeId.{TypeId}
 use Rattle.atam.specs.declared.place.Place.{Place}
 use Rattle.atam.specs.declared.area.BoxArea.{BoxArea}
-use Rattle.atam.specs.Sites.{neighbor, InBox, IsBox}
-use Rattle.atam.specs.Placements.{SamePlacements, IsPartOf, HasDistinctSites, tile_at}
-use Rattle.atam.specs.TileSystem.{TileSystem, IsType, IsValid}
-use Rattle.atam.specs.Assembly.{Fits, pull}
+use Rattle.atam.specs.Sites.{neighbor, InBox}
+use Rattle.atam.specs.Placements.{SamePlacements, HasDistinctSites, tile_at}
+use Rattle.atam.specs.TileSystem.{TileSystem, IsType}
 use Rattle.atam.specs.Growth.{IsCandidate, IsClosedInBox}
 use Rattle.atam.proofs.Bonds.{pull-mono}
 use Rattle.atam.proofs.Count.{count_in_box}
@@ -24,7 +22,7 @@ use Rattle.atam.proofs.Tiles.{same_back, SameTiles-put, SamePlacements-push, Sam
 use Rattle.assembly.specs.Grids.{TileGrid}
 use Rattle.atam.proofs.Opening.{IsCandidate-same, IsCandidate-push, Fits-part}
 use Rattle.grow_core.specs.declared.placed_tile.PlacedTile.{PlacedTile}
-use Rattle.grow_core.specs.Core.{ScoutState, least, places}
+use Rattle.grow_core.specs.Core.{ScoutState, least}
 use Rattle.grow_core.specs.Steps.{place, tile_of, Supports, Sees, Wins}
 use Rattle.site_table.specs.Seats.{SeatValue, GoesOn}
 use Rattle.site_table.specs.Rule.{IsPossible}

@@ -1,5 +1,5 @@
 -- What a scout makes of its seat.
-use Rattle.std.specs.Prelude.{◌≡◌, ℕ, ◌+◌, ◌≤◌, List, ◌++◌, length, All}
+use Rattle.std.specs.Prelude.{◌≡◌, ◌+◌, ◌≤◌, List, ◌++◌, length, All}
 use Rattle.atam.specs.TileSystem.{TileSystem}
 use Rattle.atam.specs.Placements.{SamePlacements, IsPartOf, HasDistinctSites}
 use Rattle.atam.specs.Assembly.{Fits}

@@ -1,3 +1,4 @@
 -- Definitions that only private functions cite.
 pub mod Listings
 pub mod Looks
+pub mod Pickers

@@ -1,32 +1,83 @@
 // Which of the types that attach at a site is claimed.
-ghost use Rattle.std.specs.Prelude.{◌≡◌, ◌≤◌, length};
+ghost use Rattle.std.specs.Prelude.{◌≡◌, ◌≤◌, length, IfOk};
 ghost use Rattle.atam.specs.Sites.{IsNearSite};
 ghost use Rattle.atam.specs.Assembly.{Fits};
 ghost use Rattle.frontier_seat.specs.Inner.Looks.{IsOpenType};
+ghost use Rattle.frontier_seat.specs.Inner.Pickers.{IsPickerOf};
 
 use crate::Chooser;
 use assembly::Grid;
-use attach_rule::{TypeList, candidates};
-use tile_system::{Site, System, TypeId};
+use attach_rule::TypeList;
+use std::alloc::Global;
+use tile_system::{NoMemory, Site, System, TypeId};
+use type_index::{FacingCache, TypeIndex};
 
-// One of the types that attach at the site, if there are any.
-pub(crate) fn pick<C: Chooser>(
-    sys: &System,
-    grid: &Grid,
-    site: Site,
-    chooser: &mut C,
-    found: &mut TypeList,
-) -> Option<TypeId>
-    requires near { IsNearSite site }
-    requires fits { Fits sys.now grid.now.tiles }
-    requires room { length sys.now.types ≤ found.old.room }
-    ensures open { IsOpenType sys.now grid.now.tiles site result }
-    ensures room { found.new.room ≡ found.old.room }
-{
-    candidates(sys, grid, site, found);
-    let count = found.len();
-    if count == 0 {
-        return None;
+// An index of types, what was found by it before, and room for all types.
+#[derive(Drop)]
+pub(crate) struct Picker {
+    index: TypeIndex,
+    cache: FacingCache,
+    list: TypeList,
+}
+
+impl Picker {
+    pub(crate) fn make(alloc: Global, sys: &System) -> Result<Picker, NoMemory>
+        ensures { IfOk result (IsPickerOf sys.now) }
+    {
+        Ok(Picker {
+            index: TypeIndex::build(alloc, sys)?,
+            cache: FacingCache::make(alloc, sys)?,
+            list: TypeList::make(alloc, sys)?,
+        })
     }
-    Some(found.get(chooser.pick(count)))
+
+    // One of the types that attach at the site, if there are any.
+    pub(crate) fn pick<C: Chooser>(
+        &mut self,
+        sys: &System,
+        grid: &Grid,
+        site: Site,
+        chooser: &mut C,
+    ) -> Option<TypeId>
+        requires picker { IsPickerOf sys.now self.old }
+        requires near { IsNearSite site }
+        requires fits { Fits sys.now grid.now.tiles }
+        ensures open { IsOpenType sys.now grid.now.tiles site result }
+        ensures picker { IsPickerOf sys.now self.new }
+    {
+        let found = self.cache.found_at(sys, &self.index, grid, site);
+        if found.count > 2 {
+            return self.pick_listed(sys, grid, site, chooser);
+        }
+        if found.count == 0 {
+            return None;
+        }
+        if chooser.pick(found.count) == 0 {
+            found.first
+        } else {
+            found.second
+        }
+    }
+
+    // The same, over the list of all that attach.
+    fn pick_listed<C: Chooser>(
+        &mut self,
+        sys: &System,
+        grid: &Grid,
+        site: Site,
+        chooser: &mut C,
+    ) -> Option<TypeId>
+        requires picker { IsPickerOf sys.now self.old }
+        requires near { IsNearSite site }
+        requires fits { Fits sys.now grid.now.tiles }
+        ensures open { IsOpenType sys.now grid.now.tiles site result }
+        ensures picker { IsPickerOf sys.now self.new }
+    {
+        self.index.candidates(sys, grid, site, &mut self.list);
+        let count = self.list.len();
+        if count == 0 {
+            return None;
+        }
+        Some(self.list.get(chooser.pick(count)))
+    }
 }

@@ -9,12 +9,12 @@ ghost use Rattle.site_table.specs.Seats.{IsSeatOf};
 ghost use Rattle.site_table.specs.Laws.{IsFinal};
 ghost use Rattle.frontier_seat.specs.Growths.{IsGrowing, GrowsOn};
 ghost use Rattle.frontier_seat.specs.Inner.Looks.{IsClosedBut, LooksAt};
+ghost use Rattle.frontier_seat.specs.Inner.Pickers.{IsPickerOf};
 
-use crate::picking::pick;
+use crate::picking::Picker;
 use crate::work_list::WorkList;
 use crate::{Chooser, Growing};
 use assembly::Grid;
-use attach_rule::TypeList;
 use site_table::{SiteSeat, SiteTable};
 use std::alloc::Global;
 use std::marker::Model;
@@ -22,25 +22,27 @@ use std::sync::ledger::Ledger;
 use tile_io::Steps;
 use tile_system::{Site, System};
 
-/// A seat with the grid of what it has seen, and room to work: with the grid, seven bytes a site.
+/// A seat with the grid of what it has seen, an index of types, and room to work: with the grid,
+/// seven bytes a site.
 #[derive(Drop)]
 pub struct Scout {
     growing: Growing,
-    found: TypeList,
+    picker: Picker,
     work: WorkList,
 }
 
 impl Model for Scout {
-    ghost use Rattle.std.specs.Prelude.{◌≡◌, ◌≤◌, length};
+    ghost use Rattle.std.specs.Prelude.{◌≡◌};
     ghost use Rattle.frontier_seat.specs.declared.growing.Growing.{Growing};
     ghost use Rattle.frontier_seat.specs.Growths.{IsGrowing};
+    ghost use Rattle.frontier_seat.specs.Inner.Pickers.{IsPickerOf};
 
     ghost Value = { Growing };
 
     ghost view = { λ s. s.growing };
 
     ghost invariant = { λ s. IsGrowing s.growing.seat.sys s.growing
-        × (length s.growing.seat.sys.types ≤ s.found.room)
+        × IsPickerOf s.growing.seat.sys s.picker
         × (s.work.area ≡ s.growing.seat.sys.area) };
 }
 
@@ -50,7 +52,7 @@ fn look<C: Chooser, L: Ledger>(
     table: &SiteTable,
     growing: &mut Growing,
     chooser: &mut C,
-    found: &mut TypeList,
+    picker: &mut Picker,
     site: Site,
     work: &mut WorkList,
     steps: &mut Steps<L>,
@@ -58,18 +60,18 @@ fn look<C: Chooser, L: Ledger>(
     requires seat { IsSeatOf table.now growing.old.seat }
     requires system { table.now.sys ≡ sys.now }
     requires growing { IsGrowing sys.now growing.old }
-    requires types { length sys.now.types ≤ found.old.room }
+    requires picker { IsPickerOf sys.now picker.old }
     requires area { work.old.area ≡ sys.now.area }
     requires site { InBox sys.now.area site }
     requires closed { IsClosedBut sys.now growing.old.grid.tiles (work.old.sites ++ site ∷ []) }
     ensures looks { LooksAt sys.now growing.old growing.new work.old.sites work.new.sites }
-    ensures types { found.new.room ≡ found.old.room }
+    ensures picker { IsPickerOf sys.now picker.new }
     ensures area { work.new.area ≡ work.old.area }
     ensures cost { steps.new + length growing.old.grid.tiles
         ≡ steps.old + length growing.new.grid.tiles }
 {
     let _area = sys.area();
-    if let Some(tile) = pick(sys, &growing.grid, site, chooser, found) {
+    if let Some(tile) = picker.pick(sys, &growing.grid, site, chooser) {
         growing.claim(sys, table, site, tile, steps);
         work.list_neighbors(site);
     }
@@ -81,20 +83,20 @@ fn look_around<C: Chooser, L: Ledger>(
     table: &SiteTable,
     growing: &mut Growing,
     chooser: &mut C,
-    found: &mut TypeList,
+    picker: &mut Picker,
     work: &mut WorkList,
     steps: &mut Steps<L>,
 )
     requires seat { IsSeatOf table.now growing.old.seat }
     requires system { table.now.sys ≡ sys.now }
     requires growing { IsGrowing sys.now growing.old }
-    requires types { length sys.now.types ≤ found.old.room }
+    requires picker { IsPickerOf sys.now picker.old }
     requires area { work.old.area ≡ sys.now.area }
     ensures valid { IsValid sys.now }
     ensures growing { IsGrowing sys.now growing.new }
     ensures goes { GrowsOn growing.old growing.new }
     ensures closed { IsClosedInBox sys.now growing.new.grid.tiles }
-    ensures types { found.new.room ≡ found.old.room }
+    ensures picker { IsPickerOf sys.now picker.new }
     ensures area { work.new.area ≡ work.old.area }
     ensures cost { steps.new + length growing.old.grid.tiles
         ≡ steps.old + length growing.new.grid.tiles }
@@ -102,7 +104,7 @@ fn look_around<C: Chooser, L: Ledger>(
     let _area = sys.area();
     work.list_all();
     while let Some(site) = work.take() {
-        look(sys, table, growing, chooser, found, site, work, steps);
+        look(sys, table, growing, chooser, picker, site, work, steps);
     }
 }
 
@@ -124,7 +126,7 @@ impl Scout {
         let area = sys.area();
         let _owned = seat.owned();
         let _area = seen.area();
-        let Ok(found) = TypeList::make(alloc, sys) else {
+        let Ok(picker) = Picker::make(alloc, sys) else {
             return Err((seat, seen));
         };
         let Ok(work) = WorkList::make(alloc, area) else {
@@ -137,7 +139,7 @@ impl Scout {
         };
         Ok(Scout {
             growing,
-            found,
+            picker,
             work,
         })
     }
@@ -183,7 +185,7 @@ impl Scout {
             table,
             &mut self.growing,
             chooser,
-            &mut self.found,
+            &mut self.picker,
             &mut self.work,
             steps,
         );

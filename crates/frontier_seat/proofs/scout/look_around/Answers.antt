@@ -1,4 +1,4 @@
-use Rattle.std.proofs.Common.{◌≡◌, ◌+◌, ◌∙◌, [], ◌∷◌, length, length-append, sym, ap, subst, arith}
+use Rattle.std.proofs.Common.{◌≡◌, ◌+◌, ◌∙◌, [], ◌∷◌, length, length-append, ap, arith}
 use Rattle.assembly.specs.Cells.{cell_count}
 use Rattle.frontier_seat.proofs.Looked.{few_tiles, goes_further, less_work}
 use Rattle.frontier_seat.proofs.scout.look_around.Goals as goal
@@ -21,7 +21,7 @@ loop-site-preserved g c =
     record {
       growing = looks.growing;
       goes = goes_further c.args.growing.now c.loop-site.growing c.look.new.growing inv.goes looks.goes;
-      types = c.look.ensures.types ∙ inv.types;
+      picker = c.look.ensures.picker;
       area = c.look.ensures.area ∙ (c.take.ensures.area ∙ inv.area);
       closed = looks.closed;
       cost = omega (arith, cost, before);

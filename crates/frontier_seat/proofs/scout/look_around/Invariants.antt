@@ -2,6 +2,7 @@ use Rattle.std.proofs.Common.{◌≡◌, ◌+◌, ◌-◌, ◌*◌, length}
 use Rattle.assembly.specs.Cells.{cell_count}
 use Rattle.frontier_seat.specs.Growths.{IsGrowing, GrowsOn}
 use Rattle.frontier_seat.specs.Inner.Looks.{IsClosedBut}
+use Rattle.frontier_seat.specs.Inner.Pickers.{IsPickerOf}
 use Rattle.frontier_seat.proofs.scout.look_around.Given as goal
 
 -- what may be open is listed
@@ -9,7 +10,7 @@ abbrev pub invariant-loop-site : goal.invariant-loop-site
 invariant-loop-site g l = record {
   growing : IsGrowing l.sys l.growing;
   goes : GrowsOn l.fn.growing l.growing;
-  types : l.found.room ≡ l.fn.found.room;
+  picker : IsPickerOf l.sys l.picker;
   area : l.work.area ≡ l.fn.work.area;
   closed : IsClosedBut l.sys l.growing.grid.tiles l.work.sites;
   cost : l.steps + length l.fn.growing.grid.tiles ≡ l.fn.steps + length l.growing.grid.tiles;

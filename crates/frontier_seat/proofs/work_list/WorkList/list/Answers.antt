@@ -1,10 +1,9 @@
-use Rattle.std.proofs.Common.{◌≡◌, ◌<◌, ◌∙◌, [], ◌∷◌, ◌++◌, Bool, true, false, ℕ, get_or, length, map, refl, sym, ap, subst, arith, Fits, w32}
+use Rattle.std.proofs.Common.{◌≡◌, ◌<◌, ◌∙◌, true, false, get_or, length, map, refl, sym, subst, arith}
 use Rattle.std.specs.Vec.{vec_capacity}
 use Rattle.std.proofs.lemmas.List.{get_or_default}
-use Rattle.atam.specs.declared.site.Site.{Site}
 use Rattle.assembly.specs.Cells.{site_at}
 use Rattle.assembly.proofs.Cells.{cell_count-most}
-use Rattle.frontier_seat.specs.Inner.Listings.{ListedSites, IsWorkList, AddsSite}
+use Rattle.frontier_seat.specs.Inner.Listings.{ListedSites, AddsSite}
 use Rattle.frontier_seat.proofs.Marking.{site_again, has_room, marked_more, site_listed}
 use Rattle.frontier_seat.proofs.work_list.WorkList.list.Goals as goal
 

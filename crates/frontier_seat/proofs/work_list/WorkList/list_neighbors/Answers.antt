@@ -1,4 +1,4 @@
-use Rattle.std.proofs.Common.{◌∙◌, subst, sym}
+use Rattle.std.proofs.Common.{◌∙◌, subst}
 use Rattle.atam.specs.declared.area.BoxArea.{BoxArea}
 use Rattle.frontier_seat.specs.Inner.Listings.{AddsSite}
 use Rattle.frontier_seat.proofs.Looked.{neighbors_listed}

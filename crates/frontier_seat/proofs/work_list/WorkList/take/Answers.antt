@@ -1,4 +1,4 @@
-use Rattle.std.proofs.Common.{◌≡◌, ◌<◌, [], ◌∷◌, ◌++◌, arith}
+use Rattle.std.proofs.Common.{arith}
 use Rattle.frontier_seat.proofs.Marking.{last_within, marked_less}
 use Rattle.frontier_seat.proofs.work_list.WorkList.take.Goals as goal
 
