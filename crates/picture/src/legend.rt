@@ -32,7 +32,8 @@ pub(crate) fn put_legend<K: Sink>(
 
 // Which of the types of index 0 to 61 stand in the grid.
 fn standing_types(grid: &Grid) -> [bool; 62]
-    ensures { (t : ℕ) → t < 62 → slice_index_or result t false ≡ is_standing grid.now.tiles t }
+    ensures { (t : ℕ) → t < 62
+        → slice_index_or result t false ≡ is_standing grid.now.tiles t }
 {
     let mut standing = [false; 62];
     let area = grid.area();

@@ -8,9 +8,9 @@ use serde_json::{Value, json};
 use std::alloc::{AllocError, Global};
 use tile_system::{NoMemory, System};
 
-/// The line of a report, without its newline: whether growth goes on outside the box, the counts of
-/// glues and types, the temperature, the box's size, how many tiles stand, the verdict, and how many
-/// claims each worker won, worker 0 first.
+/// The line of a report, without its newline: whether a type attaches outside the box, the counts
+/// of glues and types, the temperature, the size of the box, how many tiles stand, whether the
+/// verdict is yes, and how many claims each worker has won, worker 0 first.
 pub fn report_text(
     alloc: Global,
     sys: &System,
