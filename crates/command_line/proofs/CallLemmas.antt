@@ -5,7 +5,7 @@ use Rattle.clap.specs.Words.{App, Text, fault_of, takes}
 use Rattle.clap.specs.declared.parser.matches.ArgMatches.{ArgMatches}
 use Rattle.clap.proofs.OnLiterals.{clap_on_literals}
 use Rattle.command_line.specs.declared.commands.Command.{Command}
-use Rattle.command_line.specs.declared.commands.Command.TheVariants.{Grow, Race, Check, Replay, Schedule, Format}
+use Rattle.command_line.specs.declared.commands.Command.TheVariants.{Grow, Race, Report, Check, Replay, Schedule, Format, Turing, Picture}
 use Rattle.command_line.specs.declared.commands.CommandName.{CommandName}
 use Rattle.command_line.specs.declared.commands.CommandName.TheVariants as name
 use Rattle.command_line.specs.declared.words_stop.WordsStop.{WordsStop}
@@ -53,15 +53,20 @@ made name.Grow (workers ∷ choice ∷ values) = Grow workers choice
 made name.Grow _ = Grow 0 0
 made name.Race (workers ∷ choice ∷ values) = Race workers choice
 made name.Race _ = Race 0 0
+made name.Report (workers ∷ choice ∷ values) = Report workers choice
+made name.Report _ = Report 0 0
 made name.Check values = Check
 made name.Replay values = Replay
 made name.Schedule values = Schedule
 made name.Format values = Format
+made name.Turing values = Turing
+made name.Picture values = Picture
 
 made_again : (command : Command) → made (name_of command) (values_of command) ≡ command
 unfolding made
 made_again (Grow workers choice) = refl
 made_again (Race workers choice) = refl
+made_again (Report workers choice) = refl
 made_again _ = refl
 
 -- a name that two names of a list are
@@ -107,12 +112,14 @@ taken_stops words name Usage is other untaken named taken =
 word_named : (name : CommandName) → command_named (command_word name ∷ []) ≡ Some name
 word_named name.Grow = refl
 word_named name.Race = refl
+word_named name.Report = refl
 word_named _ = refl
 
 word_taken : (name : CommandName) → takes (command_app name) (command_word name ∷ []) ≡ true
 unfolding command_app clap_on_literals
 word_taken name.Grow = refl
 word_taken name.Race = refl
+word_taken name.Report = refl
 word_taken _ = refl
 
 -- each command takes its word alone
@@ -137,6 +144,10 @@ spelled_taken words (Race workers choice) is = record {
   named = spelled_named (codes "race") words workers choice name.Race refl is;
   taken = (growing_spelled (codes "race") words workers choice is).taken;
 }
+spelled_taken words (Report workers choice) is = record {
+  named = spelled_named (codes "report") words workers choice name.Report refl is;
+  taken = (growing_spelled (codes "report") words workers choice is).taken;
+}
 spelled_taken words command is = rw is (alone_taken (name_of command))
 
 spelled_stated : (words : List Text) (command : Command) → Spells words command
@@ -144,6 +155,7 @@ spelled_stated : (words : List Text) (command : Command) → Spells words comman
 unfolding command_app
 spelled_stated words (Grow workers choice) is = let stated = (growing_spelled (codes "grow") words workers choice is).stated in (stated.0, (stated.1, tt))
 spelled_stated words (Race workers choice) is = let stated = (growing_spelled (codes "race") words workers choice is).stated in (stated.0, (stated.1, tt))
+spelled_stated words (Report workers choice) is = let stated = (growing_spelled (codes "report") words workers choice is).stated in (stated.0, (stated.1, tt))
 spelled_stated words _ is = tt
 
 -- they call for no other command

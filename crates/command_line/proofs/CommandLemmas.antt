@@ -8,7 +8,7 @@ use Rattle.clap.specs.declared.builder.command.Command.{Command}
 use Rattle.clap.specs.declared.parser.matches.ArgMatches.{ArgMatches}
 use Rattle.clap.proofs.WalkLemmas.{both}
 use Rattle.command_line.specs.declared.commands.CommandName.{CommandName}
-use Rattle.command_line.specs.declared.commands.CommandName.TheVariants.{Grow, Race}
+use Rattle.command_line.specs.declared.commands.CommandName.TheVariants.{Grow, Race, Report}
 use Rattle.command_line.specs.Commands.{choice_option, command_app, options_of, plain_app, workers_option}
 use Rattle.command_line.specs.Numbers.{NumberOption, number_rule}
 use Rattle.command_line.specs.Inner.Found.{FindsOptions, IsExact}
@@ -19,6 +19,7 @@ pub app_simple : (name : CommandName) → is_simple_and_free (command_app name) 
 unfolding command_app
 app_simple Grow = refl
 app_simple Race = refl
+app_simple Report = refl
 app_simple _ = refl
 
 -- the command has the options, from a place on
@@ -36,6 +37,7 @@ has_options : (name : CommandName) → HasOptions (command_app name) 0 (options_
 unfolding command_app
 has_options Grow = growing_options (codes "grow")
 has_options Race = growing_options (codes "race")
+has_options Report = growing_options (codes "report")
 has_options _ = tt
 
 -- a parse finds a number for each option of the command

@@ -5,7 +5,7 @@ use Rattle.clap.specs.Simple.{on_top}
 use Rattle.clap.specs.declared.error.kind.ErrorKind.{ErrorKind}
 use Rattle.clap.specs.declared.error.kind.ErrorKind.TheVariants.{OutOfMemory}
 use Rattle.command_line.specs.declared.commands.Command.{Command}
-use Rattle.command_line.specs.declared.commands.Command.TheVariants.{Grow, Race, Check, Replay, Schedule, Format}
+use Rattle.command_line.specs.declared.commands.Command.TheVariants.{Grow, Race, Report, Check, Replay, Schedule, Format, Turing, Picture}
 use Rattle.command_line.specs.declared.commands.CommandName.{CommandName}
 use Rattle.command_line.specs.declared.commands.CommandName.TheVariants as name
 use Rattle.command_line.specs.declared.words_stop.WordsStop.{WordsStop}
@@ -18,14 +18,17 @@ use Rattle.command_line.specs.Numbers.{NumberOption, StatesValues, number_rule}
 abbrev pub command_word : CommandName → Text
 command_word name.Grow = codes "grow"
 command_word name.Race = codes "race"
+command_word name.Report = codes "report"
 command_word name.Check = codes "check"
 command_word name.Replay = codes "replay"
 command_word name.Schedule = codes "schedule"
 command_word name.Format = codes "format"
+command_word name.Turing = codes "turing"
+command_word name.Picture = codes "picture"
 
 -- all commands
 abbrev pub command_names : List CommandName
-command_names = name.Grow ∷ name.Race ∷ name.Check ∷ name.Replay ∷ name.Schedule ∷ name.Format ∷ []
+command_names = name.Grow ∷ name.Race ∷ name.Report ∷ name.Check ∷ name.Replay ∷ name.Schedule ∷ name.Format ∷ name.Turing ∷ name.Picture ∷ []
 
 -- `--workers N`, where N is 1 to 16, 1 if it is left out
 abbrev pub workers_option : NumberOption
@@ -39,21 +42,26 @@ choice_option = record { id = codes "choice"; default = codes "0"; least = 0; mo
 abbrev pub options_of : CommandName → List NumberOption
 options_of name.Grow = workers_option ∷ choice_option ∷ []
 options_of name.Race = workers_option ∷ choice_option ∷ []
+options_of name.Report = workers_option ∷ choice_option ∷ []
 options_of _ = []
 
 -- the name of a command
 abbrev pub name_of : Command → CommandName
 name_of (Grow workers choice) = name.Grow
 name_of (Race workers choice) = name.Race
+name_of (Report workers choice) = name.Report
 name_of Check = name.Check
 name_of Replay = name.Replay
 name_of Schedule = name.Schedule
 name_of Format = name.Format
+name_of Turing = name.Turing
+name_of Picture = name.Picture
 
 -- the values of its options, in their order
 abbrev pub values_of : Command → List ℕ
 values_of (Grow workers choice) = workers ∷ choice ∷ []
 values_of (Race workers choice) = workers ∷ choice ∷ []
+values_of (Report workers choice) = workers ∷ choice ∷ []
 values_of _ = []
 
 -- ---- what words call for
@@ -116,6 +124,7 @@ pub record SpellsGrowing (name : Text) (words : List Text) (workers choice : ℕ
 abbrev pub Spells : List Text → Command → Type 0
 Spells words (Grow workers choice) = SpellsGrowing (codes "grow") words workers choice
 Spells words (Race workers choice) = SpellsGrowing (codes "race") words workers choice
+Spells words (Report workers choice) = SpellsGrowing (codes "report") words workers choice
 Spells words command = words ≡ command_word (name_of command) ∷ []
 
 -- ---- refusals

@@ -16,10 +16,14 @@ pub enum Command {
     Grow { workers: u32, choice: u64 },
     /// The same as of `Grow`.
     Race { workers: u32, choice: u64 },
+    /// The same as of `Grow`.
+    Report { workers: u32, choice: u64 },
     Check,
     Replay,
     Schedule,
     Format,
+    Turing,
+    Picture,
 }
 
 /// Which command the first word names.
@@ -27,19 +31,25 @@ pub enum Command {
 pub enum CommandName {
     Grow,
     Race,
+    Report,
     Check,
     Replay,
     Schedule,
     Format,
+    Turing,
+    Picture,
 }
 
-const NAMES: [CommandName; 6] = [
+const NAMES: [CommandName; 9] = [
     CommandName::Grow,
     CommandName::Race,
+    CommandName::Report,
     CommandName::Check,
     CommandName::Replay,
     CommandName::Schedule,
     CommandName::Format,
+    CommandName::Turing,
+    CommandName::Picture,
 ];
 
 const WORKERS: &str = "workers";
@@ -56,10 +66,13 @@ impl CommandName {
         match self {
             CommandName::Grow => "grow",
             CommandName::Race => "race",
+            CommandName::Report => "report",
             CommandName::Check => "check",
             CommandName::Replay => "replay",
             CommandName::Schedule => "schedule",
             CommandName::Format => "format",
+            CommandName::Turing => "turing",
+            CommandName::Picture => "picture",
         }
     }
 }
@@ -78,9 +91,11 @@ pub fn clap_command<'a>(alloc: Global, name: CommandName) -> Result<clap::Comman
 {
     let word: &'a str = name.word();
     match name {
-        CommandName::Grow | CommandName::Race => plain_command(alloc, word)
-            .arg(workers_option(alloc))?
-            .arg(choice_option(alloc)),
+        CommandName::Grow | CommandName::Race | CommandName::Report => {
+            plain_command(alloc, word)
+                .arg(workers_option(alloc))?
+                .arg(choice_option(alloc))
+        }
         _ => Ok(plain_command(alloc, word)),
     }
 }
@@ -101,10 +116,16 @@ pub fn command_found(name: CommandName, found: &ArgMatches) -> Command
             workers: workers_found(found),
             choice: number_of(found, CHOICE),
         },
+        CommandName::Report => Command::Report {
+            workers: workers_found(found),
+            choice: number_of(found, CHOICE),
+        },
         CommandName::Check => Command::Check,
         CommandName::Replay => Command::Replay,
         CommandName::Schedule => Command::Schedule,
         CommandName::Format => Command::Format,
+        CommandName::Turing => Command::Turing,
+        CommandName::Picture => Command::Picture,
     }
 }
 

@@ -20,6 +20,10 @@ fn race(workers: u32, choice: u64) -> Result<Command, WordsStop> {
     Ok(Command::Race { workers, choice })
 }
 
+fn report(workers: u32, choice: u64) -> Result<Command, WordsStop> {
+    Ok(Command::Report { workers, choice })
+}
+
 #[test]
 fn reads_words(rt: HostRuntime) -> Result<(), Fail> {
     let alloc = rt.alloc();
@@ -53,10 +57,21 @@ fn reads_words(rt: HostRuntime) -> Result<(), Fail> {
         ("grow\n--choice\nx", Err(WordsStop::Usage)),
         ("grow\n--choice", Err(WordsStop::Usage)),
         ("grow\n--choice\n1\n--choice\n1", Err(WordsStop::Usage)),
+        ("report", report(1, 0)),
+        ("report\n--workers\n3", report(3, 0)),
+        ("report\n--choice\n5\n--workers\n16", report(16, 5)),
+        ("report\n--workers\n17", Err(WordsStop::Usage)),
+        ("report\n3", Err(WordsStop::Usage)),
         ("check\n--choice\n1", Err(WordsStop::Usage)),
         ("check", Ok(Command::Check)),
         ("replay", Ok(Command::Replay)),
         ("format", Ok(Command::Format)),
+        ("turing", Ok(Command::Turing)),
+        ("turing\n--choice\n1", Err(WordsStop::Usage)),
+        ("turing\nx", Err(WordsStop::Usage)),
+        ("picture", Ok(Command::Picture)),
+        ("picture\n--workers\n1", Err(WordsStop::Usage)),
+        ("pictures", Err(WordsStop::NoCommand)),
         ("grow\n--", grow(1, 0)),
         ("grow\n--\n--", Err(WordsStop::Usage)),
         ("grow\ncheck", Err(WordsStop::Usage)),
