@@ -11,7 +11,7 @@ use Rattle.clap.specs.Built.{IsAuto, IsParsedFrom, IsPlain, SameRules}
 use Rattle.clap.specs.Matches.{first_value, found_of, matched_of, one_text}
 use Rattle.clap.specs.Values.{Accepts, read_as, reading_of}
 use Rattle.command_line.specs.Inner.Found.{FindsText}
-use Rattle.clap.proofs.CallerLemmas.{default_present, entry_by_id, same_rules_by_id}
+use Rattle.clap.proofs.CallerLemmas.{default_present, entry_by_id, present_has_entry, required_present, same_rules_by_id}
 use Rattle.clap.specs.declared.builder.action.ArgAction.TheVariants.{Count, Set}
 use Rattle.clap.specs.declared.builder.arg.Arg.{Arg}
 use Rattle.clap.specs.declared.builder.command.Command.{Command}
@@ -191,3 +191,7 @@ module _ (c : Command) (m : ArgMatches) (parsed : IsParsedFrom c m) (plain : IsP
   -- one with a default has one at each parse
   pub default_found : WantsDefault arg → FindsText (found_of m) id arg.ignore_case q
   default_found wants = text_found (has_entry (found_of m) id (default_present c m parsed globals k d o.below wants))
+
+  -- one that is required is used at each parse
+  pub required_found : (out-Command c).subcommand_negates_reqs ≡ false → arg.required ≡ true → FindsText (found_of m) id arg.ignore_case q
+  required_found negates required = text_found (present_has_entry (found_of m) id (required_present c m parsed plain globals negates k d o.below required))

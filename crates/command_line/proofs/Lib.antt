@@ -1,7 +1,8 @@
 pub mod CallLemmas
 mod CommandLemmas
 mod FoundLemmas
-mod OptionLemmas
+mod NumberLemmas
+mod NumberWordLemmas
 mod ParseLemmas
 mod PlainLemmas
 mod SimpleLemmas

@@ -17,7 +17,7 @@ use Rattle.clap.proofs.ValueTestLemmas.{Accepts-accepts}
 use Rattle.clap.proofs.TakesLemmas.{leaf_takes}
 use Rattle.clap.proofs.OnLiterals.{clap_on_literals}
 use Rattle.command_line.specs.Commands.{SpellsGrowing, SpellsOption, choice_option, plain_app, workers_option}
-use Rattle.command_line.specs.Numbers.{NumberOption, States, number_of_text, number_rule}
+use Rattle.command_line.specs.Numbers.{NumberArgument, States, number_of_text, number_rule}
 
 -- ---- a word that is no flag
 
@@ -49,11 +49,11 @@ value_walked rules held id word plain = rw (plain.dashes, plain.long, plain.shor
 value_passes : (shape : Shape) (held : Held) (id word : Text) → IsPlainWord word → turn_passes shape [] (waits held id) word ≡ true
 value_passes shape held id word plain = rw (plain.dashes, plain.long, plain.short) refl
 
-none_left : (shape : Shape) (w : Walk) → walk_passes shape [] w [] ≡ true
+pub none_left : (shape : Shape) (w : Walk) → walk_passes shape [] w [] ≡ true
 unfolding walk_passes
 none_left shape w = refl
 
-pass_more : (shape : Shape) (w next : Walk) (word : Text) (rest : List Text) → turn_passes shape [] w word ≡ true → walked shape.rules [] w word ≡ next
+pub pass_more : (shape : Shape) (w next : Walk) (word : Text) (rest : List Text) → turn_passes shape [] w word ≡ true → walked shape.rules [] w word ≡ next
     → walk_passes shape [] next rest ≡ true → walk_passes shape [] w (word ∷ rest) ≡ true
 unfolding walk_passes
 pass_more shape w next word rest turn step others = rw (turn, step) others
@@ -96,8 +96,8 @@ top name = (built (app name)).top
 abbrev rules : List Rule
 rules = (top []).rules
 
--- one option has these values
-abbrev one_held : Text → List Text → Held
+-- one argument has these values
+abbrev pub one_held : Text → List Text → Held
 one_held id values = record nothing_held { pending = Some (id, values) }
 
 -- one option is used, and another one has these values
@@ -109,12 +109,12 @@ abbrev end_passes : Text → Held → Bool
 end_passes name held = settle_passes rules false held && (list_all default_passes rules && is_valid (top name) (finished rules held) false)
 
 -- after this walk, a word opens the option, and the word behind it is its value
-record IsOpened (name word : Text) (option : NumberOption) (w : Walk) (pending : Held) (held : Text → Held) : Type 0 where
+record IsOpened (name word : Text) (option : NumberArgument) (w : Walk) (pending : Held) (held : Text → Held) : Type 0 where
   opens : walked rules [] w word ≡ waits pending option.id
   passes : turn_passes (top name) [] w word ≡ true
   value : (v : Text) → option_word (arg_by_id rules option.id) option.id v pending ≡ (held v, idle)
 
-module _ (name word : Text) (option : NumberOption) (w : Walk) (pending : Held) (held : Text → Held) (opened : IsOpened name word option w pending held) (v : Text)
+module _ (name word : Text) (option : NumberArgument) (w : Walk) (pending : Held) (held : Text → Held) (opened : IsOpened name word option w pending held) (v : Text)
     (plain : IsPlainWord v) where
   value_held : walked rules [] (waits pending option.id) v ≡ after (held v)
   value_held =

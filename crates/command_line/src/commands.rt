@@ -1,25 +1,33 @@
-// The table of commands: their words, their options, and what a parse makes of them.
-ghost use Rattle.std.specs.Prelude.{◌≡◌, ◌≤◌, false, codes, IfOk};
+// The table of commands: their words, their arguments, and what a parse makes of them.
+ghost use Rattle.std.specs.Prelude.{◌≡◌, ◌≤◌, ◌^◌, ◌-◌, false, codes, IfOk};
 ghost use Rattle.clap.specs.Words.{app_of, found_of, rule_of};
-ghost use Rattle.command_line.specs.Commands.{choice_option, command_app, command_named_by, command_word, name_of, options_of, plain_app, values_of, workers_option};
+ghost use Rattle.command_line.specs.Commands.{arguments_of, bits_argument, choice_option, command_app, command_named_by, command_word, load_argument, name_of, plain_app, start_argument, values_of, workers_option};
 ghost use Rattle.command_line.specs.Numbers.{AreInRange, number_rule};
-ghost use Rattle.command_line.specs.Inner.Found.{FindsInRange, FindsNumber, FindsOptions, HasValues};
+ghost use Rattle.command_line.specs.Inner.Found.{FindsInRange, FindsNumber, FindsNumbers, HasValues};
 
-use crate::option::{number_of, number_option};
+use crate::numbers::{number_argument, number_of};
 use clap::{Arg, ArgMatches};
 use std::alloc::{AllocError, Global};
 
-/// A command of the program, with what its options say.
+/// A command of the program, with what its arguments say.
 #[derive(Clone, Copy, Debug, PartialEq, Eq)]
 pub enum Command {
     /// `workers` is 1 to 16; `choice` is any number.
     Grow { workers: u32, choice: u64 },
     /// The same as of `Grow`.
     Race { workers: u32, choice: u64 },
+    /// The same as of `Grow`.
+    Report { workers: u32, choice: u64 },
     Check,
     Replay,
     Schedule,
     Format,
+    Turing,
+    Picture,
+    /// Any numbers of their types: the counter's own limits are not looked at here.
+    Counter { bits: u32, start: u64 },
+    /// `number` is any number.
+    Load { number: u64 },
 }
 
 /// Which command the first word names.
@@ -27,19 +35,29 @@ pub enum Command {
 pub enum CommandName {
     Grow,
     Race,
+    Report,
     Check,
     Replay,
     Schedule,
     Format,
+    Turing,
+    Picture,
+    Counter,
+    Load,
 }
 
-const NAMES: [CommandName; 6] = [
+const NAMES: [CommandName; 11] = [
     CommandName::Grow,
     CommandName::Race,
+    CommandName::Report,
     CommandName::Check,
     CommandName::Replay,
     CommandName::Schedule,
     CommandName::Format,
+    CommandName::Turing,
+    CommandName::Picture,
+    CommandName::Counter,
+    CommandName::Load,
 ];
 
 const WORKERS: &str = "workers";
@@ -47,6 +65,12 @@ const WORKERS: &str = "workers";
 const MOST_WORKERS: u64 = 16;
 
 const CHOICE: &str = "choice";
+
+const BITS: &str = "bits";
+
+const START: &str = "start";
+
+const NUMBER: &str = "number";
 
 impl CommandName {
     /// The word that names the command.
@@ -56,10 +80,15 @@ impl CommandName {
         match self {
             CommandName::Grow => "grow",
             CommandName::Race => "race",
+            CommandName::Report => "report",
             CommandName::Check => "check",
             CommandName::Replay => "replay",
             CommandName::Schedule => "schedule",
             CommandName::Format => "format",
+            CommandName::Turing => "turing",
+            CommandName::Picture => "picture",
+            CommandName::Counter => "counter",
+            CommandName::Load => "load",
         }
     }
 }
@@ -78,19 +107,25 @@ pub fn clap_command<'a>(alloc: Global, name: CommandName) -> Result<clap::Comman
 {
     let word: &'a str = name.word();
     match name {
-        CommandName::Grow | CommandName::Race => plain_command(alloc, word)
-            .arg(workers_option(alloc))?
-            .arg(choice_option(alloc)),
+        CommandName::Grow | CommandName::Race | CommandName::Report => {
+            plain_command(alloc, word)
+                .arg(workers_option(alloc))?
+                .arg(choice_option(alloc))
+        }
+        CommandName::Counter => plain_command(alloc, word)
+            .arg(bits_argument(alloc))?
+            .arg(start_argument(alloc)),
+        CommandName::Load => plain_command(alloc, word).arg(load_argument(alloc)),
         _ => Ok(plain_command(alloc, word)),
     }
 }
 
-// The command of a name, with the values that a parse found for its options.
+// The command of a name, with the values that a parse found for its arguments.
 pub fn command_found(name: CommandName, found: &ArgMatches) -> Command
-    requires { FindsOptions (options_of name) (found_of found.now) }
+    requires { FindsNumbers (arguments_of name) (found_of found.now) }
     ensures name { name_of result ≡ name }
-    ensures values { HasValues (options_of name) (values_of result) (found_of found.now) }
-    ensures range { AreInRange (options_of name) (values_of result) }
+    ensures values { HasValues (arguments_of name) (values_of result) (found_of found.now) }
+    ensures range { AreInRange (arguments_of name) (values_of result) }
 {
     match name {
         CommandName::Grow => Command::Grow {
@@ -101,10 +136,23 @@ pub fn command_found(name: CommandName, found: &ArgMatches) -> Command
             workers: workers_found(found),
             choice: number_of(found, CHOICE),
         },
+        CommandName::Report => Command::Report {
+            workers: workers_found(found),
+            choice: number_of(found, CHOICE),
+        },
         CommandName::Check => Command::Check,
         CommandName::Replay => Command::Replay,
         CommandName::Schedule => Command::Schedule,
         CommandName::Format => Command::Format,
+        CommandName::Turing => Command::Turing,
+        CommandName::Picture => Command::Picture,
+        CommandName::Counter => Command::Counter {
+            bits: bits_found(found),
+            start: number_of(found, START),
+        },
+        CommandName::Load => Command::Load {
+            number: number_of(found, NUMBER),
+        },
     }
 }
 
@@ -120,7 +168,7 @@ fn workers_option<'a>(alloc: Global) -> Arg<'a>
     ensures rule { rule_of result ≡ number_rule workers_option }
     ensures local { result.global ≡ false }
 {
-    number_option(alloc, WORKERS, "1", 1, MOST_WORKERS)
+    number_argument(alloc, WORKERS, Some("1"), 1, MOST_WORKERS)
 }
 
 // The option `--choice N`.
@@ -128,7 +176,31 @@ fn choice_option<'a>(alloc: Global) -> Arg<'a>
     ensures rule { rule_of result ≡ number_rule choice_option }
     ensures local { result.global ≡ false }
 {
-    number_option(alloc, CHOICE, "0", 0, u64::MAX)
+    number_argument(alloc, CHOICE, Some("0"), 0, u64::MAX)
+}
+
+// The word `BITS`.
+fn bits_argument<'a>(alloc: Global) -> Arg<'a>
+    ensures rule { rule_of result ≡ number_rule bits_argument }
+    ensures local { result.global ≡ false }
+{
+    number_argument(alloc, BITS, None, 0, u32::MAX as u64)
+}
+
+// The word `START`.
+fn start_argument<'a>(alloc: Global) -> Arg<'a>
+    ensures rule { rule_of result ≡ number_rule start_argument }
+    ensures local { result.global ≡ false }
+{
+    number_argument(alloc, START, None, 0, u64::MAX)
+}
+
+// The word `N` of `load`.
+fn load_argument<'a>(alloc: Global) -> Arg<'a>
+    ensures rule { rule_of result ≡ number_rule load_argument }
+    ensures local { result.global ≡ false }
+{
+    number_argument(alloc, NUMBER, None, 0, u64::MAX)
 }
 
 // The number of workers that a parse found.
@@ -139,4 +211,12 @@ fn workers_found(found: &ArgMatches) -> u32
     ensures few { result ≤ 16 }
 {
     number_of(found, WORKERS) as u32
+}
+
+// The number of bits that a parse found.
+fn bits_found(found: &ArgMatches) -> u32
+    requires { FindsInRange (found_of found.now) (codes "bits") 0 (2 ^ 32 - 1) }
+    ensures { FindsNumber (found_of found.now) (codes "bits") result }
+{
+    number_of(found, BITS) as u32
 }

@@ -1,9 +1,10 @@
 // Laws of what words call for.
-ghost use Rattle.std.specs.Prelude.{◌≡◌, ◌⊎◌, ◌↔◌, List, [], ◌∷◌, codes};
+ghost use Rattle.std.specs.Prelude.{◌≡◌, ◌⊎◌, ◌↔◌, true, false, List, [], ◌∷◌, codes};
 ghost use Rattle.clap.specs.Words.{Text, fault_of};
 ghost use Rattle.command_line.specs.declared.commands.Command.{Command};
 ghost use Rattle.command_line.specs.declared.commands.CommandName.{CommandName};
-ghost use Rattle.command_line.specs.Commands.{IsCallOf, IsTaken, IsUsage, Spells, command_word, name_of, plain_app};
+ghost use Rattle.command_line.specs.Numbers.{may_be_left_out};
+ghost use Rattle.command_line.specs.Commands.{IsCallOf, IsTaken, IsUsage, Spells, arguments_of, command_word, name_of, plain_app};
 
 /// The same words call for one command at most, and not where they are refused.
 pub fn law_one_reading()
@@ -14,8 +15,13 @@ pub fn law_one_reading()
 {}
 
 /// The plainest words for a command are words that clap promises to take, and call for no other.
+///
+/// The command's word alone is such a list, or a fault where an argument may not be left out.
 pub fn law_plain_words()
-    ensures alone { (name : CommandName) → IsTaken (command_word name ∷ []) name }
+    ensures alone { (name : CommandName) →
+        may_be_left_out (arguments_of name) ≡ true → IsTaken (command_word name ∷ []) name }
+    ensures wanting { (name : CommandName) →
+        may_be_left_out (arguments_of name) ≡ false → IsUsage (command_word name ∷ []) }
     ensures taken { (words : List Text) (command : Command) →
         Spells words command → IsTaken words (name_of command) }
     ensures spelled { (words : List Text) (a b : Command) →

@@ -3,7 +3,7 @@
 
 mod commands;
 mod laws;
-mod option;
+mod numbers;
 mod parse;
 mod words;
 mod words_stop;

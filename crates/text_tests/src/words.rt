@@ -20,6 +20,18 @@ fn race(workers: u32, choice: u64) -> Result<Command, WordsStop> {
     Ok(Command::Race { workers, choice })
 }
 
+fn report(workers: u32, choice: u64) -> Result<Command, WordsStop> {
+    Ok(Command::Report { workers, choice })
+}
+
+fn counter(bits: u32, start: u64) -> Result<Command, WordsStop> {
+    Ok(Command::Counter { bits, start })
+}
+
+fn load(number: u64) -> Result<Command, WordsStop> {
+    Ok(Command::Load { number })
+}
+
 #[test]
 fn reads_words(rt: HostRuntime) -> Result<(), Fail> {
     let alloc = rt.alloc();
@@ -53,10 +65,46 @@ fn reads_words(rt: HostRuntime) -> Result<(), Fail> {
         ("grow\n--choice\nx", Err(WordsStop::Usage)),
         ("grow\n--choice", Err(WordsStop::Usage)),
         ("grow\n--choice\n1\n--choice\n1", Err(WordsStop::Usage)),
+        ("report", report(1, 0)),
+        ("report\n--workers\n3", report(3, 0)),
+        ("report\n--choice\n5\n--workers\n16", report(16, 5)),
+        ("report\n--workers\n17", Err(WordsStop::Usage)),
+        ("report\n3", Err(WordsStop::Usage)),
         ("check\n--choice\n1", Err(WordsStop::Usage)),
         ("check", Ok(Command::Check)),
         ("replay", Ok(Command::Replay)),
         ("format", Ok(Command::Format)),
+        ("turing", Ok(Command::Turing)),
+        ("turing\n--choice\n1", Err(WordsStop::Usage)),
+        ("turing\nx", Err(WordsStop::Usage)),
+        ("picture", Ok(Command::Picture)),
+        ("picture\n--workers\n1", Err(WordsStop::Usage)),
+        ("pictures", Err(WordsStop::NoCommand)),
+        ("counter\n2\n0", counter(2, 0)),
+        ("counter\n40\n0", counter(40, 0)),
+        ("counter\n+2\n007", counter(2, 7)),
+        (
+            "counter\n4294967295\n18446744073709551615",
+            counter(u32::MAX, u64::MAX),
+        ),
+        ("counter\n--\n2\n3", counter(2, 3)),
+        ("counter\n4294967296\n0", Err(WordsStop::Usage)),
+        ("counter\n2\n18446744073709551616", Err(WordsStop::Usage)),
+        ("counter", Err(WordsStop::Usage)),
+        ("counter\n2", Err(WordsStop::Usage)),
+        ("counter\n2\n0\n0", Err(WordsStop::Usage)),
+        ("counter\n2\n-1", Err(WordsStop::Usage)),
+        ("counter\n2\n", Err(WordsStop::Usage)),
+        ("counter\n2 0", Err(WordsStop::Usage)),
+        ("counter\n2\n0x1", Err(WordsStop::Usage)),
+        ("counter\n--bits\n2\n0", Err(WordsStop::Usage)),
+        ("load\n0", load(0)),
+        ("load\n15871", load(15871)),
+        ("load\n18446744073709551615", load(u64::MAX)),
+        ("load", Err(WordsStop::Usage)),
+        ("load\n0\n0", Err(WordsStop::Usage)),
+        ("load\n18446744073709551616", Err(WordsStop::Usage)),
+        ("load\n--workers\n4\n0", Err(WordsStop::Usage)),
         ("grow\n--", grow(1, 0)),
         ("grow\n--\n--", Err(WordsStop::Usage)),
         ("grow\ncheck", Err(WordsStop::Usage)),

@@ -1,10 +1,10 @@
--- What a parse finds for options that take a number.
+-- What a parse finds for arguments that take a number.
 use Rattle.std.specs.Prelude.{◌≡◌, ℕ, Bool, false, List, [], ◌∷◌, Some}
 use Rattle.clap.specs.Words.{Accepts, App, Text, matches_of, one_text, read_as, reading_of, rows_of}
 use Rattle.clap.specs.declared.builder.value_parser.ValueParser.{ValueParser}
 use Rattle.clap.specs.declared.builder.value_parser.ValueParser.TheVariants.{Unsigned}
 use Rattle.clap.specs.declared.parser.matches.Found.{Found}
-use Rattle.command_line.specs.Numbers.{NumberOption, number_of_text}
+use Rattle.command_line.specs.Numbers.{NumberArgument, number_of_text}
 
 -- the parse found what clap states for these words
 unfoldable pub IsExact : App → List Text → Found → Type 0
@@ -23,14 +23,14 @@ FindsInRange found id least most = FindsText found id false (Unsigned least most
 unfoldable pub FindsNumber : Found → Text → ℕ → Type 0
 FindsNumber found id number = (text : Text) × (one_text found id ≡ Some text) × (number ≡ number_of_text text)
 
--- the parse found a number in its range for each option
-abbrev pub FindsOptions : List NumberOption → Found → Type 0
-FindsOptions [] found = Unit {0}
-FindsOptions (option ∷ options) found = FindsInRange found option.id option.least option.most × FindsOptions options found
+-- the parse found a number in its range for each argument
+abbrev pub FindsNumbers : List NumberArgument → Found → Type 0
+FindsNumbers [] found = Unit {0}
+FindsNumbers (argument ∷ arguments) found = FindsInRange found argument.id argument.least argument.most × FindsNumbers arguments found
 
--- these are the numbers that the parse found for the options, in their order
-abbrev pub HasValues : List NumberOption → List ℕ → Found → Type 0
+-- these are the numbers that the parse found for the arguments, in their order
+abbrev pub HasValues : List NumberArgument → List ℕ → Found → Type 0
 HasValues [] [] found = Unit {0}
 HasValues [] (value ∷ values) found = ⊥
-HasValues (option ∷ options) [] found = ⊥
-HasValues (option ∷ options) (value ∷ values) found = FindsNumber found option.id value × HasValues options values found
+HasValues (argument ∷ arguments) [] found = ⊥
+HasValues (argument ∷ arguments) (value ∷ values) found = FindsNumber found argument.id value × HasValues arguments values found

@@ -14,8 +14,8 @@ returns-clause-exact c =
     IfOk-weaker c.parsed.result _ _ (λ found h. (command_parsed c.args.name c.in_ok-clap_command.field-0 words found c.in_ok-clap_command.ensures h.0 h.1).0)
     (IfOk-both c.parsed.result _ _ c.parsed.ensures.parsed c.parsed.ensures.exact)
 
-pub returns-clause-options : goal.returns-clause-options
-returns-clause-options c =
+pub returns-clause-numbers : goal.returns-clause-numbers
+returns-clause-numbers c =
     let words : List (List ℕ) = map string_bytes c.args.words.now in
     IfOk-weaker c.parsed.result _ _ (λ found h. (command_parsed c.args.name c.in_ok-clap_command.field-0 words found c.in_ok-clap_command.ensures h.0 h.1).1)
     (IfOk-both c.parsed.result _ _ c.parsed.ensures.parsed c.parsed.ensures.exact)

@@ -1,8 +1,8 @@
 use Rattle.std.proofs.Common.{◌≡◌, ◌∙◌, ap, sym, subst, refl, ℕ, Option}
 use Rattle.std.specs.Prelude.{IsSome, unwrap_or}
 use Rattle.std.specs.Str.Parse.{ParsesUnsigned, ExplainsUnsignedError, HasUnsignedDigitsIfOk}
-use Rattle.command_line.proofs.OptionLemmas.{number_read, found_in_range}
-use Rattle.command_line.proofs.option.number_of.Goals as goal
+use Rattle.command_line.proofs.NumberLemmas.{number_read, found_in_range}
+use Rattle.command_line.proofs.numbers.number_of.Goals as goal
 
 pub unwrap-requires : goal.unwrap-requires
 unwrap-requires c =

@@ -1,7 +1,7 @@
--- What a parse finds for an option of a simple command that takes a number.
+-- What a parse finds for an argument of a simple command that takes a number.
 use Rattle.std.proofs.Common.{◌≡◌, ◌⊎◌, ◌∙◌, ◌<◌, ◌≤◌, ◌^◌, ◌&&◌, ap, ℕ, Bool, true, false, true≢false, List, [], ◌∷◌, length, map, not, Option, Some, None, refl, sym, subst, inl, inr, arith, zero, suc}
 use Rattle.std.proofs.lemmas.List.{length-map}
-use Rattle.std.specs.Prelude.{codes, Ok, Err, Result, unwrap_or}
+use Rattle.std.specs.Prelude.{codes, Ok, Err, Result, is_some, unwrap_or}
 use Rattle.std.specs.List.{list_all, slice_index_or}
 use Rattle.std.specs.Str.{bytes_eq}
 use Rattle.std.specs.Str.Parse.{ParsesUnsigned}
@@ -14,13 +14,14 @@ use Rattle.clap.specs.Simple.{App, app_of, has_simple_rules}
 use Rattle.clap.specs.Words.{Text}
 use Rattle.clap.specs.declared.builder.arg.Arg.{Arg}
 use Rattle.clap.specs.declared.builder.command.Command.{Command}
+use Rattle.clap.specs.declared.builder.command.Command.TheViews.{out-Command}
 use Rattle.clap.specs.declared.builder.value_parser.ValueParser.TheVariants.{Unsigned}
 use Rattle.clap.specs.declared.parser.matches.ArgMatches.{ArgMatches}
 use Rattle.clap.proofs.WalkLemmas.{both, one_text-rows}
-use Rattle.command_line.specs.Numbers.{NumberOption, States, number_of_text, number_rule}
+use Rattle.command_line.specs.Numbers.{NumberArgument, States, defaults_of, number_of_text, number_rule}
 use Rattle.command_line.specs.Inner.Found.{FindsInRange, FindsNumber, FindsText, IsExact}
 use Rattle.command_line.proofs.SimpleLemmas.{no_globals, plain_command, rule_at, set_option, wants_default}
-use Rattle.command_line.proofs.FoundLemmas.{default_found}
+use Rattle.command_line.proofs.FoundLemmas.{IsSetOption, default_found, required_found}
 
 -- of the rules, only the one at a place may have the id
 abbrev pub only_at : List Rule → ℕ → Text → Bool
@@ -32,14 +33,15 @@ only_at (rule ∷ rules) (suc place) id = not (bytes_eq rule.id id) && only_at r
 abbrev pub is_own_id : Text → Bool
 is_own_id id = not (is_empty id) && (not (bytes_eq id (codes "help")) && not (bytes_eq id (codes "version")))
 
--- the command is simple, and has the number option at a place
-pub record HasNumberOption (app : App) (place : ℕ) (option : NumberOption) : Type 0 where
+-- the command is simple, and has the argument at a place
+pub record HasNumberArgument (app : App) (place : ℕ) (argument : NumberArgument) : Type 0 where
   pub simple : has_simple_rules app.top ≡ true
+  pub negates : app.top.subcommand_negates_reqs ≡ false
   pub free : list_all (λ rule. rule.is_free) app.top.rules ≡ true
   pub below : place < length app.top.rules
-  pub at : (other : Rule) → slice_index_or app.top.rules place other ≡ number_rule option
-  pub only : only_at app.top.rules place option.id ≡ true
-  pub own : is_own_id option.id ≡ true
+  pub at : (other : Rule) → slice_index_or app.top.rules place other ≡ number_rule argument
+  pub only : only_at app.top.rules place argument.id ≡ true
+  pub own : is_own_id argument.id ≡ true
 
 not_both : (b : Bool) → not b ≡ true → b ≡ true → ⊥
 not_both true denied held = true≢false (sym denied)
@@ -77,10 +79,10 @@ module _ (c : Command) (m : ArgMatches) (app : App) (is : app_of c ≡ app) (par
   count : length (args_of c) ≡ length app.top.rules
   count = sym (length-map (args_of c) rule_of) ∙ ap length rules_are
 
-  -- a parse finds a number in its range for a number option
-  pub option_found : (place : ℕ) (option : NumberOption) → HasNumberOption app place option → FindsInRange (found_of m) option.id option.least option.most
+  -- a parse finds a number in its range for such an argument
+  pub argument_found : (place : ℕ) (argument : NumberArgument) → HasNumberArgument app place argument → FindsInRange (found_of m) argument.id argument.least argument.most
   unfolding FindsInRange
-  option_found place option has = go (args_of c) refl
+  argument_found place argument has = go (args_of c) refl
     where
       simple : has_simple_rules (app_of c).top ≡ true
       simple = ap (λ (a : App). has_simple_rules a.top) is ∙ has.simple
@@ -97,27 +99,39 @@ module _ (c : Command) (m : ArgMatches) (app : App) (is : app_of c ≡ app) (par
       at : (j : ℕ) (d : Arg) → rule_of (slice_index_or (args_of c) j d) ≡ slice_index_or app.top.rules j (rule_of d)
       at j d = rule_at (args_of c) j d ∙ ap (λ (rules : List Rule). slice_index_or rules j (rule_of d)) rules_are
 
-      here : (d : Arg) → rule_of (slice_index_or (args_of c) place d) ≡ number_rule option
+      here : (d : Arg) → rule_of (slice_index_or (args_of c) place d) ≡ number_rule argument
       here d = at place d ∙ has.at (rule_of d)
 
       alone : (d : Arg) (j : ℕ) (e : Arg) → j < length (args_of c)
           → bytes_eq (slice_index_or (args_of c) j e).id.now (slice_index_or (args_of c) place d).id.now ≡ true → j ≡ place
       alone d j e low same =
           let n = count in
-          let mine : (slice_index_or (args_of c) place d).id.now ≡ option.id = ap (λ (rule : Rule). rule.id) (here d) in
+          let mine : (slice_index_or (args_of c) place d).id.now ≡ argument.id = ap (λ (rule : Rule). rule.id) (here d) in
           let theirs : (slice_index_or (args_of c) j e).id.now ≡ (slice_index_or app.top.rules j (rule_of e)).id = ap (λ (rule : Rule). rule.id) (at j e) in
-          only_place app.top.rules place option.id j (rule_of e) has.only (omega arith) (rw (← theirs, ← mine) same)
+          only_place app.top.rules place argument.id j (rule_of e) has.only (omega arith) (rw (← theirs, ← mine) same)
 
-      states : (d : Arg) → FindsInRange (found_of m) option.id option.least option.most
+      negates : (out-Command c).subcommand_negates_reqs ≡ false
+      negates = ap (λ (a : App). a.top.subcommand_negates_reqs) is ∙ has.negates
+
+      takes_one : (d : Arg) → IsSetOption c place d (Unsigned argument.least argument.most)
+      takes_one d = set_option c place d (number_rule argument) (Unsigned argument.least argument.most) under simple (here d) refl refl refl (own_not_empty argument.id has.own)
+          (own_not_auto argument.id has.own) (alone d)
+
+      -- it has a default, or is required
+      text_there : (d : Arg) (default : Option Text) → argument.default ≡ default
+          → FindsText (found_of m) (slice_index_or (args_of c) place d).id.now (slice_index_or (args_of c) place d).ignore_case (Unsigned argument.least argument.most)
+      text_there d (Some digits) given = default_found c m parsed (plain_command c simple free) (no_globals c simple) place d (Unsigned argument.least argument.most) (takes_one d)
+          (wants_default c place d (number_rule argument) under simple (here d) (subst (λ (o : Option Text). 0 < length (defaults_of o)) (sym given) (omega arith)))
+      text_there d None none = required_found c m parsed (plain_command c simple free) (no_globals c simple) place d (Unsigned argument.least argument.most) (takes_one d)
+          negates (ap (λ (rule : Rule). rule.required) (here d) ∙ ap (λ (o : Option Text). not (is_some o)) none)
+
+      states : (d : Arg) → FindsInRange (found_of m) argument.id argument.least argument.most
       states d =
-          let got = default_found c m parsed (plain_command c simple free) (no_globals c simple) place d (Unsigned option.least option.most)
-          (set_option c place d (number_rule option) (Unsigned option.least option.most) under simple (here d) refl refl refl (own_not_empty option.id has.own)
-          (own_not_auto option.id has.own) (alone d))
-          (wants_default c place d (number_rule option) under simple (here d) (omega arith)) in
-          subst (λ (w : Text). FindsText (found_of m) w false (Unsigned option.least option.most)) (ap (λ (rule : Rule). rule.id) (here d))
-          (subst (λ (b : Bool). FindsText (found_of m) (slice_index_or (args_of c) place d).id.now b (Unsigned option.least option.most)) (ap (λ (rule : Rule). rule.ignore_case) (here d)) got)
+          subst (λ (w : Text). FindsText (found_of m) w false (Unsigned argument.least argument.most)) (ap (λ (rule : Rule). rule.id) (here d))
+          (subst (λ (b : Bool). FindsText (found_of m) (slice_index_or (args_of c) place d).id.now b (Unsigned argument.least argument.most)) (ap (λ (rule : Rule). rule.ignore_case) (here d))
+          (text_there d argument.default refl))
 
-      go : (args : List Arg) → args_of c ≡ args → FindsInRange (found_of m) option.id option.least option.most
+      go : (args : List Arg) → args_of c ≡ args → FindsInRange (found_of m) argument.id argument.least argument.most
       go [] none =
           let zero : length (args_of c) ≡ 0 = ap length none in
           let lt = under in
@@ -132,7 +146,7 @@ unsigned_reads : (E : Type 0) (G : List ℕ → Result ℕ E → Type 0) (k leas
 unsigned_reads E G k least most text None read only fits passed = absurd (only text (Err read.0) read.1 (passed.0, omega arith))
 unsigned_reads E G k least most text (Some v) read only fits passed = (ap (λ n. Some n) (only text (Ok v) read).1, passed.2, passed.3)
 
--- what a typed getter gives of an option is the number that the parse found, in the option's range
+-- what a typed getter gives of an argument is the number that the parse found, in the argument's range
 pub number_read : (E : Type 0) (G : List ℕ → Result ℕ E → Type 0) (least most : ℕ) (id : Text) (m : ArgMatches) (r : Option ℕ)
     → FindsInRange (found_of m) id least most
     → ((text : Text) → one_text (found_of m) id ≡ Some text → ReadsOne G text r)
