@@ -264,6 +264,94 @@ const FORMATTED: [Case; 2] = [
     },
 ];
 
+const COMPILED: [Case; 7] = [
+    Case {
+        words: &["turing"],
+        system: "machine 1\nstate F\nsymbol 0\nsymbol 1\nrule F 0 F 1 R\nrule F 1 F 0 R\ncells 3\n\
+             rows 5\nhead 0\ntape 1 0 1\nend\n",
+        behind: "",
+        status: Status::Done,
+        out: FLIPPER,
+        err: "",
+    },
+    Case {
+        words: &["turing"],
+        system: CHAIN,
+        behind: "",
+        status: Status::Text,
+        out: "",
+        err: "refused text line 1 NoHeader\n",
+    },
+    Case {
+        words: &["counter", "2", "0"],
+        system: "",
+        behind: "",
+        status: Status::Done,
+        out: SMALL_COUNTER,
+        err: "",
+    },
+    Case {
+        words: &["counter", "1", "0"],
+        system: "",
+        behind: "",
+        status: Status::Words,
+        out: "",
+        err: "refused words BitsOutOfRange\n",
+    },
+    Case {
+        words: &["counter", "2", "4"],
+        system: "",
+        behind: "",
+        status: Status::Words,
+        out: "",
+        err: "refused words StartTooLarge\n",
+    },
+    Case {
+        words: &["counter", "32", "0"],
+        system: "",
+        behind: "",
+        status: Status::Words,
+        out: "",
+        err: "refused words TooTall\n",
+    },
+    Case {
+        words: &["load", "0"],
+        system: "",
+        behind: "",
+        status: Status::Done,
+        out: "load 0 bits 2 start 3\ntiles 4\nclosed terminal\nunique yes\n",
+        err: "",
+    },
+];
+
+const TOLD: [Case; 3] = [
+    Case {
+        words: &["picture"],
+        system: MISMATCH,
+        behind: "place 0 0 S\nplace 2 0 D\n",
+        status: Status::Done,
+        out: "picture 3 2\nA S\nC D\n...\nA.C\n",
+        err: "",
+    },
+    Case {
+        words: &["report"],
+        system: SMALL_COUNTER,
+        behind: "",
+        status: Status::Done,
+        out: "{\"closed\":\"terminal\",\"glues\":14,\"height\":8,\"tau\":2,\"tiles\":16,\"types\":18,\
+             \"unique\":\"yes\",\"width\":2,\"won\":[15]}\n",
+        err: "",
+    },
+    Case {
+        words: &["report"],
+        system: RIVALS,
+        behind: "place 0 0 S\n",
+        status: Status::Text,
+        out: "",
+        err: "refused text line 10 AfterEnd\n",
+    },
+];
+
 const REFUSED_TEXTS: [Case; 9] = [
     Case {
         words: &["replay"],
@@ -501,6 +589,8 @@ fn answers_each_case(rt: HostRuntime) -> Result<(), Fail> {
     run_cases(&rt, rt.alloc(), &REPLAYED)?;
     run_cases(&rt, rt.alloc(), &SCHEDULED)?;
     run_cases(&rt, rt.alloc(), &FORMATTED)?;
+    run_cases(&rt, rt.alloc(), &COMPILED)?;
+    run_cases(&rt, rt.alloc(), &TOLD)?;
     run_cases(&rt, rt.alloc(), &REFUSED_TEXTS)?;
     run_cases(&rt, rt.alloc(), &REFUSED_WORDS)?;
     Ok(())

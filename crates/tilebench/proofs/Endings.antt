@@ -1,5 +1,5 @@
 -- How runs end.
-use Rattle.std.proofs.Common.{◌≡◌, ◌≢◌, ◌⊎◌, ◌≤◌, ℕ, Bool, true, false, List, Option, None, Result, Ok, Err, refl, sym, ap, subst, arith, inl, inr}
+use Rattle.std.proofs.Common.{◌≡◌, ◌≢◌, ◌⊎◌, ◌≤◌, ℕ, Bool, true, false, true≢false, ◌∙◌, List, Option, None, Result, Ok, Err, refl, sym, ap, subst, arith, inl, inr}
 use Rattle.tile_io.specs.declared.fault.TextFault.{TextFault}
 use Rattle.tile_io.specs.Faults.{Rose}
 use Rattle.site_table.specs.Seats.{GrownValue}
@@ -7,16 +7,17 @@ use Rattle.tilebench.specs.declared.status.Ran.{Ran}
 use Rattle.tilebench.specs.declared.status.Status.{Status}
 use Rattle.tilebench.specs.declared.status.Status.TheVariants as status
 use Rattle.tilebench.specs.declared.stop.Stop.{Stop}
-use Rattle.tilebench.specs.declared.stop.Stop.TheVariants.{Words, Text, ReadFault, NoMemory}
+use Rattle.tilebench.specs.declared.stop.Stop.TheVariants.{Words, Counter, Text, ReadFault, NoMemory}
 use Rattle.tilebench.specs.Gains.{Gains}
 use Rattle.tilebench.specs.Headline.{Ends}
-use Rattle.tilebench.specs.Refusals.{refused_text}
+use Rattle.counter_compile.specs.declared.stop.CounterStop.{CounterStop}
+use Rattle.tilebench.specs.Refusals.{refused_counter, refused_text}
 use Rattle.tilebench.specs.Statuses.{IsAnswered, answer_status}
-use Rattle.tilebench.specs.Inner.Gives.{GivesFromSource}
-use Rattle.tilebench.specs.Inputs.{FailsInput}
-use Rattle.tilebench.specs.Inner.Runs.{EndsCommand, IsFaultLine}
-use Rattle.tilebench.proofs.Sources.{held_or_faulty}
+use Rattle.tilebench.specs.Inputs.{AnswersUnread, FailsInput, HoldsInput}
+use Rattle.tilebench.specs.Inner.Gives.{GivesFromSource, GivesUnread}
+use Rattle.tilebench.specs.Inner.Runs.{EndsCommand, IsFaultLine, IsNumbersLine}
 use Rattle.tilebench.specs.Inner.Tells.{Tells, Writes, WritesAnswer}
+use Rattle.tilebench.proofs.Sources.{from_unread, held_or_faulty}
 
 -- the statuses of answers
 answered : (is_yes : Bool) → IsAnswered (answer_status is_yes)
@@ -62,12 +63,13 @@ module _ {S K E : Type 0} (read_faults : S → ℕ) (written : K → Option (Lis
     Ends-map status.NoMemory grown ends = ends
 
   -- the run of a command, by what it gave and what was told of that
-  module _ {A : Type 0} (positive : A → Bool) (text : A → List ℕ) (printable : A → Type 0) (Answer : Option GrownValue → Bool → List ℕ → Type 0) (Fails : TextFault → Type 0) where
+  module _ {A : Type 0} (positive : A → Bool) (text : A → List ℕ) (printable : A → Type 0) (Answer : Option GrownValue → Bool → List ℕ → Type 0) (Refuses : CounterStop → Type 0)
+      (Fails : TextFault → Type 0) where
     abbrev Ended : Status → Option GrownValue → Type 0
-    Ended = Ends read_faults written out_faults told err_faults Answer (IsFaultLine Fails) (λ text. ⊥) source after out out_after err err_after
+    Ended = Ends read_faults written out_faults told err_faults Answer (IsFaultLine Fails) (IsNumbersLine Refuses) source after out out_after err err_after
 
     abbrev Given : Result (A × Option GrownValue) Stop → Type 0
-    Given = GivesFromSource read_faults positive text printable Answer Fails source after
+    Given = GivesFromSource read_faults positive text printable Answer Refuses Fails source after
 
     abbrev Told : Result (A × Option GrownValue) Stop → Ran → Type 0
     Told = Tells positive text written out_faults told err_faults out out_after err err_after
@@ -84,6 +86,9 @@ module _ {S K E : Type 0} (read_faults : S → ℕ) (written : K → Option (Lis
     fault_line : (fault : TextFault) → Fails fault → IsFaultLine Fails (refused_text fault)
     fault_line fault fails = record { fault = fault; is = fails; told = refl }
 
+    numbers_line : (stop : CounterStop) → Refuses stop → IsNumbersLine Refuses (refused_counter stop)
+    numbers_line stop refuses = record { stop = stop; is = refuses; told = refl }
+
     pub run_ended : (result : Result (A × Option GrownValue) Stop) (ran : Ran) → Given result → Told result ran → Ended ran.status ran.grown
     run_ended (Ok found) ran given (inl (whole, handed), same) =
         ended_as ran (answer_status (positive found.0)) found.1 whole.is handed
@@ -97,6 +102,12 @@ module _ {S K E : Type 0} (read_faults : S → ℕ) (written : K → Option (Lis
     run_ended (Err (Text fault)) ran given (inr cut, none, same) =
         ended_as ran status.WriteFault None cut.is none
         (inr (record { text = refused_text fault; said = inl (fault_line fault given.0); front = cut.front; fault = cut.fault }, same), refl)
+    run_ended (Err (Counter stop)) ran given (inl whole, none, same) =
+        ended_as ran status.Words None whole.is none
+        ((record { text = refused_counter stop; said = numbers_line stop given.0; whole = whole.whole; quiet = whole.quiet }, same, given.1), refl)
+    run_ended (Err (Counter stop)) ran given (inr cut, none, same) =
+        ended_as ran status.WriteFault None cut.is none
+        (inr (record { text = refused_counter stop; said = inr (numbers_line stop given.0); front = cut.front; fault = cut.fault }, same), refl)
     run_ended (Err ReadFault) ran given ((is, same_err), none, same_out) = ended_as ran status.ReadFault None is none ((given, same_out, same_err), refl)
     run_ended (Err NoMemory) ran given ((is, same_err), none, same_out) = ended_as ran status.NoMemory None is none ((same_out, same_err), refl)
     run_ended (Err (Words stop)) ran given told = absurd given
@@ -104,6 +115,7 @@ module _ {S K E : Type 0} (read_faults : S → ℕ) (written : K → Option (Lis
     pub run_quiet : (result : Result (A × Option GrownValue) Stop) (ran : Ran) → Given result → Told result ran → ran.status ≢ status.ReadFault → read_faults after ≡ read_faults source
     run_quiet (Ok found) ran given told other = given.1
     run_quiet (Err (Text fault)) ran given told other = given.1
+    run_quiet (Err (Counter stop)) ran given told other = ap read_faults given.1
     run_quiet (Err ReadFault) ran given ((is, same_err), none, same_out) other = absurd (other is)
     run_quiet (Err NoMemory) ran given told other = given
     run_quiet (Err (Words stop)) ran given told other = absurd given
@@ -119,40 +131,75 @@ module _ {S K E : Type 0} (read_faults : S → ℕ) (written : K → Option (Lis
     pub run_err_later : (result : Result (A × Option GrownValue) Stop) (ran : Ran) → Given result → Told result ran → err_faults err ≤ err_faults err_after
     run_err_later (Ok found) ran given (writes, same) = let equal : err_faults err_after ≡ err_faults err = ap err_faults same in omega arith
     run_err_later (Err (Text fault)) ran given (writes, none, same) = written_later told err_faults err err_after status.Text ran.status (refused_text fault) writes
+    run_err_later (Err (Counter stop)) ran given (writes, none, same) = written_later told err_faults err err_after status.Words ran.status (refused_counter stop) writes
     run_err_later (Err ReadFault) ran given ((is, same_err), none, same_out) = let equal : err_faults err_after ≡ err_faults err = ap err_faults same_err in omega arith
     run_err_later (Err NoMemory) ran given ((is, same_err), none, same_out) = let equal : err_faults err_after ≡ err_faults err = ap err_faults same_err in omega arith
     run_err_later (Err (Words stop)) ran given told = absurd given
 
-    -- where nothing fails and the input has no fault, there is an answer, or no memory for it
-    pub run_complete : ((fault : TextFault) → Fails fault → ⊥) → ¬ Rose (read_faults source) (read_faults after) → ¬ Rose (out_faults out) (out_faults out_after) →
+    -- where nothing fails, the input has no fault and no numbers are refused, there is an answer, or no memory for it
+    pub run_complete : ((fault : TextFault) → Fails fault → ⊥) → ((stop : CounterStop) → ¬ Refuses stop) → ¬ Rose (read_faults source) (read_faults after) → ¬ Rose (out_faults out) (out_faults out_after) →
         ¬ Rose (err_faults err) (err_faults err_after) → (result : Result (A × Option GrownValue) Stop) (ran : Ran) → Given result → Told result ran →
         IsAnswered ran.status ⊎ (ran.status ≡ status.NoMemory)
-    run_complete faultless source_quiet out_quiet err_quiet (Ok found) ran given (inl (whole, handed), same) = inl (subst IsAnswered (sym whole.is) (answered (positive found.0)))
-    run_complete faultless source_quiet out_quiet err_quiet (Ok found) ran given (inr (cut, none), same) = absurd (out_quiet cut.fault)
-    run_complete faultless source_quiet out_quiet err_quiet (Err (Text fault)) ran given told = absurd (faultless fault given.0)
-    run_complete faultless source_quiet out_quiet err_quiet (Err ReadFault) ran given told = absurd (source_quiet given)
-    run_complete faultless source_quiet out_quiet err_quiet (Err NoMemory) ran given ((is, same_err), none, same_out) = inr is
-    run_complete faultless source_quiet out_quiet err_quiet (Err (Words stop)) ran given told = absurd given
+    run_complete faultless unrefused source_quiet out_quiet err_quiet (Ok found) ran given (inl (whole, handed), same) = inl (subst IsAnswered (sym whole.is) (answered (positive found.0)))
+    run_complete faultless unrefused source_quiet out_quiet err_quiet (Ok found) ran given (inr (cut, none), same) = absurd (out_quiet cut.fault)
+    run_complete faultless unrefused source_quiet out_quiet err_quiet (Err (Text fault)) ran given told = absurd (faultless fault given.0)
+    run_complete faultless unrefused source_quiet out_quiet err_quiet (Err (Counter stop)) ran given told = absurd (unrefused stop given.0)
+    run_complete faultless unrefused source_quiet out_quiet err_quiet (Err ReadFault) ran given told = absurd (source_quiet given)
+    run_complete faultless unrefused source_quiet out_quiet err_quiet (Err NoMemory) ran given ((is, same_err), none, same_out) = inr is
+    run_complete faultless unrefused source_quiet out_quiet err_quiet (Err (Words stop)) ran given told = absurd given
 
--- the run of a command that reads the input, by what it gave and what was told of that
+-- the run of a command, by what it gave and what was told of that
 module _ {S K E A : Type 0} (left : S → Option (List ℕ)) (read_faults : S → ℕ) (written : K → Option (List ℕ)) (out_faults : K → ℕ) (told : E → Option (List ℕ)) (err_faults : E → ℕ)
-    (positive : A → Bool) (text : A → List ℕ) (printable : A → Type 0) (Answers : Option GrownValue → Option (List ℕ) → Option (List ℕ) → Bool → List ℕ → Type 0)
-    (Takes : List ℕ → Type 0) (Fails : List ℕ → TextFault → Type 0) (one_of_two : (input : List ℕ) (fault : TextFault) → Takes input → Fails input fault → ⊥)
-    (source after : S) (out out_after : K) (err err_after : E) (result : Result (A × Option GrownValue) Stop) (ran : Ran) where
-  pub run_ends : GivesFromSource read_faults positive text printable (λ grown. Answers grown (left source) (left after)) (FailsInput Fails (left source) (left after)) source after result
-      → read_faults source ≤ read_faults after → Tells positive text written out_faults told err_faults out out_after err err_after result ran
-      → EndsCommand left read_faults written out_faults told err_faults Answers Takes (FailsInput Fails) source after out out_after err err_after ran
-  run_ends given later tells =
-      let answers : Option GrownValue → Bool → List ℕ → Type 0 = λ grown. Answers grown (left source) (left after) in
-      let fails : TextFault → Type 0 = FailsInput Fails (left source) (left after) in
-      record {
-        ends = run_ended read_faults written out_faults told err_faults source after out out_after err err_after positive text printable answers fails result ran given tells;
-        quiet = run_quiet read_faults written out_faults told err_faults source after out out_after err err_after positive text printable answers fails result ran given tells;
-        source_later = later;
-        out_later = run_out_later read_faults written out_faults told err_faults source after out out_after err err_after positive text printable answers fails result ran given tells;
-        err_later = run_err_later read_faults written out_faults told err_faults source after out out_after err err_after positive text printable answers fails result ran given tells;
-        complete = λ holds source_quiet out_quiet err_quiet.
-            run_complete read_faults written out_faults told err_faults source after out out_after err err_after positive text printable answers fails
-            (λ fault faulty. held_or_faulty Takes Fails one_of_two (left source) (left after) fault holds faulty)
-            source_quiet out_quiet err_quiet result ran given tells;
-      }
+    (positive : A → Bool) (text : A → List ℕ) (printable : A → Type 0) (out out_after : K) (err err_after : E) (result : Result (A × Option GrownValue) Stop) (ran : Ran)
+    (tells : Tells positive text written out_faults told err_faults out out_after err err_after result ran) where
+  module _ (reads : Bool) (Answers : Option GrownValue → Option (List ℕ) → Option (List ℕ) → Bool → List ℕ → Type 0) (Takes : Option (List ℕ) → Type 0) (Refuses : CounterStop → Type 0)
+      (Fails : Option (List ℕ) → Option (List ℕ) → TextFault → Type 0) (source after : S) where
+    -- what it gave is an answer to what is left, which has no fault where it is taken
+    ends_as : GivesFromSource read_faults positive text printable (λ grown. Answers grown (left source) (left after)) Refuses (Fails (left source) (left after)) source after result
+        → ((fault : TextFault) → Takes (left source) → Fails (left source) (left after) fault → ⊥) → (reads ≡ false → (after ≡ source) × (ran.status ≢ status.ReadFault))
+        → read_faults source ≤ read_faults after
+        → EndsCommand left read_faults written out_faults told err_faults reads Answers Takes Refuses Fails source after out out_after err err_after ran
+    ends_as given one_of_two unread later =
+        let answers : Option GrownValue → Bool → List ℕ → Type 0 = λ grown. Answers grown (left source) (left after) in
+        let fails : TextFault → Type 0 = Fails (left source) (left after) in
+        record {
+          ends = run_ended read_faults written out_faults told err_faults source after out out_after err err_after positive text printable answers Refuses fails result ran given tells;
+          unread = unread;
+          quiet = run_quiet read_faults written out_faults told err_faults source after out out_after err err_after positive text printable answers Refuses fails result ran given tells;
+          source_later = later;
+          out_later = run_out_later read_faults written out_faults told err_faults source after out out_after err err_after positive text printable answers Refuses fails result ran given tells;
+          err_later = run_err_later read_faults written out_faults told err_faults source after out out_after err err_after positive text printable answers Refuses fails result ran given tells;
+          complete = λ taken unrefused source_quiet out_quiet err_quiet.
+              run_complete read_faults written out_faults told err_faults source after out out_after err err_after positive text printable answers Refuses fails
+              (λ fault faulty. one_of_two fault taken faulty) unrefused source_quiet out_quiet err_quiet result ran given tells;
+        }
+
+  -- of a command that reads the input
+  pub run_ends : (Answers : Option GrownValue → Option (List ℕ) → Option (List ℕ) → Bool → List ℕ → Type 0) (Takes : List ℕ → Type 0) (Fails : List ℕ → TextFault → Type 0)
+      → ((input : List ℕ) (fault : TextFault) → Takes input → Fails input fault → ⊥) → (source after : S)
+      → GivesFromSource read_faults positive text printable (λ grown. Answers grown (left source) (left after)) (λ stop. ⊥) (FailsInput Fails (left source) (left after)) source after result
+      → read_faults source ≤ read_faults after
+      → EndsCommand left read_faults written out_faults told err_faults true Answers (HoldsInput Takes) (λ stop. ⊥) (FailsInput Fails) source after out out_after err err_after ran
+  run_ends Answers Takes Fails one_of_two source after given later =
+      ends_as true Answers (HoldsInput Takes) (λ stop. ⊥) (FailsInput Fails) source after given
+      (λ fault taken faulty. held_or_faulty Takes Fails one_of_two (left source) (left after) fault taken faulty) (λ never. absurd (true≢false never)) later
+
+  -- of one that does not
+  told_no_read_fault : (Answers : Option GrownValue → Bool → List ℕ → Type 0) (Refuses : CounterStop → Type 0) (r : Result (A × Option GrownValue) Stop)
+      → GivesUnread positive text printable Answers Refuses r → Tells positive text written out_faults told err_faults out out_after err err_after r ran → ran.status ≢ status.ReadFault
+  told_no_read_fault Answers Refuses (Ok found) given (inl (whole, handed), same) is = no_read_fault (positive found.0) (sym whole.is ∙ is)
+  told_no_read_fault Answers Refuses (Ok found) given (inr (cut, none), same) is = let e = cut.is in cc
+  told_no_read_fault Answers Refuses (Err (Counter stop)) given (inl whole, none, same) is = let e = whole.is in cc
+  told_no_read_fault Answers Refuses (Err (Counter stop)) given (inr cut, none, same) is = let e = cut.is in cc
+  told_no_read_fault Answers Refuses (Err NoMemory) given ((e, same_err), none, same_out) is = cc
+  told_no_read_fault Answers Refuses (Err (Words stop)) given t is = absurd given
+  told_no_read_fault Answers Refuses (Err (Text fault)) given t is = absurd given
+  told_no_read_fault Answers Refuses (Err ReadFault) given t is = absurd given
+
+  pub unread_ends : (Answers : Option GrownValue → Bool → List ℕ → Type 0) (Refuses : CounterStop → Type 0) (source : S) → GivesUnread positive text printable Answers Refuses result
+      → EndsCommand left read_faults written out_faults told err_faults false (λ grown. AnswersUnread (Answers grown)) (λ left. Unit {0}) Refuses (λ left left_after fault. ⊥) source source
+      out out_after err err_after ran
+  unread_ends Answers Refuses source given =
+      ends_as false (λ grown. AnswersUnread (Answers grown)) (λ left. Unit {0}) Refuses (λ left left_after fault. ⊥) source source
+      (from_unread read_faults positive text printable Answers Refuses (left source) source result given) (λ fault taken faulty. faulty)
+      (λ _. (refl, told_no_read_fault Answers Refuses result given tells)) (omega arith)

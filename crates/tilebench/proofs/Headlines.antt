@@ -41,7 +41,7 @@ unique_yes (Rival m t) positive = absurd (true≢false (sym positive))
 unique_yes (NotTerminal m t) positive = absurd (true≢false (sym positive))
 
 -- an outcome is that of each locally deterministic list in the box
-growth_of_deterministic : (sys : TileSystem) → HasDistinctSites sys.seeds → (tiles : List Place) (outcome : Outcome) → IsGrowth sys tiles outcome → (s : List Place) →
+pub growth_of_deterministic : (sys : TileSystem) → HasDistinctSites sys.seeds → (tiles : List Place) (outcome : Outcome) → IsGrowth sys tiles outcome → (s : List Place) →
     IsDeterministicInBox sys s → IsGrowth sys s outcome
 growth_of_deterministic sys seeds tiles outcome grown s found =
     let is = grown.outcome_is in

@@ -1,10 +1,12 @@
 pub mod Endings
 pub mod Growths
 pub mod Headlines
+pub mod Loads
 pub mod Orders
 pub mod Races
 pub mod ReadingBack
 pub mod Scheduling
 pub mod Sources
+pub mod Spelling
 pub mod Tops
 pub mod Writing

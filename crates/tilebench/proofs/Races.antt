@@ -1,5 +1,5 @@
 -- What workers win, one after another and together.
-use Rattle.std.proofs.Common.{◌≡◌, All, true, ◌∙◌, ◌<◌, ◌≤◌, ◌+◌, ◌-◌, ◌++◌, ℕ, zero, suc, List, [], ◌∷◌, length, drop, Some, refl, sym, ap, arith, inl, inr, add-one}
+use Rattle.std.proofs.Common.{◌≡◌, All, Bool, true, ◌∙◌, ◌<◌, ◌≤◌, ◌+◌, ◌-◌, ◌++◌, ℕ, zero, suc, List, [], ◌∷◌, length, drop, Some, refl, sym, ap, subst, arith, inl, inr, add-one}
 use Rattle.std.specs.Prelude.{slice_get, slice_index, sum, sum_by}
 use Rattle.std.proofs.lemmas.Bool.{cases_lt}
 use Rattle.std.proofs.lemmas.List.Sums.{sum_by-append, sum_by-cons}
@@ -9,8 +9,12 @@ use Rattle.atam.specs.TileSystem.{TileSystem}
 use Rattle.site_table.specs.Seats.{GrownValue}
 use Rattle.grow_workers.specs.Workers.{IsGrowth}
 use Rattle.tilebench.specs.declared.commands.race.Win.{Win}
-use Rattle.tilebench.specs.Commands.Race.{AreWins, IsRaceText, race_text, won_by}
+use Rattle.tilebench.specs.Commands.Race.{AreShares, AreWins, IsRaceText, race_text, won_by}
+use Rattle.tilebench.specs.declared.commands.grow.Growth.{Growth}
+use Rattle.tilebench.specs.Commands.Grow.{IsGrowth as IsGrown, is_unique}
+use Rattle.tilebench.specs.Commands.Report.{IsReportText, report_of}
 use Rattle.tilebench.specs.Inner.Races.{won_together}
+use Rattle.tilebench.specs.Inner.Rooms.{GrowsTo, outcome_of}
 use Rattle.tilebench.proofs.Growths.{producible_fits}
 
 -- an element before the last, and the last
@@ -89,13 +93,21 @@ won_in_all counts (suc j) many some few idle =
     let last : sum (drop (1 + (63 - j)) counts) ≡ sum (drop (64 - j) counts) = ap (λ (k : ℕ). sum (drop k counts)) at in
     omega (arith, wins, whole, past, last)
 
+-- the wins of all workers are the tiles but for the seeds
+pub shares_of : (workers : ℕ) (sys : TileSystem) (table : GrownValue) (wins : List Win) → 1 ≤ workers → workers ≤ 16 → IsGrowth sys workers table → AreWins workers table.won wins →
+    sum_by (λ (win : Win). win.count) wins ≡ won_together table.won workers → AreShares workers sys table wins
+shares_of workers sys table wins some few grew won together =
+    let sums = won_in_all table.won workers grew.numbers some few grew.idle in
+    let tiles = grew.total in
+    record { won = won; all = omega (arith, together, sums, tiles) }
+
 -- the wins of all workers are told by their text
 pub race_told : (workers : ℕ) (sys : TileSystem) (table : GrownValue) (area : BoxArea) (wins : List Win) (total : ℕ) → 1 ≤ workers → workers ≤ 16 → IsGrowth sys workers table →
     area ≡ sys.area → All (λ p. InBox area p.site) table.grid.tiles → AreWins workers table.won wins → sum_by (λ (win : Win). win.count) wins ≡ won_together table.won workers →
     total + length sys.seeds ≡ length table.grid.tiles → IsRaceText workers sys table true (race_text wins total)
 race_told workers sys table area wins total some few grew same inside won together all =
-    let sums = won_in_all table.won workers grew.numbers some few grew.idle in
-    let tiles = grew.total in
+    let shares = shares_of workers sys table wins some few grew won together in
+    let sums = shares.all in
     record {
       full = record {
         distinct = grew.distinct;
@@ -104,10 +116,22 @@ race_told workers sys table area wins total some few grew same inside won togeth
         closed = grew.closed;
       };
       wins = wins;
-      won = won;
+      shares = shares;
       total = total;
-      sum_is = omega (arith, together, sums, tiles, all);
-      all = all;
+      sum_is = omega (arith, sums, all);
       printed = refl;
       answer = refl;
     }
+
+-- the report of a growth tells what it grew into, and the wins of all workers
+pub report_told : (workers : ℕ) (sys : TileSystem) (table : GrownValue) (growth : Growth) (wins : List Win) (tiles : ℕ) (text : List ℕ) (is_yes : Bool) → 1 ≤ workers → workers ≤ 16 →
+    IsGrowth sys workers table → GrowsTo sys table.grid.tiles growth → AreWins workers table.won wins → sum_by (λ (win : Win). win.count) wins ≡ won_together table.won workers →
+    tiles ≡ length table.grid.tiles → text ≡ report_of growth.sys tiles (outcome_of growth) wins → is_yes ≡ is_unique growth.verdict → IsReportText workers sys table is_yes text
+report_told workers sys table growth wins tiles text is_yes some few grew grows won together count printed answer = record {
+  outcome = outcome_of growth;
+  grown = subst (λ (s : TileSystem). IsGrown s table.grid.tiles (outcome_of growth)) grows.same grows.grown;
+  wins = wins;
+  shares = shares_of workers sys table wins some few grew won together;
+  printed = printed ∙ ap (λ (s : TileSystem). report_of s tiles (outcome_of growth) wins) grows.same ∙ ap (λ (n : ℕ). report_of sys n (outcome_of growth) wins) count;
+  answer = answer;
+}

@@ -1,8 +1,8 @@
 -- From the run of a command, or a stop at the words, to the clauses of the top call.
-use Rattle.std.proofs.Common.{◌≡◌, ◌⊎◌, ◌≤◌, ◌∙◌, ℕ, Bool, true, false, List, Option, Some, None, Result, Err, refl, sym, ap, subst, arith, unwrap_or, inl, inr}
+use Rattle.std.proofs.Common.{◌≡◌, ◌≢◌, ◌⊎◌, ◌≤◌, ◌∙◌, ℕ, Bool, true, false, List, Option, Some, None, Result, Err, refl, sym, ap, subst, arith, unwrap_or, inl, inr}
 use Rattle.tile_io.specs.Faults.{Rose}
 use Rattle.command_line.specs.declared.commands.Command.{Command}
-use Rattle.command_line.specs.declared.commands.Command.TheVariants.{Grow}
+use Rattle.command_line.specs.declared.commands.Command.TheVariants.{Grow, Race, Report, Check, Replay, Schedule, Format, Turing, Picture, Counter, Load}
 use Rattle.command_line.specs.declared.commands.CommandName.{CommandName}
 use Rattle.command_line.specs.declared.words_stop.WordsStop.{WordsStop}
 use Rattle.command_line.specs.declared.words_stop.WordsStop.TheVariants.{NoCommand, Usage, NoMemory}
@@ -14,14 +14,16 @@ use Rattle.tilebench.specs.declared.status.Status.{Status}
 use Rattle.tilebench.specs.declared.status.Status.TheVariants as status
 use Rattle.tilebench.specs.Gains.{Gains}
 use Rattle.tilebench.specs.Headline.{Ends, IsAnswer, IsDue, IsHeadline, IsTextRefusal, IsWordsRefusal}
+use Rattle.counter_compile.specs.declared.stop.CounterStop.{CounterStop}
+use Rattle.counter_compile.specs.Counters.{counter_refusal}
 use Rattle.tilebench.specs.Inputs.{AnswersInput}
-use Rattle.tilebench.specs.Commands.{Answers, Fails, Takes}
+use Rattle.tilebench.specs.Commands.{Answers, Fails, RefusesNumbers, Takes, reads_input}
 use Rattle.tilebench.specs.Growing.{TellsGrowth}
 use Rattle.tilebench.specs.Commands.Grow.{IsGrowthText}
-use Rattle.tilebench.specs.Refusals.{IsRefusedAs, refused_words}
+use Rattle.tilebench.specs.Refusals.{IsReadingCall, IsRefusedAs, refused_words}
 use Rattle.tilebench.specs.Inner.Stops.{stop_of_words}
 use Rattle.tilebench.specs.Statuses.{IsAnswered, answer_status}
-use Rattle.tilebench.specs.Inner.Runs.{EndsCommand, IsFaultLine}
+use Rattle.tilebench.specs.Inner.Runs.{EndsCommand, IsFaultLine, IsNumbersLine}
 use Rattle.tilebench.specs.Inner.Tells.{Refuses, Writes}
 use Rattle.tilebench.proofs.Endings.{Ends-map, written_later}
 use Rattle.tilebench.proofs.Headlines.{headline}
@@ -36,6 +38,21 @@ headline_of workers grown left left_after is_yes text answer =
 same_name : (words : List (List ℕ)) (a b : CommandName) → command_named words ≡ Some a → command_named words ≡ Some b → a ≡ b
 same_name words a b is other = ap (λ (o : Option CommandName). unwrap_or o a) (sym is ∙ other)
 
+-- where no counter that the words call for is refused, the command that they call for refuses no numbers
+unrefused : (words : List (List ℕ)) → ((bits start : ℕ) → IsCallOf words (Counter bits start) → counter_refusal bits start ≡ None) → (command : Command) → IsCallOf words command →
+    (stop : CounterStop) → RefusesNumbers command stop → ⊥
+unrefused words accepted (Counter bits start) called stop refuses = let fine = accepted bits start called in cc
+unrefused words accepted (Grow workers choice) called stop refuses = refuses
+unrefused words accepted (Race workers choice) called stop refuses = refuses
+unrefused words accepted (Report workers choice) called stop refuses = refuses
+unrefused words accepted Check called stop refuses = refuses
+unrefused words accepted Replay called stop refuses = refuses
+unrefused words accepted Schedule called stop refuses = refuses
+unrefused words accepted Format called stop refuses = refuses
+unrefused words accepted Turing called stop refuses = refuses
+unrefused words accepted Picture called stop refuses = refuses
+unrefused words accepted (Load number) called stop refuses = refuses
+
 module _ {S K E : Type 0} (left : S → Option (List ℕ)) (read_faults : S → ℕ) (written : K → Option (List ℕ)) (out_faults : K → ℕ) (told : E → Option (List ℕ)) (err_faults : E → ℕ)
     (words : List (List ℕ)) (source after : S) (out out_after : K) (err err_after : E) where
   abbrev Ended : S → Status → Option GrownValue → Type 0
@@ -44,18 +61,20 @@ module _ {S K E : Type 0} (left : S → Option (List ℕ)) (read_faults : S → 
 
   -- where the words call for a command
   module _ (command : Command) (called : IsCallOf words command) (ran : Ran)
-      (run : EndsCommand left read_faults written out_faults told err_faults (Answers command) (Takes (name_of command)) (Fails (name_of command)) source after out out_after err err_after ran) where
+      (run : EndsCommand left read_faults written out_faults told err_faults (reads_input (name_of command)) (Answers command) (Takes (name_of command)) (RefusesNumbers command)
+      (Fails (name_of command)) source after out out_after err err_after ran) where
     pub call_ended : Ended after ran.status ran.grown
     call_ended =
         Ends-map read_faults written out_faults told err_faults source after out out_after err err_after
         (λ grown. Answers command grown (left source) (left after)) (IsAnswer words (left source) (left after))
-        (IsFaultLine (Fails (name_of command) (left source) (left after))) (IsTextRefusal words (left source) (left after)) (λ text. ⊥) (IsWordsRefusal words)
+        (IsFaultLine (Fails (name_of command) (left source) (left after))) (IsTextRefusal words (left source) (left after)) (IsNumbersLine (RefusesNumbers command)) (IsWordsRefusal words)
         (λ grown is_yes text answer. record { command = command; called = called; answer = answer })
         (λ text line. record { command = command; called = called; fault = line.fault; fails = line.is; told = line.told })
-        (λ text never. absurd never) ran.status ran.grown run.ends
+        (λ text line. inr (record { command = command; called = called; stop = line.stop; refuses = line.is; told = line.told })) ran.status ran.grown run.ends
 
     abbrev Run : Status → Type 0
-    Run s = Ends read_faults written out_faults told err_faults (λ grown. Answers command grown (left source) (left after)) (IsFaultLine (Fails (name_of command) (left source) (left after))) (λ text. ⊥)
+    Run s = Ends read_faults written out_faults told err_faults (λ grown. Answers command grown (left source) (left after)) (IsFaultLine (Fails (name_of command) (left source) (left after)))
+        (IsNumbersLine (RefusesNumbers command))
         source after out out_after err err_after s ran.grown
 
     pub call_grown : (workers choice : ℕ) (is_yes : Bool) → IsCallOf words (Grow workers choice) → ran.status ≡ answer_status is_yes →
@@ -85,8 +104,25 @@ module _ {S K E : Type 0} (left : S → Option (List ℕ)) (read_faults : S → 
         ¬ Rose (err_faults err) (err_faults err_after) → IsAnswered ran.status ⊎ (ran.status ≡ status.NoMemory)
     call_complete due source_quiet out_quiet err_quiet =
         let same = same_name words due.name (name_of command) due.taken.named called.named in
-        let Taken : CommandName → Type 0 = λ name. Takes name due.input in
-        run.complete (record { input = due.input; known = due.known; short = due.short; takes = subst Taken same due.takes }) source_quiet out_quiet err_quiet
+        let Taken : CommandName → Type 0 = λ name. Takes name (left source) in
+        run.complete (subst Taken same due.takes) (unrefused words due.accepted command called) source_quiet out_quiet err_quiet
+
+    -- a command that does not read leaves the source as it was
+    call_reads : ((after ≡ source) × (ran.status ≢ status.ReadFault)) ⊎ IsReadingCall words
+    call_reads = go (reads_input (name_of command)) refl
+      where
+        go : (reads : Bool) → reads_input (name_of command) ≡ reads → ((after ≡ source) × (ran.status ≢ status.ReadFault)) ⊎ IsReadingCall words
+        go true is = inr (command, called, is)
+        go false is = inl (run.unread is)
+
+    pub call_unread : ¬ IsReadingCall words → after ≡ source
+    call_unread unread = elim call_reads [ inl stays ↦ stays.0 | inr reading ↦ absurd (unread reading) ]
+
+    pub call_read_fault : ran.status ≡ status.ReadFault → IsReadingCall words
+    call_read_fault fault = elim call_reads [ inl stays ↦ absurd (stays.1 fault) | inr reading ↦ reading ]
+
+    pub call_no_memory : (after ≡ source) ⊎ IsReadingCall words
+    call_no_memory = elim call_reads [ inl stays ↦ inl stays.0 | inr reading ↦ inr reading ]
 
   -- where they are refused, or memory is wanting while they are read
   abbrev Unanswered : Status → Type 0
@@ -95,10 +131,10 @@ module _ {S K E : Type 0} (left : S → Option (List ℕ)) (read_faults : S → 
   words_ended : (stop : WordsStop) → IsRefusedAs words stop → (s : Status) → Writes told err_faults err err_after status.Words s (refused_words stop) → out_after ≡ out → Ended source s None
   words_ended stop refused s (inl whole) same =
       subst Unanswered (sym whole.is)
-      ((record { text = refused_words stop; said = record { stop = stop; refused = refused; told = refl }; whole = whole.whole; quiet = whole.quiet }, same, refl), refl)
+      ((record { text = refused_words stop; said = inl (record { stop = stop; refused = refused; told = refl }); whole = whole.whole; quiet = whole.quiet }, same, refl), refl)
   words_ended stop refused s (inr cut) same =
       subst Unanswered (sym cut.is)
-      (inr (record { text = refused_words stop; said = inr (record { stop = stop; refused = refused; told = refl }); front = cut.front; fault = cut.fault }, same), refl)
+      (inr (record { text = refused_words stop; said = inr (inl (record { stop = stop; refused = refused; told = refl })); front = cut.front; fault = cut.fault }, same), refl)
 
   pub stop_ended : (stop : WordsStop) → (stop ≡ NoCommand → command_named words ≡ None) → (stop ≡ Usage → IsUsage words) → (s : Status) →
       Refuses told err_faults err err_after (stop_of_words stop) s → out_after ≡ out → Ended source s None

@@ -1,8 +1,8 @@
 -- What the top call promises.
-use Rattle.std.specs.Prelude.{◌≡◌, ◌↔◌, ◌⊎◌, ◌≤◌, ◌++◌, ℕ, Bool, true, false, List, length, Option, Some, None}
+use Rattle.std.specs.Prelude.{◌≡◌, ◌↔◌, ◌⊎◌, ◌++◌, ℕ, Bool, true, false, List, Option, None}
 use Rattle.tilebench.specs.declared.status.Status.TheVariants.{Done, No, Words, Text, ReadFault, WriteFault, NoMemory}
-use Rattle.tilebench.specs.Terms.{Command, CommandName, WordsStop, IsCallOf, IsTaken, IsRefusedAs, name_of, refused_words}
-use Rattle.tilebench.specs.Terms.{Status, TextFault, MOST_INPUT, Rose, Gains, GainsFront, Answers, Fails, Takes, refused_text}
+use Rattle.tilebench.specs.Terms.{Command, CommandName, Counter, CounterStop, WordsStop, IsCallOf, IsTaken, IsRefusedAs, RefusesNumbers, counter_refusal, name_of, refused_counter, refused_words}
+use Rattle.tilebench.specs.Terms.{Status, TextFault, Rose, Gains, GainsFront, Answers, Fails, Takes, refused_text}
 use Rattle.tilebench.specs.Terms.{GrownValue, Outcome, IsOutcome, IsSystemThenSequence, spelling, Place, TileSystem, IsSystemAlone, IsGrowth, IsLegal, SamePlacements, growth_text}
 use Rattle.tilebench.specs.Terms.{IsClosedInBox, IsLeastOpenOutside, IsLocallyDeterministic, IsDeterministicInBox, IsDeterministicInSomeOrder, GrowsInto}
 
@@ -12,11 +12,22 @@ pub record IsAnswer (words : List (List ℕ)) (left left_after : Option (List �
   pub called : IsCallOf words command
   pub answer : Answers command grown left left_after is_yes text
 
--- A refusal of the words: the first names no command, or clap finds a fault in the list and does not promise to take it.
-pub record IsWordsRefusal (words : List (List ℕ)) (text : List ℕ) : Type 0 where
+-- A refusal of the list of words: the first names no command, or clap finds a fault in the list and does not promise to take it.
+pub record IsListRefusal (words : List (List ℕ)) (text : List ℕ) : Type 0 where
   pub stop : WordsStop
   pub refused : IsRefusedAs words stop
   pub told : text ≡ refused_words stop
+
+-- A refusal of the numbers among the words: these call for a command that refuses them.
+pub record IsNumbersRefusal (words : List (List ℕ)) (text : List ℕ) : Type 0 where
+  pub command : Command
+  pub called : IsCallOf words command
+  pub stop : CounterStop
+  pub refuses : RefusesNumbers command stop
+  pub told : text ≡ refused_counter stop
+
+abbrev pub IsWordsRefusal : List (List ℕ) → List ℕ → Type 0
+IsWordsRefusal words text = IsListRefusal words text ⊎ IsNumbersRefusal words text
 
 -- A refusal of the input: the words call for a command, and this is the first fault of what was left of the source.
 pub record IsTextRefusal (words : List (List ℕ)) (left left_after : Option (List ℕ)) (text : List ℕ) : Type 0 where
@@ -45,14 +56,13 @@ module _ {S K E : Type 0} (read_faults : S → ℕ) (written : K → Option (Lis
   Ends No grown = Gains written out_faults (Answer grown false) out out_after × (err_after ≡ err)
   Ends status grown = EndsUnanswered status × (grown ≡ None)
 
--- An answer is due: clap promises to take the words, and what is left of the source is known, short, and an input that the command takes.
+-- An answer is due: clap promises to take the words, a counter that they call for is not refused, and what is left of the source is taken by a command that reads it: it is known, short,
+-- and reads as the command's input.
 pub record IsDue (words : List (List ℕ)) (left : Option (List ℕ)) : Type 0 where
   pub name : CommandName
   pub taken : IsTaken words name
-  pub input : List ℕ
-  pub known : left ≡ Some input
-  pub short : length input ≤ MOST_INPUT
-  pub takes : Takes name input
+  pub accepted : (bits start : ℕ) → IsCallOf words (Counter bits start) → counter_refusal bits start ≡ None
+  pub takes : Takes name left
 
 -- The growth answer: the input is the text of one system, and the text is that of a growth of it, of which this holds.
 pub record IsHeadline (input : List ℕ) (is_yes : Bool) (text : List ℕ) : Type 0 where

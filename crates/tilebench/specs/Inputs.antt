@@ -1,5 +1,5 @@
 -- The input of a command, and its faults.
-use Rattle.std.specs.Prelude.{◌≡◌, ◌⊎◌, ◌<◌, ◌≤◌, ℕ, Bool, List, length, Option}
+use Rattle.std.specs.Prelude.{◌≡◌, ◌⊎◌, ◌<◌, ◌≤◌, ℕ, Bool, List, length, Option, Some}
 use Rattle.std.specs.Io.KnownBytes.{Consumes, IsAtEnd}
 use Rattle.tile_io.specs.declared.fault.Cause.TheVariants.{TooLong}
 use Rattle.tile_io.specs.declared.fault.TextFault.{TextFault}
@@ -10,34 +10,57 @@ use Rattle.tile_io.specs.Formats.{Format, Fault, IsRead}
 use Rattle.tile_io.specs.Rest.{HasNoMore}
 use Rattle.atam.specs.TileSystem.{TileSystem}
 use Rattle.tile_text.specs.SystemText.{ReadsSystem, system_format}
+use Rattle.machine_text.specs.Machines.{TuringMachine}
+use Rattle.machine_text.specs.MachineText.{ReadsMachine, machine_format}
 
 -- the start of an input
 abbrev pub first_mark : Mark
 first_mark = record { at = 0; line = 1 }
 
--- the input is the text of this system, and then what may stand behind it
-pub record IsSystemThen (IsRest : TileSystem → Mark → Type 0) (input : List ℕ) (sys : TileSystem) : Type 0 where
+-- the input is the text of this value, as its kind of text is read, and then what may stand behind it
+pub record IsTextThen {Value : Type 0} (IsText : List ℕ → Mark → Value → Mark → Type 0) (IsRest : Value → Mark → Type 0) (input : List ℕ) (value : Value) : Type 0 where
   pub end : Mark
-  pub reads : ReadsSystem input first_mark sys end
-  pub rest : IsRest sys end
+  pub reads : IsText input first_mark value end
+  pub rest : IsRest value end
 
--- the input is the text of this system, and only empty lines and remarks follow it
+abbrev pub IsSystemThen : (TileSystem → Mark → Type 0) → List ℕ → TileSystem → Type 0
+IsSystemThen IsRest input sys = IsTextThen ReadsSystem IsRest input sys
+
+-- the input is the text of this system, or of this machine, and only empty lines and remarks follow it
 abbrev pub IsSystemAlone : List ℕ → TileSystem → Type 0
 IsSystemAlone input sys = IsSystemThen (λ sys end. HasNoMore input end) input sys
 
-module _ {Item : Type 0} (format : TileSystem → Format Item) (input : List ℕ) where
-  -- the input is the text of some system, and then one of this format
-  abbrev pub IsReadable : Type 0
-  IsReadable = (sys : TileSystem) × IsSystemThen (λ sys end. IsRead (format sys) input end) input sys
+abbrev pub IsMachineAlone : List ℕ → TuringMachine → Type 0
+IsMachineAlone input M = IsTextThen ReadsMachine (λ M end. HasNoMore input end) input M
 
-  -- the text of a system, or what follows it, has this first fault
-  abbrev pub FailsWithin : TextFault → Type 0
-  FailsWithin fault = Fault system_format input first_mark fault.line fault.cause
-      ⊎ ((sys : TileSystem) × IsSystemThen (λ sys end. Fault (format sys) input end fault.line fault.cause) input sys)
+-- of a kind of text whose format is `front`, followed by a text of another format
+module _ {Value Front Item : Type 0} (IsText : List ℕ → Mark → Value → Mark → Type 0) (front : Format Front) (format : Value → Format Item) (input : List ℕ) where
+  -- the input is the text of some value, and then one of this format
+  abbrev pub IsReadableAs : Type 0
+  IsReadableAs = (value : Value) × IsTextThen IsText (λ value end. IsRead (format value) input end) input value
 
--- what follows the system where nothing may
-abbrev pub alone : TileSystem → Format ⊥
-alone sys = nothing_more
+  -- the text of a value, or what follows it, has this first fault
+  abbrev pub FailsWithinAs : TextFault → Type 0
+  FailsWithinAs fault = Fault front input first_mark fault.line fault.cause
+      ⊎ ((value : Value) × IsTextThen IsText (λ value end. Fault (format value) input end fault.line fault.cause) input value)
+
+-- of the text of a system
+abbrev pub IsReadable : {Item : Type 0} → (TileSystem → Format Item) → List ℕ → Type 0
+IsReadable format input = IsReadableAs ReadsSystem system_format format input
+
+abbrev pub FailsWithin : {Item : Type 0} → (TileSystem → Format Item) → List ℕ → TextFault → Type 0
+FailsWithin format input fault = FailsWithinAs ReadsSystem system_format format input fault
+
+-- of the text of a machine
+abbrev pub IsReadableMachine : {Item : Type 0} → (TuringMachine → Format Item) → List ℕ → Type 0
+IsReadableMachine format input = IsReadableAs ReadsMachine machine_format format input
+
+abbrev pub FailsWithinMachine : {Item : Type 0} → (TuringMachine → Format Item) → List ℕ → TextFault → Type 0
+FailsWithinMachine format input fault = FailsWithinAs ReadsMachine machine_format format input fault
+
+-- what follows where nothing may
+abbrev pub alone : {Value : Type 0} → Value → Format ⊥
+alone value = nothing_more
 
 -- the source was read to its end, and held this
 pub record IsWholeInput (left left_after : Option (List ℕ)) (input : List ℕ) : Type 0 where
@@ -66,3 +89,15 @@ pub record IsTooLong (left left_after : Option (List ℕ)) (fault : TextFault) :
 
 abbrev pub FailsInput : (List ℕ → TextFault → Type 0) → Option (List ℕ) → Option (List ℕ) → TextFault → Type 0
 FailsInput Fails left left_after fault = IsTooLong left left_after fault ⊎ HasFault Fails left left_after fault
+
+-- what is left is known, short, and an input that is taken
+pub record HoldsInput (Takes : List ℕ → Type 0) (left : Option (List ℕ)) : Type 0 where
+  pub input : List ℕ
+  pub known : left ≡ Some input
+  pub short : length input ≤ MOST_INPUT
+  pub takes : Takes input
+
+-- an answer for which nothing is read
+pub record AnswersUnread (Answers : Bool → List ℕ → Type 0) (left left_after : Option (List ℕ)) (is_yes : Bool) (text : List ℕ) : Type 0 where
+  pub unread : left_after ≡ left
+  pub answer : Answers is_yes text

@@ -5,5 +5,6 @@ pub mod Headline
 pub mod Inner
 pub mod Inputs
 pub mod Refusals
+pub mod Spelled
 pub mod Statuses
 pub mod Terms

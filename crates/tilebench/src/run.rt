@@ -1,10 +1,10 @@
 // The runs of commands that read the whole input.
-ghost use Rattle.std.specs.Prelude.{◌≡◌, ◌≤◌, length, IfOk};
+ghost use Rattle.std.specs.Prelude.{◌≡◌, ◌≤◌, true, length, IfOk};
 ghost use Rattle.tile_io.specs.declared.limits.TheConstants.{MOST_INPUT};
 ghost use Rattle.tilebench.specs.Growing.{TellsGrowth, TellsNoGrowth};
 ghost use Rattle.tilebench.specs.Inner.Gives.{GivesFromSource, GivesGrowth};
 ghost use Rattle.tilebench.specs.Inner.Runs.{EndsCommand};
-ghost use Rattle.tilebench.specs.Inputs.{AnswersInput, FailsInput, FailsWithin, IsReadable, alone};
+ghost use Rattle.tilebench.specs.Inputs.{AnswersInput, FailsInput, FailsWithin, HoldsInput, IsReadable, alone};
 
 use crate::input::read_alone;
 use crate::room::{GrowthRoom, Room};
@@ -25,9 +25,9 @@ pub fn run<C: Room, S: Source, K: Sink, E: Sink>(
     out: &mut K,
     err: &mut E,
 ) -> Ran
-    ensures { EndsCommand S.left S.faults K.written K.faults E.written E.faults
+    ensures { EndsCommand S.left S.faults K.written K.faults E.written E.faults true
         (λ grown. AnswersInput (TellsNoGrowth (C.answers room.now) grown))
-        (C.takes room.now) (FailsInput (C.fails room.now))
+        (HoldsInput (C.takes room.now)) (λ stop. ⊥) (FailsInput (C.fails room.now))
         source.old source.new out.old out.new err.old err.new result }
 {
     tell(answer_to(alloc, room, source), out, err)
@@ -41,7 +41,7 @@ fn answer_to<C: Room, S: Source>(
 ) -> Result<(C::Answer, Option<Grown>), Stop>
     ensures answer { GivesFromSource S.faults C.Answer.yes C.Answer.text C.Answer.printable
         (λ grown. AnswersInput (TellsNoGrowth (C.answers room.now) grown)
-        (S.left source.old) (S.left source.new))
+        (S.left source.old) (S.left source.new)) (λ stop. ⊥)
         (FailsInput (C.fails room.now) (S.left source.old) (S.left source.new))
         source.old source.new result }
     ensures later { S.faults source.old ≤ S.faults source.new }
@@ -83,9 +83,9 @@ pub fn run_growth<R: Threads + Sync, C: GrowthRoom, S: Source, K: Sink, E: Sink,
 ) -> Ran
     requires some { 1 ≤ workers }
     requires few { workers ≤ 16 }
-    ensures { EndsCommand S.left S.faults K.written K.faults E.written E.faults
+    ensures { EndsCommand S.left S.faults K.written K.faults E.written E.faults true
         (λ grown. AnswersInput (TellsGrowth (C.tells workers) workers grown))
-        (IsReadable alone) (FailsInput (FailsWithin alone))
+        (HoldsInput (IsReadable alone)) (λ stop. ⊥) (FailsInput (FailsWithin alone))
         source.old source.new out.old out.new err.old err.new result }
 {
     let answer = growth_from(rt, alloc, room, workers, choice, source, gate);
@@ -106,7 +106,7 @@ fn growth_from<R: Threads + Sync, C: GrowthRoom, S: Source, G: Gate>(
     requires few { workers ≤ 16 }
     ensures answer { GivesFromSource S.faults C.Answer.yes C.Answer.text C.Answer.printable
         (λ grown. AnswersInput (TellsGrowth (C.tells workers) workers grown)
-        (S.left source.old) (S.left source.new))
+        (S.left source.old) (S.left source.new)) (λ stop. ⊥)
         (FailsInput (FailsWithin alone) (S.left source.old) (S.left source.new))
         source.old source.new result }
     ensures later { S.faults source.old ≤ S.faults source.new }

@@ -1,6 +1,7 @@
 // Why there is no answer.
 use crate::status::Status;
 use command_line::WordsStop;
+use counter_compile::CounterStop;
 use thiserror::Error;
 use tile_io::{Cause, ReadStop, TextFault, TextStop};
 use tile_system::NoMemory;
@@ -10,6 +11,8 @@ use tile_system::NoMemory;
 pub enum Stop {
     #[error("the words were refused")]
     Words(WordsStop),
+    #[error("the numbers among the words were refused")]
+    Counter(CounterStop),
     #[error("the input was refused")]
     Text(TextFault),
     #[error("the source failed")]
@@ -27,7 +30,7 @@ impl Stop {
         ensures { result ≡ status_of self }
     {
         match self {
-            Stop::Words(_) => Status::Words,
+            Stop::Words(_) | Stop::Counter(_) => Status::Words,
             Stop::Text(_) => Status::Text,
             Stop::ReadFault => Status::ReadFault,
             Stop::NoMemory => Status::NoMemory,
@@ -45,6 +48,20 @@ impl From<WordsStop> for Stop {
         match words {
             WordsStop::NoMemory => Stop::NoMemory,
             refusal => Stop::Words(refusal),
+        }
+    }
+}
+
+impl From<CounterStop> for Stop {
+    ghost use Rattle.std.specs.Prelude.{◌≡◌};
+    ghost use Rattle.tilebench.specs.Inner.Stops.{stop_of_counter};
+
+    ghost from_gives = { λ counter stop. stop ≡ stop_of_counter counter };
+
+    fn from(counter: CounterStop) -> Stop {
+        match counter {
+            CounterStop::NoMemory => Stop::NoMemory,
+            refusal => Stop::Counter(refusal),
         }
     }
 }

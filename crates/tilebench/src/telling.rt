@@ -2,13 +2,14 @@
 ghost use Rattle.std.specs.Prelude.{◌≡◌, IfOk};
 ghost use Rattle.tile_io.specs.Prints.{Prints};
 ghost use Rattle.tilebench.specs.Inner.Tells.{Tells, Refuses, WritesAnswer, written_status};
-ghost use Rattle.tilebench.specs.Refusals.{refused_text, refused_words};
+ghost use Rattle.tilebench.specs.Refusals.{counter_stop_name, refused_counter, refused_text, refused_words};
 ghost use Rattle.tilebench.specs.Statuses.{answer_status};
 
 use crate::room::Reply;
 use crate::status::{Ran, Status};
 use crate::stop::Stop;
 use command_line::WordsStop;
+use counter_compile::CounterStop;
 use itoa::Buffer;
 use site_table::Grown;
 use tile_io::{Failed, Sink, TextFault, print_line};
@@ -61,6 +62,7 @@ pub fn refuse<E: Sink>(stop: Stop, err: &mut E) -> Status
 {
     match stop {
         Stop::Words(words) => written(print_words_stop(words, err), stop.status()),
+        Stop::Counter(counter) => written(print_counter_stop(counter, err), stop.status()),
         Stop::Text(fault) => written(print_fault(fault, err), stop.status()),
         Stop::ReadFault | Stop::NoMemory => stop.status(),
     }
@@ -71,6 +73,29 @@ fn print_words_stop<E: Sink>(stop: WordsStop, err: &mut E) -> Result<(), Failed>
     ensures { Prints E.written E.faults err.old err.new result (refused_words stop) }
 {
     print_line(err, b"refused", &[b"words", stop.name().as_bytes()])
+}
+
+// The line of a refusal of a counter's numbers.
+fn print_counter_stop<E: Sink>(stop: CounterStop, err: &mut E) -> Result<(), Failed>
+    ensures { Prints E.written E.faults err.old err.new result (refused_counter stop) }
+{
+    print_line(
+        err,
+        b"refused",
+        &[b"words", counter_stop_name(stop).as_bytes()],
+    )
+}
+
+// How the program calls a refusal of a counter's numbers.
+fn counter_stop_name(stop: CounterStop) -> &'static str
+    ensures { result.now ≡ counter_stop_name stop }
+{
+    match stop {
+        CounterStop::BitsOutOfRange => "BitsOutOfRange",
+        CounterStop::StartTooLarge => "StartTooLarge",
+        CounterStop::TooTall => "TooTall",
+        CounterStop::NoMemory => "NoMemory",
+    }
 }
 
 // The line of a fault of the input.

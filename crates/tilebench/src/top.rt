@@ -6,7 +6,7 @@ ghost use Rattle.command_line.specs.Commands.{IsCallOf, command_named};
 ghost use Rattle.tilebench.specs.Gains.{Gains};
 ghost use Rattle.tilebench.specs.Headline.{Ends, IsAnswer, IsDue, IsHeadline, IsTextRefusal, IsWordsRefusal};
 ghost use Rattle.tilebench.specs.Inputs.{AnswersInput};
-ghost use Rattle.tilebench.specs.Refusals.{IsCall};
+ghost use Rattle.tilebench.specs.Refusals.{IsReadingCall};
 ghost use Rattle.tilebench.specs.Statuses.{IsAnswered, answer_status};
 
 use crate::commands::run_command;
@@ -45,12 +45,13 @@ pub fn tilebench<R: Threads + Sync, S: Source, K: Sink, E: Sink, G: Gate>(
         → Gains K.written K.faults
         (AnswersInput IsHeadline (S.left source.old) (S.left source.new) is_yes) out.old out.new }
 
-    // Words that are no call leave the source as it was, and so does want of memory while they are
-    // read.
-    ensures unread { ¬ IsCall (map string_bytes words.now) → source.new ≡ source.old }
-    ensures read_fault { result.status ≡ Status.ReadFault → IsCall (map string_bytes words.now) }
+    // Words that call for no command that reads leave the source as it was, and so does want of
+    // memory while they are read.
+    ensures unread { ¬ IsReadingCall (map string_bytes words.now) → source.new ≡ source.old }
+    ensures read_fault { result.status ≡ Status.ReadFault
+        → IsReadingCall (map string_bytes words.now) }
     ensures no_memory { result.status ≡ Status.NoMemory
-        → (source.new ≡ source.old) ⊎ IsCall (map string_bytes words.now) }
+        → (source.new ≡ source.old) ⊎ IsReadingCall (map string_bytes words.now) }
     ensures no_command { command_named (map string_bytes words.now) ≡ None
         → (result.status ≡ Status.Words) ⊎ (result.status ≡ Status.WriteFault) }
 
@@ -59,7 +60,7 @@ pub fn tilebench<R: Threads + Sync, S: Source, K: Sink, E: Sink, G: Gate>(
         × (K.faults out.old ≤ K.faults out.new) × (E.faults err.old ≤ E.faults err.new) }
     ensures quiet { result.status ≢ Status.ReadFault → S.faults source.new ≡ S.faults source.old }
 
-    // Where the words and the input are in order and nothing fails, there is an answer, or no
+    // Where the words, their numbers and the input are in order and nothing fails, there is an answer, or no
     // memory for it.
     ensures complete { IsDue (map string_bytes words.now) (S.left source.old)
         → ¬ Rose (S.faults source.old) (S.faults source.new)

@@ -1,12 +1,12 @@
 -- What `format` answers.
 use Rattle.std.specs.Prelude.{◌≡◌, ℕ, Bool, true, List}
 use Rattle.atam.specs.TileSystem.{TileSystem}
-use Rattle.tile_text.specs.Spelling.{spelling}
 use Rattle.tilebench.specs.Inputs.{IsSystemAlone}
+use Rattle.tilebench.specs.Spelled.{SpellsSystem}
 
 -- the input is the text of one system, and this its one spelling
 pub record IsFormatAnswer (input : List ℕ) (is_yes : Bool) (text : List ℕ) : Type 0 where
   pub sys : TileSystem
   pub read : IsSystemAlone input sys
-  pub printed : text ≡ spelling sys
+  pub spelled : SpellsSystem sys text
   pub answer : is_yes ≡ true

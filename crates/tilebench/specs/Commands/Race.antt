@@ -26,13 +26,17 @@ total_line total = line_of (codes "total" ∷ decimal total ∷ [])
 abbrev pub race_text : List Win → ℕ → List ℕ
 race_text wins total = flat_map win_line wins ++ total_line total
 
--- this is the text of what each worker won, which are the counts of the closed table; together they are the tiles but for the seeds
+-- each worker in turn, with what it won, which is its count of the closed table; together they won the tiles but for the seeds
+pub record AreShares (workers : ℕ) (sys : TileSystem) (table : GrownValue) (wins : List Win) : Type 0 where
+  pub won : AreWins workers table.won wins
+  pub all : sum_by (λ win. win.count) wins + length sys.seeds ≡ length table.grid.tiles
+
+-- this is the text of what each worker won
 pub record IsRaceText (workers : ℕ) (sys : TileSystem) (table : GrownValue) (is_yes : Bool) (text : List ℕ) : Type 0 where
   pub full : IsFullGrowth sys table.grid.tiles
   pub wins : List Win
-  pub won : AreWins workers table.won wins
+  pub shares : AreShares workers sys table wins
   pub total : ℕ
   pub sum_is : sum_by (λ win. win.count) wins ≡ total
-  pub all : total + length sys.seeds ≡ length table.grid.tiles
   pub printed : text ≡ race_text wins total
   pub answer : is_yes ≡ true

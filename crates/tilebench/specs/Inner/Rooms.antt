@@ -1,5 +1,5 @@
 -- What the rooms of the commands hand from one step to the next: outcomes that can be printed.
-use Rattle.std.specs.Prelude.{◌≡◌, List, All, IfSome}
+use Rattle.std.specs.Prelude.{◌≡◌, ℕ, List, [], ◌∷◌, string_bytes, All, IfSome}
 use Rattle.atam.specs.declared.place.Place.{Place}
 use Rattle.atam.specs.TileSystem.{TileSystem, IsType}
 use Rattle.grow_core.specs.declared.event.Event.{Event}
@@ -12,7 +12,11 @@ use Rattle.tilebench.specs.declared.commands.grow.Growth.{Growth}
 use Rattle.tilebench.specs.declared.commands.replay.Reordering.{Reordering}
 use Rattle.tilebench.specs.declared.commands.replay.Reordering.TheVariants.{Whole}
 use Rattle.tilebench.specs.declared.commands.schedule.Scheduled.{Scheduled}
-use Rattle.tilebench.specs.Commands.Grow.{IsGrowth}
+use Rattle.tile_io.specs.Lines.{line_of}
+use Rattle.tilebench.specs.declared.commands.race.Win.{Win}
+use Rattle.tilebench.specs.declared.commands.reports.Reported.{Reported}
+use Rattle.tilebench.specs.Commands.Grow.{IsGrowth, is_unique}
+use Rattle.tilebench.specs.Commands.Report.{report_of}
 use Rattle.tilebench.specs.Commands.Schedule.{AreReplies, Replies}
 
 -- the types of an outcome are those of the system
@@ -30,6 +34,11 @@ pub record GrowsTo (sys : TileSystem) (tiles : List Place) (growth : Growth) : T
   pub same : growth.sys ≡ sys
   pub grown : IsGrowth growth.sys tiles (outcome_of growth)
   pub types : HasTypes growth.sys (outcome_of growth)
+
+-- the report of a growth of so many tiles, and of what each worker won
+pub record Reports (growth : Growth) (tiles : ℕ) (wins : List Win) (reported : Reported) : Type 0 where
+  pub line : line_of (string_bytes reported.line ∷ []) ≡ report_of growth.sys tiles (outcome_of growth) wins
+  pub unique : reported.unique ≡ is_unique growth.verdict
 
 -- the types of a judgement are those of the system
 abbrev pub NamesItsTypes : TileSystem → Judgement → Type 0

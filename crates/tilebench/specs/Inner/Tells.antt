@@ -8,8 +8,8 @@ use Rattle.tilebench.specs.declared.status.Ran.{Ran}
 use Rattle.tilebench.specs.declared.status.Status.{Status}
 use Rattle.tilebench.specs.declared.status.Status.TheVariants as status
 use Rattle.tilebench.specs.declared.stop.Stop.{Stop}
-use Rattle.tilebench.specs.declared.stop.Stop.TheVariants.{Words, Text, ReadFault, NoMemory}
-use Rattle.tilebench.specs.Refusals.{refused_text, refused_words}
+use Rattle.tilebench.specs.declared.stop.Stop.TheVariants.{Words, Counter, Text, ReadFault, NoMemory}
+use Rattle.tilebench.specs.Refusals.{refused_counter, refused_text, refused_words}
 use Rattle.tilebench.specs.Statuses.{answer_status}
 
 -- the status of a refusal that was to be written
@@ -37,6 +37,7 @@ module _ {K : Type 0} (written : K → Option (List ℕ)) (faults : K → ℕ) w
   -- the line of a stop was written, if it has one
   abbrev pub Refuses : K → K → Stop → Status → Type 0
   Refuses old new (Words stop) outcome = Writes old new status.Words outcome (refused_words stop)
+  Refuses old new (Counter stop) outcome = Writes old new status.Words outcome (refused_counter stop)
   Refuses old new (Text fault) outcome = Writes old new status.Text outcome (refused_text fault)
   Refuses old new ReadFault outcome = (outcome ≡ status.ReadFault) × (new ≡ old)
   Refuses old new NoMemory outcome = (outcome ≡ status.NoMemory) × (new ≡ old)

@@ -71,8 +71,8 @@ pub fn is_unique(verdict: Verdict) -> bool
     matches!(verdict, Verdict::Yes)
 }
 
-// What a system grew into, by the grid of a full growth.
-fn growth_of(alloc: Global, sys: System, grid: &Grid) -> Result<Growth, NoMemory>
+/// What a system grew into, by the grid of a full growth.
+pub fn growth_of(alloc: Global, sys: System, grid: &Grid) -> Result<Growth, NoMemory>
     requires area { grid.now.area ≡ sys.area }
     requires producible { IsProducible sys grid.now.tiles }
     requires closed { IsClosedInBox sys grid.now.tiles }

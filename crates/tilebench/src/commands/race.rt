@@ -69,8 +69,8 @@ impl Reply for Raced {
     }
 }
 
-// The wins of all workers in turn.
-fn wins_of(alloc: Global, workers: u32, grown: &Grown) -> Result<Vec<Win>, NoMemory>
+/// The wins of all workers in turn.
+pub fn wins_of(alloc: Global, workers: u32, grown: &Grown) -> Result<Vec<Win>, NoMemory>
     requires { workers ≤ 64 }
     ensures wins { IfOk result (λ wins. AreWins workers grown.now.won wins.items) }
     ensures together { IfOk result (λ wins.

@@ -80,8 +80,8 @@ impl Reply for Replayed {
     }
 }
 
-// The system and the assembly whose texts the input is.
-fn system_and_grid(alloc: Global, input: &[u8]) -> Result<(System, Grid), Stop>
+/// The system and the assembly whose texts the input is.
+pub fn system_and_grid(alloc: Global, input: &[u8]) -> Result<(System, Grid), Stop>
     requires { length input.now ≤ MOST_INPUT }
     ensures read { Gives (λ found. (places : List Place)
         × IsSystemThenPlacements input.now found.0 places × IsAssemblyOf places found.1.tiles)

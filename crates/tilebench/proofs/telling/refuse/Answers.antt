@@ -12,6 +12,12 @@ returns-in-Words g c =
     let outcome = c.written.ensures ∙ ap (λ (told : Status). written_status c.print_words_stop.result told) c.status.ensures in
     subst Told (sym c.in-Words.is) (Writes-printed c.print_words_stop.result Words c.written.result outcome c.print_words_stop.ensures)
 
+pub returns-in-Counter : goal.returns-in-Counter
+returns-in-Counter g c =
+    let Told : Stop → Type 0 = λ stop. Refuses g.E.Sink.written g.E.Sink.faults c.args.err.now c.print_counter_stop.new.err stop c.written-in-Counter.result in
+    let outcome = c.written-in-Counter.ensures ∙ ap (λ (told : Status). written_status c.print_counter_stop.result told) c.status-in-Counter.ensures in
+    subst Told (sym c.in-Counter.is) (Writes-printed c.print_counter_stop.result Words c.written-in-Counter.result outcome c.print_counter_stop.ensures)
+
 pub returns-in-Text : goal.returns-in-Text
 returns-in-Text g c =
     let Told : Stop → Type 0 = λ stop. Refuses g.E.Sink.written g.E.Sink.faults c.args.err.now c.print_fault.new.err stop c.written-in-Text.result in

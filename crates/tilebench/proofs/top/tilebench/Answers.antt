@@ -3,7 +3,7 @@ use Rattle.command_line.specs.declared.words_stop.WordsStop.TheVariants.{NoComma
 use Rattle.tilebench.specs.declared.stop.Stop.{Stop}
 use Rattle.tilebench.specs.Inner.Stops.{stop_of_words}
 use Rattle.tilebench.specs.Inner.Tells.{Refuses}
-use Rattle.tilebench.proofs.Tops.{call_ended, call_grown, call_named, call_complete, same_stop, stop_ended, stop_no_read_fault, stop_no_answer, stop_unnamed, stop_later, stop_complete}
+use Rattle.tilebench.proofs.Tops.{call_ended, call_grown, call_named, call_complete, call_unread, call_read_fault, call_no_memory, same_stop, stop_ended, stop_no_read_fault, stop_no_answer, stop_unnamed, stop_later, stop_complete}
 use Rattle.tilebench.proofs.top.tilebench.Goals as goal
 
 pub returns-in-Ok-clause-ends : goal.returns-in-Ok-clause-ends
@@ -13,13 +13,13 @@ pub returns-in-Ok-clause-growth : goal.returns-in-Ok-clause-growth
 returns-in-Ok-clause-growth g c = call_grown _ _ _ _ _ _ _ _ _ _ _ _ _ c.in-Ok.command c.in-Ok.ensures.called c.run_command.result c.run_command.ensures
 
 pub returns-in-Ok-clause-unread : goal.returns-in-Ok-clause-unread
-returns-in-Ok-clause-unread g c = λ uncalled. absurd (uncalled (c.in-Ok.command, c.in-Ok.ensures.called))
+returns-in-Ok-clause-unread g c = call_unread _ _ _ _ _ _ _ _ _ _ _ _ _ c.in-Ok.command c.in-Ok.ensures.called c.run_command.result c.run_command.ensures
 
 pub returns-in-Ok-clause-read_fault : goal.returns-in-Ok-clause-read_fault
-returns-in-Ok-clause-read_fault g c = λ _. (c.in-Ok.command, c.in-Ok.ensures.called)
+returns-in-Ok-clause-read_fault g c = call_read_fault _ _ _ _ _ _ _ _ _ _ _ _ _ c.in-Ok.command c.in-Ok.ensures.called c.run_command.result c.run_command.ensures
 
 pub returns-in-Ok-clause-no_memory : goal.returns-in-Ok-clause-no_memory
-returns-in-Ok-clause-no_memory g c = λ _. inr (c.in-Ok.command, c.in-Ok.ensures.called)
+returns-in-Ok-clause-no_memory g c = λ _. call_no_memory _ _ _ _ _ _ _ _ _ _ _ _ _ c.in-Ok.command c.in-Ok.ensures.called c.run_command.result c.run_command.ensures
 
 pub returns-in-Ok-clause-no_command : goal.returns-in-Ok-clause-no_command
 returns-in-Ok-clause-no_command g c = λ unnamed. absurd (call_named _ _ _ _ _ _ _ _ _ _ _ _ _ c.in-Ok.command c.in-Ok.ensures.called c.run_command.result c.run_command.ensures unnamed)

@@ -1,0 +1,24 @@
+use Rattle.std.proofs.Common.{refl, subst, sym}
+use Rattle.atam.specs.TileSystem.{TileSystem}
+use Rattle.tile_text.specs.Spelling.{spelling}
+use Rattle.turing_compile.specs.Compiled.{compiled}
+use Rattle.turing_compile.proofs.Named.{compiled_valid}
+use Rattle.tilebench.specs.Spelled.{SpellsSystem}
+use Rattle.tilebench.proofs.Spelling.{spelled}
+use Rattle.tilebench.proofs.commands.turing.TuringRoom.answer.Goals as goal
+
+pub returns : goal.returns
+returns c =
+    let machine = c.in_ok-machine.machine in
+    let valid = c.in_ok-machine.ensures.valid in
+    let Spells : TileSystem → Type 0 = λ sys. SpellsSystem (compiled machine) (spelling sys) in
+    record {
+      answer = record {
+        machine = machine;
+        read = c.in_ok-machine.ensures.read;
+        is_machine = valid;
+        spelled = subst Spells (sym c.in_ok-sys.ensures) (spelled (compiled machine) (compiled_valid machine valid));
+        answer = refl;
+      };
+      prints = tt;
+    }

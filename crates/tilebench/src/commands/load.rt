@@ -1,0 +1,172 @@
+// `load`: a counter made from a number, and the summary of what it grows into.
+ghost use Rattle.std.specs.Prelude.{◌≡◌, ◌+◌, ◌≤◌, ◌^◌, ◌++◌, None, IfOk};
+ghost use Rattle.tile_io.specs.Prints.{Prints};
+ghost use Rattle.counter_compile.specs.Counters.{counter_refusal, counter_system};
+ghost use Rattle.seq_text.specs.GrowthLines.{closed_line};
+ghost use Rattle.seq_text.specs.VerdictLines.{verdict_line};
+ghost use Rattle.tilebench.specs.Commands.Grow.{is_unique};
+ghost use Rattle.tilebench.specs.Commands.Load.{IsLoadAnswer, counter_line, load_bits, load_start, numbers_after_start, summary, tiles_line};
+ghost use Rattle.tilebench.specs.Inner.Gives.{GivesUnread};
+ghost use Rattle.tilebench.specs.Inner.Rooms.{HasTypes, outcome_of};
+
+use crate::commands::grow::{Growth, growth_of, is_unique};
+use crate::room::Reply;
+use crate::stop::Stop;
+use counter_compile::{CounterStop, compile_counter};
+use grow_workers::grow;
+use itoa::Buffer;
+use seq_text::{print_closed, print_verdict};
+use site_table::Grown;
+use std::alloc::Global;
+use std::thread::Threads;
+use tile_io::{Failed, Gate, Sink, print_line};
+use tile_system::{NoMemory, System};
+
+const WORKERS: u32 = 4;
+
+/// What the counter of a number grows into, by four workers whose choices come from this number.
+pub fn answer<R: Threads + Sync, G: Gate>(
+    rt: &R,
+    alloc: Global,
+    number: u64,
+    gate: &G,
+) -> Result<(Loaded, Option<Grown>), Stop>
+    ensures answer { GivesUnread (λ loaded. is_unique loaded.growth.verdict)
+        (λ loaded. summary loaded.number loaded.counter.bits loaded.counter.start loaded.tiles
+        loaded.growth.sys loaded.growth.outside loaded.growth.verdict)
+        (λ loaded. HasTypes loaded.growth.sys (outcome_of loaded.growth))
+        (IsLoadAnswer number) (λ stop. ⊥) result }
+    ensures printable { IfOk result (λ found.
+        HasTypes found.0.growth.sys (outcome_of found.0.growth)) }
+{
+    let counter = counter_of(number);
+    let sys = system_of(alloc, counter)?;
+    let grown = grow(rt, alloc, &sys, WORKERS, number, gate)?;
+    let growth = growth_of(alloc, sys, grown.grid())?;
+    let loaded = Loaded {
+        number,
+        counter,
+        tiles: grown.grid().count(),
+        growth,
+    };
+    Ok((loaded, Some(grown)))
+}
+
+/// A counter of so many bits, from a number on.
+#[derive(Clone, Copy, Debug, PartialEq, Eq)]
+pub struct Counter {
+    pub bits: u32,
+    pub start: u64,
+}
+
+/// The counter of a number, and what it grew into.
+#[derive(Drop)]
+pub struct Loaded {
+    pub number: u64,
+    pub counter: Counter,
+    pub tiles: u32,
+    pub growth: Growth,
+}
+
+impl Reply for Loaded {
+    ghost text = { λ loaded. summary loaded.number loaded.counter.bits loaded.counter.start loaded.tiles
+        loaded.growth.sys loaded.growth.outside loaded.growth.verdict };
+
+    ghost yes = { λ loaded. is_unique loaded.growth.verdict };
+
+    ghost printable = { λ loaded. HasTypes loaded.growth.sys (outcome_of loaded.growth) };
+
+    fn is_yes(&self) -> bool {
+        is_unique(self.growth.verdict)
+    }
+
+    fn print<K: Sink>(&self, out: &mut K) -> Result<(), Failed> {
+        print_sizes(self.number, self.counter, self.tiles, out)?;
+        print_end(&self.growth, out)
+    }
+}
+
+// The counter of a number: 2 to 32 bits, and at most 512 numbers to count.
+fn counter_of(number: u64) -> Counter
+    ensures bits { result.bits ≡ load_bits number }
+    ensures start { result.start ≡ load_start number }
+{
+    let bits = 2 + (number % 31) as u32;
+    let last = (1 << bits) - 1;
+    Counter {
+        bits,
+        start: last - numbers_after_start(number, last),
+    }
+}
+
+// How many numbers come after the start, where the last one is this.
+fn numbers_after_start(number: u64, last: u64) -> u64
+    requires { last + 1 ≡ 2 ^ load_bits number }
+    ensures value { result ≡ numbers_after_start number }
+    ensures most { result ≤ last }
+{
+    if last < 511 {
+        number / 31 % (last + 1)
+    } else {
+        number / 31 % 512
+    }
+}
+
+// The system of a counter that is not refused.
+fn system_of(alloc: Global, counter: Counter) -> Result<System, NoMemory>
+    requires { counter_refusal counter.bits counter.start ≡ None }
+    ensures { IfOk result (λ sys. sys ≡ counter_system counter.bits counter.start) }
+{
+    match compile_counter(alloc, counter.bits, counter.start) {
+        Ok(sys) => Ok(sys),
+        Err(CounterStop::NoMemory) => Err(NoMemory),
+        Err(CounterStop::BitsOutOfRange) => unreachable!(),
+        Err(CounterStop::StartTooLarge) => unreachable!(),
+        Err(CounterStop::TooTall) => unreachable!(),
+    }
+}
+
+// Writes which counter was grown, and how many tiles stand.
+fn print_sizes<K: Sink>(
+    number: u64,
+    counter: Counter,
+    tiles: u32,
+    out: &mut K,
+) -> Result<(), Failed>
+    ensures { Prints K.written K.faults out.old out.new result
+        (counter_line number counter.bits counter.start ++ tiles_line tiles) }
+{
+    print_counter(number, counter, out)?;
+    print_tiles(tiles, out)
+}
+
+fn print_counter<K: Sink>(number: u64, counter: Counter, out: &mut K) -> Result<(), Failed>
+    ensures { Prints K.written K.faults out.old out.new result
+        (counter_line number counter.bits counter.start) }
+{
+    let mut number_digits = Buffer::new();
+    let mut bits_digits = Buffer::new();
+    let mut start_digits = Buffer::new();
+    let number = number_digits.format(number).as_bytes();
+    let bits = bits_digits.format(counter.bits).as_bytes();
+    let start = start_digits.format(counter.start).as_bytes();
+    print_line(out, b"load", &[number, b"bits", bits, b"start", start])
+}
+
+fn print_tiles<K: Sink>(tiles: u32, out: &mut K) -> Result<(), Failed>
+    ensures { Prints K.written K.faults out.old out.new result (tiles_line tiles) }
+{
+    let mut digits = Buffer::new();
+    print_line(out, b"tiles", &[digits.format(tiles).as_bytes()])
+}
+
+// Writes what is open outside the box, and the verdict.
+fn print_end<K: Sink>(growth: &Growth, out: &mut K) -> Result<(), Failed>
+    requires { HasTypes growth.now.sys (outcome_of growth.now) }
+    ensures { Prints K.written K.faults out.old out.new result
+        (closed_line growth.now.sys growth.now.outside
+        ++ verdict_line growth.now.sys growth.now.verdict) }
+{
+    print_closed(&growth.sys, growth.outside, out)?;
+    print_verdict(&growth.sys, &growth.verdict, out)
+}

@@ -1,0 +1,61 @@
+// `picture`: an assembly as text, a character for each site.
+ghost use Rattle.std.specs.Prelude.{◌≡◌, true, All};
+ghost use Rattle.atam.specs.TileSystem.{IsType};
+ghost use Rattle.seq_text.specs.GrowthText.{grid_format};
+ghost use Rattle.picture.specs.Pictures.{picture_text};
+ghost use Rattle.tilebench.specs.Inputs.{FailsWithin, IsReadable};
+ghost use Rattle.tilebench.specs.Commands.Picture.{IsPictureAnswer};
+ghost use Rattle.tilebench.specs.Inner.Readings.{taken_or_faulty};
+
+use crate::commands::replay::system_and_grid;
+use crate::room::{Reply, Room};
+use crate::stop::Stop;
+use assembly::Grid;
+use picture::print_picture;
+use std::alloc::Global;
+use tile_io::{Failed, Sink};
+use tile_system::System;
+
+/// The command.
+#[derive(Clone, Copy)]
+pub struct Picture;
+
+impl Room for Picture {
+    type Answer = Pictured;
+
+    ghost answers = { λ room. IsPictureAnswer };
+
+    ghost takes = { λ room. IsReadable grid_format };
+
+    ghost fails = { λ room. FailsWithin grid_format };
+
+    fn answer(&self, alloc: Global, input: &[u8]) -> Result<Pictured, Stop> {
+        let (sys, grid) = system_and_grid(alloc, input)?;
+        Ok(Pictured { sys, grid })
+    }
+
+    ghost one_of_two = { λ room. taken_or_faulty grid_format };
+}
+
+/// An assembly of a system, to be pictured.
+#[derive(Drop)]
+pub struct Pictured {
+    pub sys: System,
+    pub grid: Grid,
+}
+
+impl Reply for Pictured {
+    ghost text = { λ pictured. picture_text pictured.sys pictured.grid };
+
+    ghost yes = { λ pictured. true };
+
+    ghost printable = { λ pictured. All (λ p. IsType pictured.sys p.tile) pictured.grid.tiles };
+
+    fn is_yes(&self) -> bool {
+        true
+    }
+
+    fn print<K: Sink>(&self, out: &mut K) -> Result<(), Failed> {
+        print_picture(&self.sys, &self.grid, out)
+    }
+}
