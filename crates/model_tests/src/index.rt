@@ -98,10 +98,10 @@ fn agree(
     requires fits { Fits sys.now grid.now.tiles }
     ensures known { AreFindings sys.now cache.new }
 {
-    for number in 0..100 {
+    for number in 0..100u32 {
         let site = Site {
-            x: number % 10 - 1,
-            y: number / 10 - 1,
+            x: (number % 10) as i32 - 1,
+            y: (number / 10) as i32 - 1,
         };
         if !agree_at(alloc, sys, index, cache, grid, site)? {
             return Ok(false);
