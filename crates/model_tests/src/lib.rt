@@ -8,8 +8,6 @@ mod builder;
 #[cfg(test)]
 mod containers;
 #[cfg(test)]
-mod index;
-#[cfg(test)]
 mod orders;
 #[cfg(test)]
 mod places;

@@ -32,16 +32,85 @@ fn load(number: u64) -> Result<Command, WordsStop> {
     Ok(Command::Load { number })
 }
 
+// Texts whose first word names no command.
+const NO_COMMAND: [&str; 6] = ["gorw", "", "--help", "grow check", "Grow", "pictures"];
+
+// Texts that misuse a command without numbers of its own.
+const MISUSED: [&str; 27] = [
+    "grow\n--workers\n0",
+    "grow\n--workers\n17",
+    "grow\n--workers\n4294967297",
+    "grow\n--workers\n2\n--workers\n2",
+    "race\n--workers\n0",
+    "grow\n--choice\n18446744073709551616",
+    "grow\n--choice\n-1",
+    "grow\n--choice\nx",
+    "grow\n--choice",
+    "grow\n--choice\n1\n--choice\n1",
+    "report\n--workers\n17",
+    "report\n3",
+    "check\n--choice\n1",
+    "grow\n--\n--",
+    "grow\ncheck",
+    "check\n--workers\n2",
+    "grow\n--help",
+    "grow\nhelp",
+    "grow\n-h",
+    "grow\n--version",
+    "grow\n-V",
+    "grow\n-",
+    "grow\n",
+    "grow\n ",
+    "check\na b",
+    "replay\nx",
+    "format\n\n",
+];
+
+// Texts that misuse one with numbers, or without any words.
+const MISUSED_NUMBERS: [&str; 17] = [
+    "turing\n--choice\n1",
+    "turing\nx",
+    "picture\n--workers\n1",
+    "counter\n4294967296\n0",
+    "counter\n2\n18446744073709551616",
+    "counter",
+    "counter\n2",
+    "counter\n2\n0\n0",
+    "counter\n2\n-1",
+    "counter\n2\n",
+    "counter\n2 0",
+    "counter\n2\n0x1",
+    "counter\n--bits\n2\n0",
+    "load",
+    "load\n0\n0",
+    "load\n18446744073709551616",
+    "load\n--workers\n4\n0",
+];
+
+// Each of the texts is refused with this stop.
+fn all_refused(alloc: Global, texts: &[&str], stop: WordsStop) -> Result<bool, AllocError> {
+    for text in texts {
+        if read(alloc, text)? != Err(stop) {
+            return Ok(false);
+        }
+    }
+    Ok(true)
+}
+
 #[test]
-fn reads_words(rt: HostRuntime) -> Result<(), Fail> {
+fn refuses_words(rt: HostRuntime) -> Result<(), Fail> {
     let alloc = rt.alloc();
     assert_eq!(rt; command_of(alloc, &[]), Err(WordsStop::NoCommand));
+    assert!(rt; all_refused(alloc, &NO_COMMAND, WordsStop::NoCommand)?);
+    assert!(rt; all_refused(alloc, &MISUSED, WordsStop::Usage)?);
+    assert!(rt; all_refused(alloc, &MISUSED_NUMBERS, WordsStop::Usage)?);
+    Ok(())
+}
+
+#[test]
+fn reads_growing_commands(rt: HostRuntime) -> Result<(), Fail> {
+    let alloc = rt.alloc();
     for (text, wanted) in [
-        ("gorw", Err(WordsStop::NoCommand)),
-        ("", Err(WordsStop::NoCommand)),
-        ("--help", Err(WordsStop::NoCommand)),
-        ("grow check", Err(WordsStop::NoCommand)),
-        ("Grow", Err(WordsStop::NoCommand)),
         ("grow", grow(1, 0)),
         ("grow\n--choice\n7", grow(1, 7)),
         ("grow\n--choice=7", grow(1, 7)),
@@ -50,36 +119,27 @@ fn reads_words(rt: HostRuntime) -> Result<(), Fail> {
         ("grow\n--workers=16\n--choice\n7", grow(16, 7)),
         ("grow\n--choice\n7\n--workers\n16", grow(16, 7)),
         ("grow\n--workers\n04", grow(4, 0)),
-        ("grow\n--workers\n0", Err(WordsStop::Usage)),
-        ("grow\n--workers\n17", Err(WordsStop::Usage)),
-        ("grow\n--workers\n4294967297", Err(WordsStop::Usage)),
-        ("grow\n--workers\n2\n--workers\n2", Err(WordsStop::Usage)),
         ("race", race(1, 0)),
         ("race\n--choice\n1\n--workers\n4", race(4, 1)),
-        ("race\n--workers\n0", Err(WordsStop::Usage)),
-        (
-            "grow\n--choice\n18446744073709551616",
-            Err(WordsStop::Usage),
-        ),
-        ("grow\n--choice\n-1", Err(WordsStop::Usage)),
-        ("grow\n--choice\nx", Err(WordsStop::Usage)),
-        ("grow\n--choice", Err(WordsStop::Usage)),
-        ("grow\n--choice\n1\n--choice\n1", Err(WordsStop::Usage)),
         ("report", report(1, 0)),
         ("report\n--workers\n3", report(3, 0)),
         ("report\n--choice\n5\n--workers\n16", report(16, 5)),
-        ("report\n--workers\n17", Err(WordsStop::Usage)),
-        ("report\n3", Err(WordsStop::Usage)),
-        ("check\n--choice\n1", Err(WordsStop::Usage)),
+        ("grow\n--", grow(1, 0)),
+    ] {
+        assert_eq!(rt; read(alloc, text)?, wanted, "at {text:?}");
+    }
+    Ok(())
+}
+
+#[test]
+fn reads_other_commands_and_tells_stops(rt: HostRuntime) -> Result<(), Fail> {
+    let alloc = rt.alloc();
+    for (text, wanted) in [
         ("check", Ok(Command::Check)),
         ("replay", Ok(Command::Replay)),
         ("format", Ok(Command::Format)),
         ("turing", Ok(Command::Turing)),
-        ("turing\n--choice\n1", Err(WordsStop::Usage)),
-        ("turing\nx", Err(WordsStop::Usage)),
         ("picture", Ok(Command::Picture)),
-        ("picture\n--workers\n1", Err(WordsStop::Usage)),
-        ("pictures", Err(WordsStop::NoCommand)),
         ("counter\n2\n0", counter(2, 0)),
         ("counter\n40\n0", counter(40, 0)),
         ("counter\n+2\n007", counter(2, 7)),
@@ -88,38 +148,9 @@ fn reads_words(rt: HostRuntime) -> Result<(), Fail> {
             counter(u32::MAX, u64::MAX),
         ),
         ("counter\n--\n2\n3", counter(2, 3)),
-        ("counter\n4294967296\n0", Err(WordsStop::Usage)),
-        ("counter\n2\n18446744073709551616", Err(WordsStop::Usage)),
-        ("counter", Err(WordsStop::Usage)),
-        ("counter\n2", Err(WordsStop::Usage)),
-        ("counter\n2\n0\n0", Err(WordsStop::Usage)),
-        ("counter\n2\n-1", Err(WordsStop::Usage)),
-        ("counter\n2\n", Err(WordsStop::Usage)),
-        ("counter\n2 0", Err(WordsStop::Usage)),
-        ("counter\n2\n0x1", Err(WordsStop::Usage)),
-        ("counter\n--bits\n2\n0", Err(WordsStop::Usage)),
         ("load\n0", load(0)),
         ("load\n15871", load(15871)),
         ("load\n18446744073709551615", load(u64::MAX)),
-        ("load", Err(WordsStop::Usage)),
-        ("load\n0\n0", Err(WordsStop::Usage)),
-        ("load\n18446744073709551616", Err(WordsStop::Usage)),
-        ("load\n--workers\n4\n0", Err(WordsStop::Usage)),
-        ("grow\n--", grow(1, 0)),
-        ("grow\n--\n--", Err(WordsStop::Usage)),
-        ("grow\ncheck", Err(WordsStop::Usage)),
-        ("check\n--workers\n2", Err(WordsStop::Usage)),
-        ("grow\n--help", Err(WordsStop::Usage)),
-        ("grow\nhelp", Err(WordsStop::Usage)),
-        ("grow\n-h", Err(WordsStop::Usage)),
-        ("grow\n--version", Err(WordsStop::Usage)),
-        ("grow\n-V", Err(WordsStop::Usage)),
-        ("grow\n-", Err(WordsStop::Usage)),
-        ("grow\n", Err(WordsStop::Usage)),
-        ("grow\n ", Err(WordsStop::Usage)),
-        ("check\na b", Err(WordsStop::Usage)),
-        ("replay\nx", Err(WordsStop::Usage)),
-        ("format\n\n", Err(WordsStop::Usage)),
     ] {
         assert_eq!(rt; read(alloc, text)?, wanted, "at {text:?}");
     }
