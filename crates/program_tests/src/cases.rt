@@ -264,7 +264,7 @@ const FORMATTED: [Case; 2] = [
     },
 ];
 
-const COMPILED: [Case; 7] = [
+const COMPILED: [Case; 8] = [
     Case {
         words: &["turing"],
         system: "machine 1\nstate F\nsymbol 0\nsymbol 1\nrule F 0 F 1 R\nrule F 1 F 0 R\ncells 3\n\
@@ -320,6 +320,14 @@ const COMPILED: [Case; 7] = [
         behind: "",
         status: Status::Done,
         out: "load 0 bits 2 start 3\ntiles 4\nclosed terminal\nunique yes\n",
+        err: "",
+    },
+    Case {
+        words: &["load", "15871"],
+        system: "",
+        behind: "",
+        status: Status::Done,
+        out: "load 15871 bits 32 start 4294966784\ntiles 32768\nclosed terminal\nunique yes\n",
         err: "",
     },
 ];
