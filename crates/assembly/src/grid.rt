@@ -11,7 +11,7 @@ ghost use Rattle.assembly.specs.Inner.Filling.{filled_cell};
 use crate::site_index;
 use std::alloc::Global;
 use std::marker::Model;
-use tile_system::{BoxArea, NoMemory, Place, Placed, Site, TypeId};
+use tile_system::{Beside, BoxArea, NoMemory, Place, Placed, Side, Site, TypeId};
 
 /// Tiles in a box. All calls but `make` and `copy` take no memory, and all but these, `merge` and
 /// `clear` look at one site.
@@ -130,6 +130,15 @@ impl Placed for Grid {
         match self.cells[site_index(&self.area, site)] {
             0 => None,
             cell => Some(TypeId(cell as u32 - 1)),
+        }
+    }
+
+    fn beside(&self, site: Site) -> Beside {
+        Beside {
+            north: self.at(site.step(Side::North)),
+            east: self.at(site.step(Side::East)),
+            south: self.at(site.step(Side::South)),
+            west: self.at(site.step(Side::West)),
         }
     }
 }

@@ -1,5 +1,5 @@
 -- The glues that face a site hold a type as strongly as the site pulls on it.
-use Rattle.std.proofs.Common.{◌≡◌, ◌≤◌, ◌<◌, ◌+◌, ◌∙◌, ℕ, Bool, false, true≢false, List, Option, Some, None, is_some, sym, ap, subst, inl, inr, arith}
+use Rattle.std.proofs.Common.{◌≡◌, ◌≤◌, ◌<◌, ◌+◌, ◌∙◌, ℕ, Bool, false, true≢false, List, Option, Some, None, IfSome, is_some, sym, ap, subst, inl, inr, arith}
 use Rattle.std.proofs.lemmas.Bool.{cases_lt}
 use Rattle.atam.specs.declared.site.Site.{Site}
 use Rattle.atam.specs.declared.site.Side.{Side}
@@ -9,10 +9,13 @@ use Rattle.atam.specs.declared.place.TypeId.{TypeId}
 use Rattle.atam.specs.declared.place.Place.{Place}
 use Rattle.atam.specs.Placements.{tile_at}
 use Rattle.atam.specs.TileSystem.{TileSystem, IsType, side_glue}
-use Rattle.atam.specs.Assembly.{interaction, bond, pull}
+use Rattle.atam.specs.Assembly.{Fits, interaction, bond, pull}
+use Rattle.atam.proofs.Placements.{tile_at-all}
 use Rattle.atam.specs.Growth.{IsCandidate}
 use Rattle.atam.proofs.Bonds.{interaction-none}
 use Rattle.attach_rule.specs.declared.facing.FacingGlues.{FacingGlues}
+use Rattle.attach_rule.specs.declared.bonding.Strengths.{Strengths}
+use Rattle.attach_rule.specs.Bonds.{AreBonds, sum_of}
 use Rattle.attach_rule.specs.Facing.{AreNone, FacesSite, facing_pull}
 
 pub facing_pull-pull : (sys : TileSystem) (tiles : List Place) (m : Site) (glues : FacingGlues) (t : TypeId) → FacesSite sys tiles m glues →
@@ -74,3 +77,33 @@ none_more sys tiles m n before none t below grows = elim (cases_lt t.0 n) [
 pub empty_from : (found tile : Option TypeId) (b : Bool) → found ≡ tile → b ≡ is_some found → b ≡ false → tile ≡ None
 empty_from None tile b at test none = sym at
 empty_from (Some t) tile b at test none = absurd (true≢false (sym test ∙ none))
+
+-- what stands beside a site is of types of the system
+pub kind_beside : (sys : TileSystem) (tiles : List Place) (m : Site) (t : Option TypeId) → Fits sys tiles →
+    t ≡ tile_at tiles m → IfSome t (IsType sys)
+kind_beside sys tiles m t fits is =
+    let P : TypeId → Type 0 = λ u. IsType sys u in
+    let Q : Option TypeId → Type 0 = λ o. IfSome o P in
+    subst Q (sym is) (tile_at-all P tiles m fits.types)
+
+-- the strengths with the glues that face a site are the bonds of a tile there
+pub bonds_facing : (sys : TileSystem) (tiles : List Place) (m : Site) (glues : FacingGlues) (t : TypeId) (found : Strengths) →
+    FacesSite sys tiles m glues →
+    found.north ≡ interaction sys (side_glue sys t North) glues.north →
+    found.east ≡ interaction sys (side_glue sys t East) glues.east →
+    found.south ≡ interaction sys (side_glue sys t South) glues.south →
+    found.west ≡ interaction sys (side_glue sys t West) glues.west →
+    AreBonds sys tiles m t found
+unfolding bond
+bonds_facing sys tiles m glues t found faces north east south west =
+    record {
+      north = north ∙ ap (interaction sys (side_glue sys t North)) faces.north;
+      east = east ∙ ap (interaction sys (side_glue sys t East)) faces.east;
+      south = south ∙ ap (interaction sys (side_glue sys t South)) faces.south;
+      west = west ∙ ap (interaction sys (side_glue sys t West)) faces.west;
+    }
+
+pub sum_pull : (sys : TileSystem) (tiles : List Place) (m : Site) (t : TypeId) (found : Strengths) → AreBonds sys tiles m t found →
+    sum_of found ≡ pull sys tiles m t
+unfolding pull
+sum_pull sys tiles m t found are = omega (arith, are.north, are.east, are.south, are.west)

@@ -7,6 +7,7 @@ ghost use Rattle.atam.specs.Assembly.{Attaches, Fits};
 ghost use Rattle.atam.specs.Assembly as model;
 ghost use Rattle.attach_rule.specs.Searches.{IsFirstType};
 
+use crate::bonds;
 use crate::facing::{facing_pull, glues_facing};
 use tile_system::{GlueId, Placed, Side, Site, System, TypeId};
 
@@ -46,7 +47,6 @@ pub fn bond<P: Placed>(sys: &System, placed: &P, site: Site, tile: TypeId, side:
 }
 
 /// The pull on a type at a site, whether or not the site is empty.
-#[tactic(auto, unfolding(atam::specs::Assembly::pull))]
 pub fn pull<P: Placed>(sys: &System, placed: &P, site: Site, tile: TypeId) -> u32
     requires kind { IsType sys.now tile }
     requires near { IsNearSite site }
@@ -54,10 +54,7 @@ pub fn pull<P: Placed>(sys: &System, placed: &P, site: Site, tile: TypeId) -> u3
     ensures value { result ≡ model.pull sys.now (P.placements placed.now) site tile }
     ensures bound { result ≤ 4 * MOST_STRENGTH }
 {
-    bond(sys, placed, site, tile, Side::North)
-        + bond(sys, placed, site, tile, Side::East)
-        + bond(sys, placed, site, tile, Side::South)
-        + bond(sys, placed, site, tile, Side::West)
+    bonds(sys, placed, site, tile).sum()
 }
 
 /// Whether a tile of this type attaches at the site.

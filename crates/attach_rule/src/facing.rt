@@ -1,14 +1,14 @@
 // The glues that face a site, looked up once for all types.
-ghost use Rattle.std.specs.Prelude.{◌≡◌, ◌≤◌, ◌*◌, ◌↔◌, IsTrue};
+ghost use Rattle.std.specs.Prelude.{◌≡◌, ◌≤◌, ◌*◌, ◌↔◌, IsTrue, IfSome, option_and_then};
 ghost use Rattle.atam.specs.declared.limits.TheConstants.{MOST_STRENGTH};
 ghost use Rattle.atam.specs.declared.place.TypeId.{TypeId};
 ghost use Rattle.atam.specs.Sites.{IsNearSite};
-ghost use Rattle.atam.specs.TileSystem.{IsType};
+ghost use Rattle.atam.specs.TileSystem.{IsType, side_glue};
 ghost use Rattle.atam.specs.Assembly.{Fits};
 ghost use Rattle.atam.specs.Assembly as model;
 ghost use Rattle.attach_rule.specs.Facing.{AreNone, FacesSite, facing_pull};
 
-use crate::attach::{glue_at, interaction};
+use crate::attach::interaction;
 use tile_system::{GlueId, Placed, Side, Site, System, TypeId};
 
 /// The glues that a tile at a site would meet: in each direction the one on the near side of the
@@ -31,6 +31,7 @@ impl FacingGlues {
 }
 
 /// The glues that face the site.
+#[tactic(auto, using(crate::proofs::Held::kind_beside))]
 pub fn glues_facing<P: Placed>(sys: &System, placed: &P, site: Site) -> FacingGlues
     requires near { IsNearSite site }
     requires fits { Fits sys.now (P.placements placed.now) }
@@ -38,12 +39,21 @@ pub fn glues_facing<P: Placed>(sys: &System, placed: &P, site: Site) -> FacingGl
     ensures pulls { (t : TypeId) →
         facing_pull sys.now result t ≡ model.pull sys.now (P.placements placed.now) site t }
 {
+    let beside = placed.beside(site);
     FacingGlues {
-        north: glue_at(sys, placed, site.step(Side::North), Side::South),
-        east: glue_at(sys, placed, site.step(Side::East), Side::West),
-        south: glue_at(sys, placed, site.step(Side::South), Side::North),
-        west: glue_at(sys, placed, site.step(Side::West), Side::East),
+        north: glue_of(sys, beside.north, Side::South),
+        east: glue_of(sys, beside.east, Side::West),
+        south: glue_of(sys, beside.south, Side::North),
+        west: glue_of(sys, beside.west, Side::East),
     }
+}
+
+// The glue on a side of a tile, if there is a tile.
+fn glue_of(sys: &System, tile: Option<TypeId>, side: Side) -> Option<GlueId>
+    requires { IfSome tile (IsType sys.now) }
+    ensures { result ≡ option_and_then (λ t. side_glue sys.now t side) tile }
+{
+    sys.side(tile?, side)
 }
 
 /// The pull on a type at a site that these glues face.

@@ -12,7 +12,7 @@ use crate::side_set::{SideSet, bound_sides};
 use assembly::{Grid, Sequence, put_seeds};
 use std::alloc::Global;
 use std::marker::Model;
-use tile_system::{NoMemory, Place, Placed, Side, Site, System, TypeId};
+use tile_system::{Beside, NoMemory, Place, Placed, Side, Site, System, TypeId};
 use type_index::TypeIndex;
 
 /// The input and output sides of each place of a sequence, a grid of its places, and an index of the
@@ -93,6 +93,10 @@ impl Placed for SideSets {
 
     fn at(&self, site: Site) -> Option<TypeId> {
         self.grid.at(site)
+    }
+
+    fn beside(&self, site: Site) -> Beside {
+        self.grid.beside(site)
     }
 }
 

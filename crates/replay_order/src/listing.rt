@@ -7,7 +7,7 @@ ghost use Rattle.atam.specs.Placements.{tile_at};
 use assembly::{Grid, Sequence};
 use std::alloc::Global;
 use std::marker::Model;
-use tile_system::{BoxArea, NoMemory, Place, Placed, Site, TypeId};
+use tile_system::{Beside, BoxArea, NoMemory, Place, Placed, Site, TypeId};
 
 // Places with distinct sites, in their order.
 #[derive(Drop)]
@@ -71,5 +71,9 @@ impl Placed for Listing {
 
     fn at(&self, site: Site) -> Option<TypeId> {
         self.grid.at(site)
+    }
+
+    fn beside(&self, site: Site) -> Beside {
+        self.grid.beside(site)
     }
 }
