@@ -12,7 +12,7 @@ mod plane;
 mod type_list;
 
 pub use attach::{bond, can_attach, first_type, pull};
-pub use bonding::{Strengths, bonds};
+pub use bonding::{Strengths, bonds, facing_bonds};
 pub use candidate::candidates;
 pub use facing::{FacingGlues, facing_pull, glues_facing};
 pub use finder::{EachType, TypeFinder};
