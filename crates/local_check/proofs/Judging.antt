@@ -1,11 +1,10 @@
--- What holds a place, by its input sides, and what holds a rival, by the sides that aren't output sides.
-use Rattle.std.proofs.Common.{◌≡◌, ◌≢◌, ◌≤◌, ◌+◌, ℕ, Bool, true, false, not, ◌&&◌, ◌||◌, nat_lt, if◌then◌else◌, List, length, take, Option, Some, None, slice_get, refl, sym, ◌∙◌, ap, subst, inl, inr, arith}
+-- What holds a rival, by the sides that aren't output sides, and what a search finds with one place more.
+use Rattle.std.proofs.Common.{◌≡◌, ◌≢◌, ◌<◌, ◌≤◌, ◌+◌, ℕ, Bool, true, false, true≢false, not, ◌&&◌, ◌||◌, if◌then◌else◌, List, length, Option, Some, None, is_some, slice_get, refl, sym, ◌∙◌, ap, subst, inl, inr, arith}
 use Rattle.std.specs.List.{list_any}
-use Rattle.std.proofs.Math.Seq.{take-length}
+use Rattle.std.specs.Option.{option_map}
 use Rattle.std.proofs.lemmas.Int.{ints}
 use Rattle.std.proofs.lemmas.Bool.{cases_Bool, cases_lt}
-use Rattle.std.proofs.lemmas.Bool.Decides.{nat_tests}
-use Rattle.std.proofs.lemmas.Option.{same_Some, slice_get_within}
+use Rattle.std.proofs.lemmas.Option.{same_Some, none-some, slice_get_within}
 use Rattle.atam.specs.declared.site.Side.{Side}
 use Rattle.atam.specs.declared.site.Side.TheVariants.{North, East, South, West}
 use Rattle.atam.specs.declared.site.Site.{Site}
@@ -17,13 +16,11 @@ use Rattle.atam.specs.Placements.{HasDistinctSites, SamePlacements, tile_at}
 use Rattle.atam.specs.TileSystem.{TileSystem, side_glue}
 use Rattle.atam.specs.Assembly.{interaction, glue_at, bond, pull}
 use Rattle.atam.specs.Growth.{IsLegal}
-use Rattle.atam.specs.Determinism.{is_input, is_output, without_outputs, IsExact, IsRival, HasExactInputs, HasNoRivals}
+use Rattle.atam.specs.Determinism.{is_output, without_outputs, IsExact, IsRival, HasExactInputs, HasNoRivals}
 use Rattle.atam.proofs.Boxes.{same_site_tells, same_site-refl}
-use Rattle.atam.proofs.Lists.{some_or_none}
-use Rattle.atam.proofs.Bonds.{bond_is, bond-none, interaction-none}
-use Rattle.atam.proofs.Placements.{Extends, Extends-take, tile_at-filter, tile_at-filtered}
+use Rattle.atam.proofs.Bonds.{bond-none, interaction-none}
+use Rattle.atam.proofs.Placements.{tile_at-filter, tile_at-filtered}
 use Rattle.atam.proofs.Sequences.{IsLegal-distinct}
-use Rattle.atam.proofs.Confluence.{is_input-later}
 use Rattle.atam.proofs.Opening.{bond-beside}
 use Rattle.atam.proofs.Tiles.{SameTiles, SameTiles-from}
 use Rattle.local_check.specs.declared.side_set.SideSet.{SideSet}
@@ -31,9 +28,9 @@ use Rattle.local_check.specs.SideSets.{has}
 use Rattle.attach_rule.specs.declared.facing.FacingGlues.{FacingGlues}
 use Rattle.attach_rule.specs.Facing.{FacesSite, facing_pull}
 use Rattle.type_index.specs.HeldTypes.{IsHeld, FirstHeldBut}
-use Rattle.local_check.specs.Inner.Sides.{bond_if, pull_on, glues_on}
-use Rattle.local_check.specs.Inner.FirstRivals.{IsFirstRivalHere}
-use Rattle.local_check.specs.Judgement.{AllExactBelow, NoRivalBelow}
+use Rattle.type_index.specs.Others.{IsFirstBut}
+use Rattle.local_check.specs.Inner.Sides.{glues_on}
+use Rattle.local_check.specs.Judgement.{AllExactBelow, NoRivalBelow, IsLeastRival, FindsInexact, FindsRival}
 use Rattle.local_check.proofs.Sides.{apart}
 
 -- the test of two neighbours of a site
@@ -73,76 +70,67 @@ or_false : (b : Bool) → (b || false) ≡ b
 or_false true = refl
 or_false false = refl
 
--- a bond in a part is that in the whole, or none
-counted : (w : ℕ) → w ≡ bond_if (nat_lt 0 w) w
-counted w = elim (cases_Bool (nat_lt 0 w)) [
-  | inl some ↦ rw some refl
-  | inr none ↦ let zero_it_is : w ≡ 0 = grind (arith, nat_tests, none) in rw none zero_it_is
-]
+abbrev bond_if : Bool → ℕ → ℕ
+bond_if on strength = if on then strength else 0
 
-bond_part : (sys : TileSystem) (part whole : List Place) (m : Site) (t : TypeId) (d : Side) → Extends part whole →
-    bond sys part m t d ≡ bond_if (nat_lt 0 (bond sys part m t d)) (bond sys whole m t d)
-bond_part sys part whole m t d extends = elim (some_or_none (tile_at part (neighbor m d))) [
-  | inl none ↦ rw (bond-none sys part m t d none) refl
-  | inr some ↦
-      let both : bond sys part m t d ≡ bond sys whole m t d =
-      bond_is sys part m t d some.0 some.1 ∙ sym (bond_is sys whole m t d some.0 (extends (neighbor m d) some.0 some.1))
-      in
-      counted (bond sys part m t d) ∙ ap (bond_if (nat_lt 0 (bond sys part m t d))) both
-]
-
--- the pull by some sides is that of the glues that face them alone
+-- a side that isn't kept meets no glue
 facing_on : (sys : TileSystem) (own : Option GlueId) (glue : Option GlueId) (on : Bool) → interaction sys own (if on then glue else None) ≡ bond_if on (interaction sys own glue)
 facing_on sys own glue true = refl
 facing_on sys own glue false = interaction-none sys own
 
-facing_pull-on : (sys : TileSystem) (tiles : List Place) (m : Site) (sides : SideSet) (glues : FacingGlues) → FacesSite sys tiles m glues → (t : TypeId) →
-    facing_pull sys (glues_on sides glues) t ≡ pull_on sys tiles m t sides
-unfolding bond
-facing_pull-on sys tiles m sides glues faces t =
-    let side : (d : Side) (on : Bool) (glue : Option GlueId) → glue ≡ glue_at sys tiles (neighbor m d) (opposite d) →
-    interaction sys (side_glue sys t d) (if on then glue else None) ≡ bond_if on (bond sys tiles m t d) =
-    λ d on glue is. facing_on sys (side_glue sys t d) glue on ∙ ap (λ g. bond_if on (interaction sys (side_glue sys t d) g)) is
-    in
-    let north = side North sides.north glues.north faces.north in
-    let east = side East sides.east glues.east faces.east in
-    let south = side South sides.south glues.south faces.south in
-    let west = side West sides.west glues.west faces.west in
-    λ k. north k + east k + south k + west k
+-- one index more
+module _ (sys : TileSystem) (s : List Place) (n : ℕ) (p : Place) (there : slice_get s n ≡ Some p) where
+  pub exact_more : AllExactBelow sys s n → IsExact sys s n p → AllExactBelow sys s (n + 1)
+  exact_more all last i q later below at_i = elim (cases_lt i n) [
+    | inl less ↦ all i q later less at_i
+    | inr more ↦
+        let one : n ≡ i = omega (arith, below, more) in
+        let At : ℕ → Type 0 = λ j. slice_get s j ≡ Some p in
+        let same : p ≡ q = same_Some p q (sym (subst At one there) ∙ at_i) in
+        subst (λ r. IsExact sys s i r) same (subst (λ j. IsExact sys s j p) one last)
+  ]
 
--- a pull is that by some sides, if each bond is
-pull_by : (sys : TileSystem) (part whole : List Place) (m : Site) (t : TypeId) (sides : SideSet) →
-    ((d : Side) → bond sys part m t d ≡ bond_if (has sides d) (bond sys whole m t d)) → pull sys part m t ≡ pull_on sys whole m t sides
-unfolding pull
-pull_by sys part whole m t sides each = λ k. each North k + each East k + each South k + each West k
+  pub no_rival_more : NoRivalBelow sys s n → ((t : TypeId) → ¬ IsRival sys s n p t) → NoRivalBelow sys s (n + 1)
+  no_rival_more none last i q t later below at_i rival = elim (cases_lt i n) [
+    | inl less ↦ none i q t later less at_i rival
+    | inr more ↦
+        let one : i ≡ n = omega (arith, below, more) in
+        let At : ℕ → Type 0 = λ j. slice_get s j ≡ Some q in
+        let same : q ≡ p = same_Some q p (sym (subst At one at_i) ∙ there) in
+        let at_n : IsRival sys s n q t = subst (λ j. IsRival sys s j q t) one rival in
+        last t (subst (λ r. IsRival sys s n r t) same at_n)
+  ]
+
+-- nothing is asked of a seed
+pub seed_inexact : (sys : TileSystem) (s : List Place) (n : ℕ) (found : Option (Site × ℕ)) → n < length sys.seeds → FindsInexact sys s n found → FindsInexact sys s (n + 1) found
+seed_inexact sys s n None seed finds = λ i p later below there. let never : ⊥ = omega (arith, seed, later, below) in absurd never
+seed_inexact sys s n (Some first) seed finds = finds
+
+pub seed_rival : (sys : TileSystem) (s : List Place) (n : ℕ) (found : Option (Site × TypeId)) → n < length sys.seeds → FindsRival sys s n found → FindsRival sys s (n + 1) found
+seed_rival sys s n None seed finds = λ i p t later below there. let never : ⊥ = omega (arith, seed, later, below) in absurd never
+seed_rival sys s n (Some first) seed finds = finds
+
+pub none_found : (sys : TileSystem) (s : List Place) (n : ℕ) (found : Option (Site × TypeId)) → is_some found ≡ false → FindsRival sys s n found → NoRivalBelow sys s n
+none_found sys s n None none finds = finds
+none_found sys s n (Some first) none finds = absurd (true≢false none)
+
+-- what was found stays found
+pub still_rival : (sys : TileSystem) (s : List Place) (n : ℕ) (found : Option (Site × TypeId)) → is_some found ≡ true → FindsRival sys s n found → FindsRival sys s (n + 1) found
+still_rival sys s n None some finds = absurd (true≢false (sym some))
+still_rival sys s n (Some first) some finds = finds
 
 module _ (sys : TileSystem) (s tiles : List Place) (distinct : HasDistinctSites sys.seeds) (legal : IsLegal sys s) (same : SamePlacements s tiles) where
   pub one_map : SameTiles s tiles
   one_map = SameTiles-from s tiles (IsLegal-distinct sys s distinct legal) same
 
-  part_of_tiles : (i : ℕ) → i ≤ length s → Extends (take i s) tiles
-  part_of_tiles i within m t found =
-      let In : List Place → Type 0 = λ l. tile_at l m ≡ Some t in
-      sym (one_map m) ∙ subst In (take-length s) (Extends-take s i (length s) within m t found)
-
   module _ (i : ℕ) (p : Place) (there : slice_get s i ≡ Some p) where
-    -- what holds a place
-    pub pull_by_inputs : length sys.seeds ≤ i → (sides : SideSet) → ((d : Side) → has sides d ≡ is_input sys s i d) →
-        pull sys (take i s) p.site p.tile ≡ pull_on sys tiles p.site p.tile sides
-    pull_by_inputs later sides are =
-        let within = slice_get_within s i p there in
-        pull_by sys (take i s) tiles p.site p.tile sides (λ d.
-        bond_part sys (take i s) tiles p.site p.tile d (part_of_tiles i (omega (arith, within)))
-        ∙ ap (λ b. bond_if b (bond sys tiles p.site p.tile d)) (sym (is_input-later sys s i p d later there) ∙ sym (are d))
-        )
-
     keeps : Site → Bool
     keeps n = not (same_site n p.site) && not (list_any (λ e. is_output sys s i e && same_site n (neighbor p.site e)) directions)
 
     abbrev rest : List Place
     rest = without_outputs sys s i p.site
 
-    pub gone_here : tile_at rest p.site ≡ None
+    gone_here : tile_at rest p.site ≡ None
     unfolding keeps
     gone_here =
         let gone : keeps p.site ≡ false = rw (same_site-refl p.site) refl in
@@ -199,7 +187,7 @@ module _ (sys : TileSystem) (s tiles : List Place) (distinct : HasDistinctSites 
           and_false (is_output sys s i South),
         ) (ap not (or_false (is_output sys s i West)))
 
-    pub bond_kept : (t : TypeId) (d : Side) → bond sys rest p.site t d ≡ bond_if (not (is_output sys s i d)) (bond sys tiles p.site t d)
+    bond_kept : (t : TypeId) (d : Side) → bond sys rest p.site t d ≡ bond_if (not (is_output sys s i d)) (bond sys tiles p.site t d)
     unfolding keeps
     bond_kept t d = elim (cases_Bool (is_output sys s i d)) [
       | inl out ↦
@@ -210,14 +198,24 @@ module _ (sys : TileSystem) (s tiles : List Place) (distinct : HasDistinctSites 
           rw no_output (bond-beside sys rest tiles p.site t d (tile_at-filter keeps s (neighbor p.site d) kept ∙ one_map (neighbor p.site d)))
     ]
 
-    module _ (sides : SideSet) (are : (d : Side) → has sides d ≡ not (is_output sys s i d)) (t : TypeId) where
-      pub pull_kept : pull sys (without_outputs sys s i p.site) p.site t ≡ pull_on sys tiles p.site t sides
-      pull_kept = pull_by sys rest tiles p.site t sides (λ d. bond_kept t d ∙ ap (λ b. bond_if b (bond sys tiles p.site t d)) (sym (are d)))
-
     -- the first type that the glues on the sides that are kept hold, other than that of the place, is its first rival
     module _ (sides : SideSet) (are : (d : Side) → has sides d ≡ not (is_output sys s i d)) (glues : FacingGlues) (faces : FacesSite sys tiles p.site glues) where
+      bond_facing : (t : TypeId) (d : Side) (glue : Option GlueId) → glue ≡ glue_at sys tiles (neighbor p.site d) (opposite d) →
+          bond sys rest p.site t d ≡ interaction sys (side_glue sys t d) (if has sides d then glue else None)
+      unfolding bond
+      bond_facing t d glue is =
+          bond_kept t d
+          ∙ (λ k. bond_if (sym (are d) k) (interaction sys (side_glue sys t d) (sym is k)))
+          ∙ sym (facing_on sys (side_glue sys t d) glue (has sides d))
+
       pull_facing : (t : TypeId) → pull sys (without_outputs sys s i p.site) p.site t ≡ facing_pull sys (glues_on sides glues) t
-      pull_facing t = pull_kept sides are t ∙ sym (facing_pull-on sys tiles p.site sides glues faces t)
+      unfolding pull
+      pull_facing t =
+          let north = bond_facing t North glues.north faces.north in
+          let east = bond_facing t East glues.east faces.east in
+          let south = bond_facing t South glues.south faces.south in
+          let west = bond_facing t West glues.west faces.west in
+          λ k. north k + east k + south k + west k
 
       held_rival : (t : TypeId) → t ≢ p.tile → IsHeld sys (glues_on sides glues) t → IsRival sys s i p t
       held_rival t other held =
@@ -230,38 +228,34 @@ module _ (sys : TileSystem) (s tiles : List Place) (distinct : HasDistinctSites 
       rival_held : (t : TypeId) → IsRival sys s i p t → IsHeld sys (glues_on sides glues) t
       rival_held t rival = let same = pull_facing t in record { kind = rival.grows.kind; held = omega (arith, same, rival.grows.attaches.held) }
 
-      pub first_rival : (found : Option TypeId) → FirstHeldBut sys (glues_on sides glues) p.tile found → IsFirstRivalHere sys s i p found
-      first_rival None none = λ t rival. rival.other (none t (rival_held t rival))
-      first_rival (Some t) first = record {
+      no_rival : ((t : TypeId) → IsHeld sys (glues_on sides glues) t → t ≡ p.tile) → (t : TypeId) → ¬ IsRival sys s i p t
+      no_rival none t rival = rival.other (none t (rival_held t rival))
+
+      least_rival : (t : TypeId) → IsFirstBut (IsHeld sys (glues_on sides glues)) p.tile t → IsLeastRival sys s i p t
+      least_rival t first = record {
         rival = held_rival t first.other first.holds;
         least = λ u rival. first.least u (rival_held u rival) rival.other;
       }
 
--- one index more
-module _ (sys : TileSystem) (s : List Place) (n : ℕ) (p : Place) (there : slice_get s n ≡ Some p) where
-  pub exact_more : AllExactBelow sys s n → IsExact sys s n p → AllExactBelow sys s (n + 1)
-  exact_more all last i q later below at_i = elim (cases_lt i n) [
-    | inl less ↦ all i q later less at_i
-    | inr more ↦
-        let one : n ≡ i = omega (arith, below, more) in
-        let At : ℕ → Type 0 = λ j. slice_get s j ≡ Some p in
-        let same : p ≡ q = same_Some p q (sym (subst At one there) ∙ at_i) in
-        subst (λ r. IsExact sys s i r) same (subst (λ j. IsExact sys s j p) one last)
-  ]
+      -- so a search finds it with one place more
+      pub rival_more : (other : Option TypeId) → length sys.seeds ≤ i → NoRivalBelow sys s i → FirstHeldBut sys (glues_on sides glues) p.tile other →
+          FindsRival sys s (i + 1) (option_map (λ t. (p.site, t)) other)
+      rival_more None later none first = no_rival_more sys s i p there none (no_rival first)
+      rival_more (Some t) later none first = record {
+        index = i;
+        place = p;
+        later = later;
+        there = there;
+        site = refl;
+        rival = least_rival t first;
+        first = none;
+      }
 
-  pub no_rival_more : NoRivalBelow sys s n → ((t : TypeId) → ¬ IsRival sys s n p t) → NoRivalBelow sys s (n + 1)
-  no_rival_more none last i q t later below at_i rival = elim (cases_lt i n) [
-    | inl less ↦ none i q t later less at_i rival
-    | inr more ↦
-        let one : i ≡ n = omega (arith, below, more) in
-        let At : ℕ → Type 0 = λ j. slice_get s j ≡ Some q in
-        let same : q ≡ p = same_Some q p (sym (subst At one at_i) ∙ there) in
-        let at_n : IsRival sys s n q t = subst (λ j. IsRival sys s j q t) one rival in
-        last t (subst (λ r. IsRival sys s n r t) same at_n)
-  ]
+-- where a search of all places finds none, there is none
+pub exact_all : (sys : TileSystem) (s : List Place) (found : Option (Site × ℕ)) → None ≡ found → FindsInexact sys s (length s) found → HasExactInputs sys s
+exact_all sys s None none finds = λ i p later there. finds i p later (slice_get_within s i p there) there
+exact_all sys s (Some first) none finds = absurd (none-some first none)
 
-pub exact_all : (sys : TileSystem) (s : List Place) → AllExactBelow sys s (length s) → HasExactInputs sys s
-exact_all sys s all i p later there = all i p later (slice_get_within s i p there) there
-
-pub no_rival_all : (sys : TileSystem) (s : List Place) → NoRivalBelow sys s (length s) → HasNoRivals sys s
-no_rival_all sys s none i p t later there = none i p t later (slice_get_within s i p there) there
+pub no_rival_all : (sys : TileSystem) (s : List Place) (found : Option (Site × TypeId)) → None ≡ found → FindsRival sys s (length s) found → HasNoRivals sys s
+no_rival_all sys s None none finds = λ i p t later there. finds i p t later (slice_get_within s i p there) there
+no_rival_all sys s (Some first) none finds = absurd (none-some first none)

@@ -1,5 +1,5 @@
 -- Input and output sides, by bonds.
-use Rattle.std.proofs.Common.{◌≡◌, ◌≢◌, ◌⊎◌, ◌<◌, ◌≤◌, ◌+◌, ◌++◌, ℕ, zero, suc, Bool, true, false, not, ◌&&◌, nat_lt, nat_le, max, List, [], ◌∷◌, length, length-append, take, Some, None, slice_get, refl, sym, ◌∙◌, ap, subst, inl, inr, arith}
+use Rattle.std.proofs.Common.{◌≡◌, ◌≢◌, ◌⊎◌, ◌<◌, ◌≤◌, ◌+◌, ◌++◌, ℕ, zero, suc, Bool, true, false, not, ◌&&◌, nat_lt, nat_le, max, List, [], ◌∷◌, length, length-append, take, Option, Some, None, slice_get, refl, sym, ◌∙◌, ap, subst, inl, inr, arith}
 use Rattle.std.proofs.lemmas.Int.{ints}
 use Rattle.std.proofs.lemmas.Bool.{cases_lt}
 use Rattle.std.proofs.lemmas.Bool.Decides.{nat_tests}
@@ -24,7 +24,10 @@ use Rattle.atam.proofs.SameVerdict.{is_output-some, is_output-none}
 use Rattle.type_index.specs.Indexes.{TypeLists, IsIndexOf}
 use Rattle.local_check.specs.declared.side_set.SideSet.{SideSet}
 use Rattle.local_check.specs.SideSets.{has, has_at, AreSidesOf}
-use Rattle.local_check.specs.Inner.Sides.{bound_sides, difference, AreEarlierAt, AreOutputsAt, AreEarlierSides, AreOutputSides}
+use Rattle.attach_rule.specs.declared.bonding.Strengths.{Strengths}
+use Rattle.attach_rule.specs.Bonds.{AreBonds}
+use Rattle.local_check.specs.Judgement.{FindsInexact, FindsRival}
+use Rattle.local_check.specs.Inner.Sides.{bound_by, bound_sides, difference, complement, AreEarlierAt, AreOutputsAt, AreEarlierSides, AreOutputSides}
 use Rattle.atam.proofs.Opening.{bond-beside}
 use Rattle.atam.proofs.Tiles.{SameTiles}
 use Rattle.local_check.proofs.Sites.{slice_get-some, distinct-take}
@@ -35,11 +38,22 @@ has-bound sys tiles m t East = refl
 has-bound sys tiles m t South = refl
 has-bound sys tiles m t West = refl
 
+-- the sides with a strength are those that interact
+pub bound_by-bonds : (sys : TileSystem) (tiles : List Place) (m : Site) (t : TypeId) (bonds : Strengths) → AreBonds sys tiles m t bonds → bound_by bonds ≡ bound_sides sys tiles m t
+bound_by-bonds sys tiles m t bonds are =
+    λ k. record { north = nat_lt 0 (are.north k); east = nat_lt 0 (are.east k); south = nat_lt 0 (are.south k); west = nat_lt 0 (are.west k) }
+
 pub has-difference : (a b : SideSet) (d : Side) → has (difference a b) d ≡ (has a d && not (has b d))
 has-difference a b North = refl
 has-difference a b East = refl
 has-difference a b South = refl
 has-difference a b West = refl
+
+pub has-complement : (a : SideSet) (d : Side) → has (complement a) d ≡ not (has a d)
+has-complement a North = refl
+has-complement a East = refl
+has-complement a South = refl
+has-complement a West = refl
 
 -- a site isn't beside itself
 pub apart : (m : Site) (d : Side) → m ≢ neighbor m d
@@ -183,20 +197,24 @@ module _ (sys : TileSystem) (s : List Place) (sets : List SideSet) (p : Place) (
         sym new.0 ∙ last ∙ (λ i. bound_sides sys (take (max (length sys.seeds) (sym new.1 i)) s) (one i).site (one i).tile)
   ]
 
-  module _ (distinct : HasDistinctSites sys.seeds) (legal : IsLegal sys s) where
-    pub outputs_more : AreOutputsAt sys s sets → (earlier : SideSet) → earlier ≡ bound_sides sys (take (max (length sys.seeds) (length sets)) s) p.site p.tile →
-        (bound : SideSet) → bound ≡ bound_sides sys s p.site p.tile → x ≡ difference bound earlier → AreOutputsAt sys s (sets ++ x ∷ [])
-    outputs_more each earlier is_earlier bound is_bound last k sides found d = elim (push_at sets x k sides found) [
-      | inl old ↦ each k sides old d
-      | inr new ↦
-          let e = take (max (length sys.seeds) (length sets)) s in
-          ap (λ a. has a d) (sym new.0 ∙ last)
-          ∙ has-difference bound earlier d
-          ∙ (λ i. has (is_bound i) d && not (has (is_earlier i) d))
-          ∙ (λ i. has-bound sys s p.site p.tile d i && not (has-bound sys e p.site p.tile d i))
-          ∙ sym (output_by_bond sys s distinct legal (length sets) p there d)
-          ∙ ap (λ j. is_output sys s j d) (sym new.1)
-    ]
+pub outputs_more : (sys : TileSystem) (s : List Place) (sets : List SideSet) (x : SideSet) → AreOutputsAt sys s sets →
+    ((d : Side) → has x d ≡ is_output sys s (length sets) d) → AreOutputsAt sys s (sets ++ x ∷ [])
+outputs_more sys s sets x each last k sides found d = elim (push_at sets x k sides found) [
+  | inl old ↦ each k sides old d
+  | inr new ↦ ap (λ a. has a d) (sym new.0) ∙ last d ∙ ap (λ j. is_output sys s j d) (sym new.1)
+]
+
+-- the output sides of one place
+pub output_here : (sys : TileSystem) (s : List Place) (distinct : HasDistinctSites sys.seeds) (legal : IsLegal sys s) (i : ℕ) (p : Place) → slice_get s i ≡ Some p →
+    (earlier bound outputs : SideSet) → earlier ≡ bound_sides sys (take (max (length sys.seeds) i) s) p.site p.tile → bound ≡ bound_sides sys s p.site p.tile →
+    outputs ≡ difference bound earlier → (d : Side) → has outputs d ≡ is_output sys s i d
+output_here sys s distinct legal i p there earlier bound outputs is_earlier is_bound is_difference d =
+    let before = take (max (length sys.seeds) i) s in
+    ap (λ a. has a d) is_difference
+    ∙ has-difference bound earlier d
+    ∙ (λ k. has (is_bound k) d && not (has (is_earlier k) d))
+    ∙ (λ k. has-bound sys s p.site p.tile d k && not (has-bound sys before p.site p.tile d k))
+    ∙ sym (output_by_bond sys s distinct legal i p there d)
 
 has_at-some : (sets : List SideSet) (i : ℕ) (x : SideSet) (d : Side) → slice_get sets i ≡ Some x → has_at sets i d ≡ has x d
 has_at-some sets i x d there = rw there refl
@@ -204,8 +222,10 @@ has_at-some sets i x d there = rw there refl
 -- the table of a sequence
 module _ (sys : TileSystem) (s tiles : List Place) (earlier outputs : List SideSet) (distinct : HasDistinctSites sys.seeds) (legal : IsLegal sys s) where
   pub table : AreEarlierSides sys s earlier → AreOutputSides sys s outputs → SamePlacements s tiles → (seeds : ℕ) → seeds ≡ length sys.seeds →
-      (index : TypeLists) → IsIndexOf sys index → AreSidesOf sys s (record { tiles = tiles; seeds = seeds; earlier = earlier; outputs = outputs; index = index })
-  table are_earlier are_outputs same seeds is_count index is_index = record {
+      (index : TypeLists) → IsIndexOf sys index →
+      (inexact : Option (Site × ℕ)) → FindsInexact sys s (length s) inexact → (rival : Option (Site × TypeId)) → FindsRival sys s (length s) rival →
+      AreSidesOf sys s (record { tiles = tiles; seeds = seeds; earlier = earlier; outputs = outputs; index = index; inexact = inexact; rival = rival })
+  table are_earlier are_outputs same seeds is_count index is_index inexact is_inexact rival is_rival = record {
     same = same;
     count = are_outputs.count;
     inputs = λ i d within.
@@ -219,4 +239,6 @@ module _ (sys : TileSystem) (s tiles : List Place) (earlier outputs : List SideS
         let x = slice_get-some outputs i (omega (arith, within, are_outputs.count)) in
         has_at-some outputs i x.0 d x.1 ∙ are_outputs.each i x.0 x.1 d;
     index = is_index;
+    inexact = is_inexact;
+    rival = is_rival;
   }

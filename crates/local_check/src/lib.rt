@@ -1,8 +1,10 @@
 //! Whether a legal sequence is locally deterministic.
 #![tactic(auto)]
 
+mod earlier;
 mod judgement;
 mod laws;
+mod outputs;
 mod side_set;
 mod side_table;
 mod verdict;

@@ -1,22 +1,21 @@
 // The input and output sides of the places of a sequence.
-ghost use Rattle.std.specs.Prelude.{◌≡◌, ◌<◌, not, length, IfOk};
+ghost use Rattle.std.specs.Prelude.{◌≡◌, ◌<◌, length, IfOk};
 ghost use Rattle.atam.specs.declared.site.Side.{Side};
-ghost use Rattle.atam.specs.Placements.{SamePlacements};
-ghost use Rattle.atam.specs.TileSystem.{IsValid};
 ghost use Rattle.atam.specs.Assembly.{Fits};
 ghost use Rattle.atam.specs.Growth.{IsLegal};
 ghost use Rattle.local_check.specs.SideSets.{has, input_at, output_at, AreSidesOf};
-ghost use Rattle.local_check.specs.Inner.Sides.{AreEarlierSides, AreOutputSides};
 
-use crate::side_set::{SideSet, bound_sides};
+use crate::earlier::{Earlier, look_back};
+use crate::outputs::{Outputs, look_around};
+use crate::side_set::SideSet;
 use assembly::{Grid, Sequence, put_seeds};
 use std::alloc::Global;
 use std::marker::Model;
-use tile_system::{Beside, NoMemory, Place, Placed, Side, Site, System, TypeId};
+use tile_system::{Beside, NoMemory, Placed, Side, Site, System, TypeId};
 use type_index::TypeIndex;
 
-/// The input and output sides of each place of a sequence, a grid of its places, and an index of the
-/// system's types.
+/// The input and output sides of each place of a sequence, a grid of its places, an index of the
+/// system's types, and where the sequence first breaks a condition on its places.
 #[derive(Drop)]
 pub struct SideSets {
     grid: Grid,
@@ -24,6 +23,8 @@ pub struct SideSets {
     earlier: Vec<SideSet>,
     outputs: Vec<SideSet>,
     index: TypeIndex,
+    inexact: Option<(Site, u32)>,
+    rival: Option<(Site, TypeId)>,
 }
 
 impl Model for SideSets {
@@ -38,6 +39,8 @@ impl Model for SideSets {
       earlier = s.earlier.items;
       outputs = s.outputs.items;
       index = s.index;
+      inexact = s.inexact;
+      rival = s.rival;
     } };
 
     ghost invariant = { λ s. length s.earlier.items ≡ length s.outputs.items };
@@ -79,12 +82,18 @@ impl SideSets {
         &self.index
     }
 
-    // The sides of a place that are no output sides.
-    pub(crate) fn kept_at(&self, i: usize) -> SideSet
-        requires { i < length self.now.outputs }
-        ensures { (d : Side) → has result d ≡ not (output_at self.now i d) }
+    // The first place that isn't held by exactly the temperature, with what holds it.
+    pub(crate) fn inexact(&self) -> Option<(Site, u32)>
+        ensures { result ≡ self.now.inexact }
     {
-        self.outputs[i].complement()
+        self.inexact
+    }
+
+    // The first place with a rival, with its first rival.
+    pub(crate) fn rival(&self) -> Option<(Site, TypeId)>
+        ensures { result ≡ self.now.rival }
+    {
+        self.rival
     }
 }
 
@@ -100,8 +109,9 @@ impl Placed for SideSets {
     }
 }
 
-/// The sides of the places of a legal sequence, in memory for a grid over the box, for the sequence
-/// and for an index of the types. Its time grows with the number of places and with the number of sites of the box.
+/// The sides of the places of a legal sequence, with the first place that isn't held exactly and the
+/// first rival, in memory for a grid over the box, for the sequence and for an index of the types. Its
+/// time grows with the number of places and with the number of sites of the box.
 pub fn inputs(alloc: Global, sys: &System, seq: &Sequence) -> Result<SideSets, NoMemory>
     requires legal { IsLegal sys.now seq.now }
     requires fits { Fits sys.now seq.now }
@@ -109,65 +119,24 @@ pub fn inputs(alloc: Global, sys: &System, seq: &Sequence) -> Result<SideSets, N
 {
     let mut grid = Grid::make(alloc, sys.area())?;
     put_seeds(sys, &mut grid);
-    let earlier = earlier_sides(alloc, sys, seq, &mut grid)?;
-    let outputs = output_sides(alloc, sys, seq, &grid, &earlier)?;
+    let earlier = look_back(alloc, sys, seq, &mut grid)?;
     let index = TypeIndex::build(alloc, sys)?;
+    let outputs = look_around(alloc, sys, seq, &grid, &earlier.sides, &index)?;
+    let Earlier {
+        sides: earlier,
+        inexact,
+    } = earlier;
+    let Outputs {
+        sides: outputs,
+        rival,
+    } = outputs;
     Ok(SideSets {
         grid,
         seed_count: sys.seeds().len(),
         earlier,
         outputs,
         index,
+        inexact,
+        rival,
     })
-}
-
-// The sides of each place that interact with the seeds, or with an earlier place. Puts the places
-// after the seeds into a grid of the seeds.
-fn earlier_sides(
-    alloc: Global,
-    sys: &System,
-    seq: &Sequence,
-    grid: &mut Grid,
-) -> Result<Vec<SideSet>, NoMemory>
-    requires valid { IsValid sys.now }
-    requires legal { IsLegal sys.now seq.now }
-    requires fits { Fits sys.now seq.now }
-    requires area { grid.old.area ≡ sys.now.area }
-    requires seeds { SamePlacements sys.now.seeds grid.old.tiles }
-    ensures sides { IfOk result (λ sets. AreEarlierSides sys.now seq.now sets.items) }
-    ensures placements { IfOk result (λ sets. SamePlacements seq.now grid.new.tiles) }
-{
-    let mut sets = Vec::with_capacity(alloc, seq.len())?;
-    let seed_count = sys.seeds().len();
-    for index in 0..seq.len() {
-        let place = seq.get(index);
-        sets.push(bound_sides(sys, grid, place))?;
-        if index >= seed_count {
-            grid.put(place);
-        }
-    }
-    Ok(sets)
-}
-
-// The sides of each place that interact with a later place other than a seed.
-fn output_sides(
-    alloc: Global,
-    sys: &System,
-    seq: &Sequence,
-    grid: &Grid,
-    earlier: &Vec<SideSet>,
-) -> Result<Vec<SideSet>, NoMemory>
-    requires valid { IsValid sys.now }
-    requires legal { IsLegal sys.now seq.now }
-    requires fits { Fits sys.now seq.now }
-    requires placements { SamePlacements seq.now grid.now.tiles }
-    requires earlier { AreEarlierSides sys.now seq.now earlier.now.items }
-    ensures { IfOk result (λ sets. AreOutputSides sys.now seq.now sets.items) }
-{
-    let mut sets = Vec::with_capacity(alloc, seq.len())?;
-    for index in 0..seq.len() {
-        let bound = bound_sides(sys, grid, seq.get(index));
-        sets.push(bound.without(earlier[index]))?;
-    }
-    Ok(sets)
 }

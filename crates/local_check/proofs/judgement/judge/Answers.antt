@@ -11,21 +11,23 @@ pub returns-in-Some-least_open : goal.returns-in-Some-least_open
 returns-in-Some-least_open c =
     let sys = c.args.sys.now in
     let s = c.args.seq.now in
-    let same = one_map sys s c.args.sides.now.tiles c.first_inexact.ensures.distinct c.requires.legal c.requires.sides.same in (
-      exact_all sys s c.in_default.ensures.first,
-      no_rival_all sys s c.in_default-first_rival.ensures,
-      least_open_same sys c.args.sides.now.tiles s (λ m. Unit {0}) (Some (c.in-Some-least_open.site, c.in-Some-least_open.tile)) (λ m. sym (same m)) c.in-Some-least_open.ensures,
+    let sides = c.args.sides.now in
+    let same = one_map sys s sides.tiles c.tau-valid.ensures.valid.distinct_seeds c.requires.legal c.requires.sides.same in (
+      exact_all sys s sides.inexact c.in_default.ensures c.requires.sides.inexact,
+      no_rival_all sys s sides.rival c.in_default-rival.ensures c.requires.sides.rival,
+      least_open_same sys sides.tiles s (λ m. Unit {0}) (Some (c.in-Some-least_open.site, c.in-Some-least_open.tile)) (λ m. sym (same m)) c.in-Some-least_open.ensures,
     )
 
 pub returns-in-None : goal.returns-in-None
 returns-in-None c =
     let sys = c.args.sys.now in
     let s = c.args.seq.now in
-    let same = one_map sys s c.args.sides.now.tiles c.first_inexact.ensures.distinct c.requires.legal c.requires.sides.same in
-    let none = least_open_same sys c.args.sides.now.tiles s (λ m. Unit {0}) None (λ m. sym (same m)) c.in-None.ensures in
+    let sides = c.args.sides.now in
+    let same = one_map sys s sides.tiles c.tau-valid.ensures.valid.distinct_seeds c.requires.legal c.requires.sides.same in
+    let none = least_open_same sys sides.tiles s (λ m. Unit {0}) None (λ m. sym (same m)) c.in-None.ensures in
     record {
       legal = c.requires.legal;
-      exact = exact_all sys s c.in_default.ensures.first;
-      no_rival = no_rival_all sys s c.in_default-first_rival.ensures;
+      exact = exact_all sys s sides.inexact c.in_default.ensures c.requires.sides.inexact;
+      no_rival = no_rival_all sys s sides.rival c.in_default-rival.ensures c.requires.sides.rival;
       terminal = λ m t. none m t tt;
     }
