@@ -1,11 +1,12 @@
 -- A box's sites and their numbers.
-use Rattle.std.proofs.Common.{◌≡◌, ◌<◌, ◌≤◌, ℕ, ◌+◌, ◌*◌, ◌/◌, ◌%◌, ◌∙◌, sym, ap, inl, inr, arith, ℤ, pos, ◌+ℤ◌, ◌-ℤ◌, nat_abs}
+use Rattle.std.proofs.Common.{◌≡◌, ◌<◌, ◌≤◌, ℕ, ◌+◌, ◌*◌, ◌/◌, ◌%◌, ◌-◌, ◌≢◌, suc, refl, ◌∙◌, sym, ap, inl, inr, arith, ℤ, pos, ◌+ℤ◌, ◌-ℤ◌, nat_abs}
 use Rattle.std.proofs.lemmas.Int.{ints}
 use Rattle.std.proofs.lemmas.Nat.{mul-add-lt, mod-mul-add, div-mul-add, div-add-mod', mul-le}
 use Rattle.std.proofs.Math.Nat.{div-lt_iff_lt-mul, mul_comm}
 use Rattle.atam.specs.declared.site.Site.{Site}
 use Rattle.atam.specs.declared.area.BoxArea.{BoxArea}
-use Rattle.atam.specs.Sites.{IsBefore, InBox, IsBox, width_of, height_of, site_in}
+use Rattle.atam.specs.declared.site.Side.TheVariants.{North, East, South, West}
+use Rattle.atam.specs.Sites.{IsBefore, InBox, IsBox, neighbor, width_of, height_of, site_in}
 use Rattle.atam.proofs.Boxes.{same_coordinates}
 use Rattle.assembly.specs.Cells.{cell_count, site_at}
 
@@ -25,6 +26,12 @@ at_cell area m row column w inside width is_y is_x =
       site_at-cell area row column narrow ∙ sym (same_coordinates m (site_in area column row) is_y is_x),
       mul-add-lt row (width_of area) column (height_of area) low narrow,
     )
+
+-- the number that is that of a row and a column
+numbered : (area : BoxArea) (m : Site) (i row column : ℕ) → InBox area m → i ≡ row * width_of area + column → m.y ≡ (area.y0 +ℤ pos row) → m.x ≡ (area.x0 +ℤ pos column) → (site_at area i ≡ m) × (i < cell_count area)
+numbered area m i row column inside is is_y is_x =
+    let both = at_cell area m row column (width_of area) inside refl is_y is_x in
+    (ap (site_at area) is ∙ both.0, omega (arith, is, both.1))
 
 -- the number of a site of the box
 pub index_of : (area : BoxArea) (m : Site) → InBox area m → (i : ℕ) × (i < cell_count area) × (site_at area i ≡ m)
@@ -46,6 +53,62 @@ site_at-injective area i j same =
     let columns : i % w ≡ j % w = same_row area.x0 (i % w) (j % w) (ap (λ m. m.x) same) in
     let rows : i / w ≡ j / w = same_row area.y0 (i / w) (j / w) (ap (λ m. m.y) same) in
     sym (div-add-mod' i w) ∙ ap (λ k. k * w + i % w) rows ∙ ap (λ k. j / w * w + k) columns ∙ div-add-mod' j w
+
+-- the numbers of the sites beside a site of the box
+module _ (area : BoxArea) (m : Site) (i : ℕ) (inside : InBox area m) (here : site_at area i ≡ m) where
+  row_here : m.y ≡ (area.y0 +ℤ pos (i / width_of area))
+  row_here = ap (λ n. n.y) (sym here)
+
+  column_here : m.x ≡ (area.x0 +ℤ pos (i % width_of area))
+  column_here = ap (λ n. n.x) (sym here)
+
+  split_here : i / width_of area * width_of area + i % width_of area ≡ i
+  split_here = div-add-mod' i (width_of area)
+
+  pub north_cell : m.y ≢ area.y1 → (site_at area (i + width_of area) ≡ neighbor m North) × (i + width_of area < cell_count area)
+  north_cell below =
+      let row = i / width_of area in
+      let column = i % width_of area in
+      let up : InBox area (neighbor m North) = record { left = inside.left; right = inside.right; bottom = omega (arith, ints, inside.bottom); top = omega (arith, ints, inside.top, below) } in
+      numbered area (neighbor m North) (i + width_of area) (suc row) column up (omega (arith, split_here)) (omega (arith, ints, row_here)) column_here
+
+  pub east_cell : m.x ≢ area.x1 → (site_at area (i + 1) ≡ neighbor m East) × (i + 1 < cell_count area)
+  east_cell left =
+      let row = i / width_of area in
+      let column = i % width_of area in
+      let right : InBox area (neighbor m East) = record { left = omega (arith, ints, inside.left); right = omega (arith, ints, inside.right, left); bottom = inside.bottom; top = inside.top } in
+      numbered area (neighbor m East) (i + 1) row (column + 1) right (omega (arith, split_here)) row_here (omega (arith, ints, column_here))
+
+  pub south_cell : m.y ≢ area.y0 → (site_at area (i - width_of area) ≡ neighbor m South) × (i - width_of area < cell_count area)
+  south_cell above =
+      let row = i / width_of area - 1 in
+      let column = i % width_of area in
+      let some : i / width_of area ≡ suc row = omega (arith, ints, row_here, inside.bottom, above) in
+      let split : suc row * width_of area + column ≡ i = ap (λ r. r * width_of area + column) (sym some) ∙ split_here in
+      let down : InBox area (neighbor m South) = record { left = inside.left; right = inside.right; bottom = omega (arith, ints, inside.bottom, above); top = omega (arith, ints, inside.top) } in
+      numbered area (neighbor m South) (i - width_of area) row column down (omega (arith, split)) (omega (arith, ints, row_here, some)) column_here
+
+  pub west_cell : m.x ≢ area.x0 → (site_at area (i - 1) ≡ neighbor m West) × (i - 1 < cell_count area)
+  west_cell right =
+      let row = i / width_of area in
+      let column = i % width_of area - 1 in
+      let some : i % width_of area ≡ suc column = omega (arith, ints, column_here, inside.left, right) in
+      let left : InBox area (neighbor m West) = record { left = omega (arith, ints, inside.left, right); right = omega (arith, ints, inside.right); bottom = inside.bottom; top = inside.top } in
+      numbered area (neighbor m West) (i - 1) row column left (omega (arith, split_here, some)) row_here (omega (arith, ints, column_here, some))
+
+  -- where the row below is in the box, a row's numbers are left
+  pub row_left : m.y ≢ area.y0 → width_of area ≤ i
+  row_left above =
+      let row = i / width_of area - 1 in
+      let column = i % width_of area in
+      let some : i / width_of area ≡ suc row = omega (arith, ints, row_here, inside.bottom, above) in
+      let split : suc row * width_of area + column ≡ i = ap (λ r. r * width_of area + column) (sym some) ∙ split_here in
+      omega (arith, split)
+
+  pub one_left : m.x ≢ area.x0 → 1 ≤ i
+  one_left right =
+      let some : 1 ≤ i % width_of area = omega (arith, ints, column_here, inside.left, right) in
+      omega (arith, split_here, some)
 
 -- the sites with numbers below the count lie in the box
 pub site_at-inside : (area : BoxArea) (i : ℕ) → IsBox area → i < cell_count area → InBox area (site_at area i)

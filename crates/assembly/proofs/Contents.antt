@@ -1,22 +1,17 @@
 -- The tiles that cells stand for. Each index has a site of its own.
-use Rattle.std.proofs.Common.{◌≡◌, ◌≢◌, ◌⊎◌, ◌<◌, ◌≤◌, ◌+◌, ◌-◌, ◌==◌, ◌++◌, ℕ, zero, suc, true, false, cond, if◌then◌else◌, List, [], ◌∷◌, length, get_or, set, replicate, count_by, Option, Some, None, All, refl, sym, zero-add, ◌∙◌, ap, subst, inl, inr, arith}
+use Rattle.std.proofs.Common.{◌≡◌, ◌≢◌, ◌⊎◌, ◌<◌, ◌≤◌, ◌+◌, ◌-◌, ◌==◌, ◌++◌, ℕ, zero, suc, true, false, cond, if◌then◌else◌, List, [], ◌∷◌, length, get_or, set, replicate, count_by, Some, None, All, refl, sym, zero-add, ◌∙◌, ap, subst, inl, inr, arith}
 use Rattle.std.proofs.lemmas.Bool.{cases_Bool, cases_lt}
 use Rattle.std.proofs.lemmas.List.Elements.{All-nil, All-cons}
 use Rattle.std.proofs.lemmas.List.Sums.{sum_by-cons}
 use Rattle.std.proofs.lemmas.List.Kept.{AllPairs-cons}
 use Rattle.atam.specs.declared.site.Site.{Site}
-use Rattle.atam.specs.declared.place.TypeId.{TypeId}
 use Rattle.atam.specs.declared.place.Place.{Place}
 use Rattle.atam.specs.Placements.{HasDistinctSites, tile_at}
 use Rattle.atam.proofs.Boxes.{same_site_tells}
 use Rattle.atam.proofs.Placements.{tile_at-here, tile_at-past, tile_at-append, tile_at-append_past}
 use Rattle.assembly.specs.Grids.{place_of, places_of}
-use Rattle.assembly.specs.Inner.GridCells.{is_tile}
+use Rattle.assembly.specs.Inner.GridCells.{is_tile, type_in}
 use Rattle.atam.proofs.Tiles.{SameTiles}
-
--- the type in a cell
-abbrev pub type_in : ℕ → Option TypeId
-type_in cell = if cell == 0 then None else Some (record { 0 = cell - 1 })
 
 pub type_in-gap : (cell : ℕ) → (cell == 0) ≡ true → type_in cell ≡ None
 type_in-gap cell gap = rw gap refl

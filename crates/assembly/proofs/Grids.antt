@@ -13,11 +13,11 @@ use Rattle.atam.specs.Sites.{InBox}
 use Rattle.atam.specs.Placements.{HasDistinctSites, SamePlacements, tile_at}
 use Rattle.assembly.specs.Cells.{site_at}
 use Rattle.assembly.specs.Grids.{places_of}
-use Rattle.assembly.specs.Inner.GridCells.{IsGrid, is_tile}
+use Rattle.assembly.specs.Inner.GridCells.{IsGrid, is_tile, type_in}
 use Rattle.assembly.proofs.Cells.{site_at-injective, site_at-inside, cell_count-most}
 use Rattle.assembly.specs.Inner.Filling.{filled_cell}
 use Rattle.atam.proofs.Tiles.{SameTiles, SamePlacements-put, SamePlacements-merge}
-use Rattle.assembly.proofs.Contents.{type_in, type_in-tile, length-places, All-places, places-distinct, tile_at-cell, tile_at-outside, tile_at-set_other, tile_at-merged}
+use Rattle.assembly.proofs.Contents.{type_in-tile, length-places, All-places, places-distinct, tile_at-cell, tile_at-outside, tile_at-set_other, tile_at-merged}
 
 module _ (area : BoxArea) (cells : List ℕ) (count : ℕ) (grid : IsGrid area cells count) where
   pub grid_inside : All (λ p. InBox area p.site) (places_of (site_at area) 0 cells)

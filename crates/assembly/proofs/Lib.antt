@@ -3,3 +3,4 @@ pub mod Contents
 pub mod Grids
 pub mod Filling
 pub mod Putting
+mod Beside

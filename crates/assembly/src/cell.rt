@@ -6,6 +6,7 @@ ghost use Rattle.assembly.specs.Cells.{cell_count, site_at};
 use atam::{BoxArea, Site};
 
 /// The number of a site of the box, by rows from the least corner, in a table of the box's sites.
+#[inline(always)]
 pub fn site_index(area: &BoxArea, site: Site) -> usize
     requires limits { IsBox area.now }
     requires inside { InBox area.now site }
@@ -18,6 +19,7 @@ pub fn site_index(area: &BoxArea, site: Site) -> usize
 }
 
 /// The site of the box with this number.
+#[inline(always)]
 pub fn site_of_index(area: &BoxArea, index: usize) -> Site
     requires limits { IsBox area.now }
     requires within { index < cell_count area.now }

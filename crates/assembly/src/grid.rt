@@ -3,9 +3,11 @@ ghost use Rattle.std.specs.Prelude.{ℕ, ◌≡◌, ◌≢◌, ◌<◌, ◌+◌,
 ghost use Rattle.atam.specs.declared.limits.TheConstants.{MOST_TYPES};
 ghost use Rattle.atam.specs.declared.site.Site.{Site};
 ghost use Rattle.atam.specs.declared.place.TypeId.{TypeId};
-ghost use Rattle.atam.specs.Sites.{InBox, IsBox};
+ghost use Rattle.atam.specs.declared.site.Side.TheVariants.{North, East, South, West};
+ghost use Rattle.atam.specs.Sites.{InBox, IsBox, neighbor};
 ghost use Rattle.atam.specs.Placements.{tile_at, HasDistinctSites, SamePlacements};
-ghost use Rattle.assembly.specs.Inner.GridCells.{is_tile};
+ghost use Rattle.assembly.specs.Cells.{cell_count, site_at};
+ghost use Rattle.assembly.specs.Inner.GridCells.{is_tile, type_in};
 ghost use Rattle.assembly.specs.Inner.Filling.{filled_cell};
 
 use crate::site_index;
@@ -118,28 +120,109 @@ impl Grid {
         self.cells.as_mut_slice().fill(0);
         self.count = 0;
     }
+
+    // The type of the tile at the site with this number.
+    #[inline(always)]
+    fn tile(&self, index: usize) -> Option<TypeId>
+        requires { index < cell_count self.now.area }
+        ensures { result ≡ tile_at self.now.tiles (site_at self.now.area index) }
+    {
+        type_in(self.cells[index])
+    }
+
+    // The tile north of the site with this number. It and the next three look at one cell.
+    #[inline(always)]
+    fn north_of(&self, site: Site, index: usize) -> Option<TypeId>
+        requires inside { InBox self.now.area site }
+        requires within { index < cell_count self.now.area }
+        requires number { site_at self.now.area index ≡ site }
+        ensures { result ≡ tile_at self.now.tiles (neighbor site North) }
+    {
+        if site.y == self.area.y1 {
+            return None;
+        }
+        self.tile(index + self.area.width() as usize)
+    }
+
+    #[inline(always)]
+    fn east_of(&self, site: Site, index: usize) -> Option<TypeId>
+        requires inside { InBox self.now.area site }
+        requires within { index < cell_count self.now.area }
+        requires number { site_at self.now.area index ≡ site }
+        ensures { result ≡ tile_at self.now.tiles (neighbor site East) }
+    {
+        if site.x == self.area.x1 {
+            return None;
+        }
+        self.tile(index + 1)
+    }
+
+    #[inline(always)]
+    fn south_of(&self, site: Site, index: usize) -> Option<TypeId>
+        requires inside { InBox self.now.area site }
+        requires within { index < cell_count self.now.area }
+        requires number { site_at self.now.area index ≡ site }
+        ensures { result ≡ tile_at self.now.tiles (neighbor site South) }
+    {
+        if site.y == self.area.y0 {
+            return None;
+        }
+        self.tile(index - self.area.width() as usize)
+    }
+
+    #[inline(always)]
+    fn west_of(&self, site: Site, index: usize) -> Option<TypeId>
+        requires inside { InBox self.now.area site }
+        requires within { index < cell_count self.now.area }
+        requires number { site_at self.now.area index ≡ site }
+        ensures { result ≡ tile_at self.now.tiles (neighbor site West) }
+    {
+        if site.x == self.area.x0 {
+            return None;
+        }
+        self.tile(index - 1)
+    }
 }
 
 impl Placed for Grid {
     ghost placements = { λ g. g.tiles };
 
+    #[inline(always)]
     fn at(&self, site: Site) -> Option<TypeId> {
         if !self.area.holds(site) {
             return None;
         }
-        match self.cells[site_index(&self.area, site)] {
-            0 => None,
-            cell => Some(TypeId(cell as u32 - 1)),
-        }
+        self.tile(site_index(&self.area, site))
     }
 
+    #[inline(always)]
     fn beside(&self, site: Site) -> Beside {
-        Beside {
-            north: self.at(site.step(Side::North)),
-            east: self.at(site.step(Side::East)),
-            south: self.at(site.step(Side::South)),
-            west: self.at(site.step(Side::West)),
+        if !self.area.holds(site) {
+            return Beside {
+                north: self.at(site.step(Side::North)),
+                east: self.at(site.step(Side::East)),
+                south: self.at(site.step(Side::South)),
+                west: self.at(site.step(Side::West)),
+            };
         }
+        let index = site_index(&self.area, site);
+        Beside {
+            north: self.north_of(site, index),
+            east: self.east_of(site, index),
+            south: self.south_of(site, index),
+            west: self.west_of(site, index),
+        }
+    }
+}
+
+// The type that a cell tells.
+#[inline(always)]
+fn type_in(cell: u16) -> Option<TypeId>
+    ensures { result ≡ type_in cell }
+{
+    match cell {
+        0 => None,
+        cell => Some(TypeId(cell as u32 - 1)),
     }
 }
 
