@@ -8,6 +8,8 @@ mod builder;
 #[cfg(test)]
 mod containers;
 #[cfg(test)]
+mod index;
+#[cfg(test)]
 mod orders;
 #[cfg(test)]
 mod places;

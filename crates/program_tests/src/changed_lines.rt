@@ -26,10 +26,19 @@ fn refuses_each_changed_line(rt: HostRuntime) -> Result<(), Fail> {
         (2, "tau -1", 2, "OutOfRange"),
         (2, "tau 00000000002", 2, "BadNumber"),
         (2, "tau +1", 2, "BadNumber"),
+        (2, "tau -", 2, "BadNumber"),
+        (2, "tau 4294967297", 2, "OutOfRange"),
         (2, "tau 1 2", 2, "BadLine"),
         (2, "end", 2, "OutOfOrder"),
         (3, "glue a 251", 3, "OutOfRange"),
         (4, "glue a 2", 4, "DoubleName"),
+        (
+            4,
+            "glue abcdefghijabcdefghijabcdefghijabcdefghij1 1",
+            4,
+            "BadName",
+        ),
+        (4, "glue b 2\r", 4, "BadNumber"),
         (5, "tile S - z - -", 5, "UnknownName"),
         (5, "tile S - a# - -", 5, "BadName"),
         (6, "tile S - b - z", 6, "DoubleName"),
@@ -48,6 +57,26 @@ fn refuses_each_changed_line(rt: HostRuntime) -> Result<(), Fail> {
         assert_eq!(rt; ran.status, Status::Text, "{line}");
         assert_eq!(rt; ran.err.as_slice(), err.as_bytes(), "{line}");
         assert_eq!(rt; ran.out.len(), 0, "{line}");
+    }
+    Ok(())
+}
+
+#[test]
+fn takes_each_changed_line(rt: HostRuntime) -> Result<(), Fail> {
+    for (number, line) in [
+        (2, "tau 0000000002"),
+        (2, "  tau   2  "),
+        (
+            4,
+            "glue b 2\nglue abcdefghijabcdefghijabcdefghijabcdefghij 250",
+        ),
+        (8, "box 0 0 2 1023"),
+        (9, "seed 00 -0 S"),
+    ] {
+        let alloc = rt.alloc();
+        let text = changed(alloc, number, line)?;
+        let ran = answered(&rt, alloc, &["grow"], text.as_str())?;
+        assert_eq!(rt; ran.status, Status::Done, "{line}");
     }
     Ok(())
 }

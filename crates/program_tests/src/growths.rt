@@ -30,6 +30,34 @@ fn takes_one_of_two_rivals(rt: HostRuntime) -> Result<(), Fail> {
     Ok(())
 }
 
+// A short path and a long one around a square to one site, with a type for each.
+const RACE: &str = "tiles 1\ntau 1\nglue a 1\nglue b 1\nglue c 1\nglue e 1\nglue f 1\nglue g 1\n\
+    tile S b a - -\ntile A c - - a\ntile B e - b -\ntile C - f e -\ntile D - - g f\n\
+    tile X - - c -\ntile Y g - - -\nbox 0 0 1 2\nseed 0 0 S\nend\n";
+
+// Where two paths race for a site, either wins by some choice, and the short one by choice 0.
+#[test]
+fn takes_both_ends_of_a_race(rt: HostRuntime) -> Result<(), Fail> {
+    let short = b"place 0 0 S\nplace 1 0 A\nplace 0 1 B\nplace 1 1 X\nplace 0 2 C\n\
+        place 1 2 D\nclosed terminal\nunique no 2 1 1 Y\n";
+    let long = b"place 0 0 S\nplace 1 0 A\nplace 0 1 B\nplace 0 2 C\nplace 1 2 D\n\
+        place 1 1 Y\nclosed terminal\nunique no 2 1 1 X\n";
+    let mut took_long = false;
+    for choice in 0..64u32 {
+        let alloc = rt.alloc();
+        let word = format!(in alloc; "{choice}")?;
+        let ran = answered(&rt, alloc, &["grow", "--choice", word.as_str()], RACE)?;
+        assert_eq!(rt; ran.status, Status::No, "{choice}");
+        if ran.out.as_slice() != short.as_slice() {
+            assert!(rt; choice != 0);
+            assert_eq!(rt; ran.out.as_slice(), long.as_slice(), "{choice}");
+            took_long = true;
+        }
+    }
+    assert!(rt; took_long);
+    Ok(())
+}
+
 // A command on the text of a system and a growth text behind it.
 fn behind<R: Threads + Sync>(
     rt: &R,

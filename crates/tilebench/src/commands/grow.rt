@@ -1,6 +1,7 @@
 // `grow`: what a system grows into within its box.
 ghost use Rattle.std.specs.Prelude.{◌≡◌, IfOk};
-ghost use Rattle.atam.specs.Growth.{IsClosedInBox, IsProducible};
+ghost use Rattle.atam.specs.Assembly.{Fits};
+ghost use Rattle.atam.specs.Growth.{IsClosedInBox, IsProducible, IsLeastOpenOutside};
 ghost use Rattle.local_check.specs.declared.verdict.Verdict.{Verdict};
 ghost use Rattle.tilebench.specs.Commands.Grow.{IsGrowthText, growth_text, is_unique};
 ghost use Rattle.tilebench.specs.Inner.Rooms.{GrowsTo, HasTypes, outcome_of};
@@ -8,13 +9,13 @@ ghost use Rattle.tilebench.specs.Inner.Rooms.{GrowsTo, HasTypes, outcome_of};
 use crate::order::canonical_order;
 use crate::room::{GrowthRoom, Reply};
 use assembly::{Grid, Sequence};
-use attach_rule::least_open_outside;
 use local_check::{Verdict, inputs, judge};
 use seq_text::{print_closed, print_places, print_verdict};
 use site_table::Grown;
 use std::alloc::Global;
 use tile_io::{Failed, Sink};
 use tile_system::{NoMemory, Site, System, TypeId};
+use type_index::TypeIndex;
 
 /// The command.
 #[derive(Clone, Copy)]
@@ -79,7 +80,7 @@ pub fn growth_of(alloc: Global, sys: System, grid: &Grid) -> Result<Growth, NoMe
     ensures { IfOk result (GrowsTo sys grid.now.tiles) }
 {
     let _box = grid.area();
-    let outside = least_open_outside(&sys, grid);
+    let outside = open_outside(alloc, &sys, grid)?;
     let order = canonical_order(alloc, &sys, grid)?;
     let sides = inputs(alloc, &sys, &order)?;
     let verdict = judge(&sys, &order, &sides);
@@ -89,4 +90,17 @@ pub fn growth_of(alloc: Global, sys: System, grid: &Grid) -> Result<Growth, NoMe
         outside,
         verdict,
     })
+}
+
+// The least open site outside the box.
+fn open_outside(
+    alloc: Global,
+    sys: &System,
+    grid: &Grid,
+) -> Result<Option<(Site, TypeId)>, NoMemory>
+    requires { Fits sys.now grid.now.tiles }
+    ensures { IfOk result (IsLeastOpenOutside sys.now grid.now.tiles) }
+{
+    let index = TypeIndex::build(alloc, sys)?;
+    Ok(index.least_open_outside(sys, grid))
 }

@@ -2,8 +2,8 @@ use Rattle.std.proofs.Common.{◌∙◌, refl}
 use Rattle.tilebench.proofs.Growths.{open_type, producible_fits, verdict_types}
 use Rattle.tilebench.proofs.commands.grow.growth_of.Goals as goal
 
-pub least_open_outside-outside-requires : goal.least_open_outside-outside-requires
-least_open_outside-outside-requires c = producible_fits c.args.sys c.area-box.result c.args.grid.now.tiles (c.area-box.ensures.area ∙ c.requires.area) c.area-box.ensures.inside c.requires.producible
+pub open_outside-requires : goal.open_outside-requires
+open_outside-requires c = producible_fits c.args.sys c.area-box.result c.args.grid.now.tiles (c.area-box.ensures.area ∙ c.requires.area) c.area-box.ensures.inside c.requires.producible
 
 pub canonical_order-requires-clause-fits : goal.canonical_order-requires-clause-fits
 canonical_order-requires-clause-fits c =
@@ -25,14 +25,14 @@ returns c =
             closed = c.requires.closed;
           };
           canonical = ordered.canonical;
-          least = c.least_open_outside-outside.ensures;
+          least = c.in_ok-outside.ensures;
           judged = c.judge-verdict.ensures;
         };
         ordered = ordered;
       };
       types = record {
         order = ordered.fits.types;
-        outside = open_type sys tiles c.least_open_outside-outside.result c.least_open_outside-outside.ensures;
+        outside = open_type sys tiles c.in_ok-outside.outside c.in_ok-outside.ensures;
         verdict = verdict_types sys c.in_ok-order.order c.judge-verdict.result c.judge-verdict.ensures;
       };
     }
