@@ -1,13 +1,9 @@
 -- Indices of names in a list, and the map that has them.
-use Rattle.std.specs.BTreeMap.{BTreeMap, insert_entry}
-use Rattle.std.specs.Map.{lookup}
-use Rattle.std.specs.Cmp.Lexicographic.{slice_cmp}
-use Rattle.std.specs.Ordering.{is_eq}
+use Rattle.std.specs.HashMap.{HashMap, get_by, Updates}
+use Rattle.std.specs.Map.{IsKeyTest, AreApart, KeepsOthers}
 use Rattle.std.specs.Option.{option_map_or, IfNone}
 use Rattle.std.specs.List.{position_from}
-use Rattle.std.specs.declared.cmp.Ordering.{Ordering}
-use Rattle.std.specs.declared.cmp.Ordering.TheVariants.{Less, Equal, Greater}
-use Rattle.std.proofs.Common.{◌≡◌, ◌≢◌, ◌<◌, ◌+◌, ◌⊎◌, ℕ, suc, Bool, true, false, cond, List, [], ◌∷◌, ◌++◌, length, get_or, slice_get, Option, Some, None, IfSome, option_map, All, position, bytes_eq, nat_cmp, refl, sym, ◌∙◌, ap, subst, inl, inr, arith, add-zero, zero-add, nat_lt}
+use Rattle.std.proofs.Common.{◌≡◌, ◌≢◌, ◌<◌, ◌+◌, ◌⊎◌, ℕ, suc, Bool, true, false, cond, List, [], ◌∷◌, ◌++◌, length, get_or, slice_get, Option, Some, None, IfSome, option_map, All, position, bytes_eq, refl, sym, ◌∙◌, ap, subst, inl, inr, arith, add-zero, zero-add, nat_lt}
 use Rattle.std.proofs.lemmas.Bool.Decides.{nat_tests}
 use Rattle.std.specs.List.{position_or_len}
 use Rattle.std.proofs.lemmas.Option.{none-some, slice_get-get_or}
@@ -15,8 +11,6 @@ use Rattle.std.proofs.lemmas.List.Quantifiers.{position-Some}
 use Rattle.std.proofs.lemmas.List.Sums.{fails_before_first}
 use Rattle.std.proofs.lemmas.Bool.{cases_Bool}
 use Rattle.std.proofs.lemmas.Iterator.Adapters.{position_from-zero}
-use Rattle.std.proofs.lemmas.Map.Lookups.{exact_bytes}
-use Rattle.std.proofs.lemmas.Map.Text.{is_eq-slice_cmp}
 use Rattle.std.proofs.lemmas.Slice.Eq.{bytes_eq-Decides}
 use Rattle.tile_system.specs.Names.{index_named}
 use Rattle.tile_system.specs.Inner.Indices.{IsIndexOf}
@@ -73,42 +67,33 @@ index_named-push name items item wanted fresh =
       | inr other ↦ rw other.0 (position-push_failing (λ x. bytes_eq wanted (name x)) items item other.0)
     ]
 
-ordering_cases : (o : Ordering) → (o ≡ Less) ⊎ (o ≡ Equal) ⊎ (o ≡ Greater)
-ordering_cases Less = inl refl
-ordering_cases Equal = inr (inl refl)
-ordering_cases Greater = inr (inr refl)
+-- the map has the indices once an item with a new name has come
+module _ {K S X : Type 0} (bytes : K → List ℕ) (name : X → List ℕ) (old new : HashMap K ℕ S) (items : List X) (key : K) (item : X) (index : IsIndexOf bytes name old items) (fresh : index_named name items (name item) ≡ None) (named : bytes key ≡ name item) (value : ℕ) (counted : value ≡ length items) (updates : Updates (λ k l. bytes_eq (bytes k) (bytes l)) old new key (Some value)) where
+  asks_one_key : (wanted : List ℕ) → IsKeyTest (λ k l. bytes_eq (bytes k) (bytes l)) (λ k. bytes_eq wanted (bytes k))
+  asks_one_key wanted x y hit =
+      let same : wanted ≡ bytes x = (bytes_eq-Decides wanted (bytes x)).0 hit in
+      ap (λ w. bytes_eq w (bytes y)) same
 
--- what a map finds once a key is put in
-module _ {K X : Type 0} (bytes : K → List ℕ) (wanted : List ℕ) where
-  lookup-insert_entry : (entries : List (K × X)) (key : K) (value : X) →
-      lookup (λ k. is_eq (slice_cmp nat_cmp wanted (bytes k))) (insert_entry (λ k l. slice_cmp nat_cmp (bytes k) (bytes l)) entries key value)
-      ≡ cond (bytes_eq wanted (bytes key)) (Some value) (lookup (λ k. is_eq (slice_cmp nat_cmp wanted (bytes k))) entries)
-  lookup-insert_entry [] key value = rw (is_eq-slice_cmp wanted (bytes key)) refl
-  lookup-insert_entry (e ∷ entries) key value =
-      let rest = lookup (λ k. is_eq (slice_cmp nat_cmp wanted (bytes k))) entries in
-      elim (ordering_cases (slice_cmp nat_cmp (bytes key) (bytes e.0))) [
-        | inl less ↦ rw (less, is_eq-slice_cmp wanted (bytes key)) refl
-        | inr (inl equal) ↦ rw (equal, is_eq-slice_cmp wanted (bytes e.0), exact_bytes (bytes key) (bytes e.0) equal)
-            (elim (bytes_eq wanted (bytes e.0)) as (λ b. cond b (Some value) rest ≡ cond b (Some value) (cond b (Some e.1) rest)) [ true ↦ refl | false ↦ refl ])
-        | inr (inr greater) ↦ let apart : bytes_eq (bytes key) (bytes e.0) ≡ false = sym (is_eq-slice_cmp (bytes key) (bytes e.0)) ∙ ap is_eq greater in
-            rw (greater, lookup-insert_entry entries key value, is_eq-slice_cmp wanted (bytes e.0))
-            (elim (bytes_tell wanted (bytes e.0)) [
-              | inl at_entry ↦ elim (bytes_tell wanted (bytes key)) [
-                | inl at_key ↦ absurd (clash (sym ((bytes_eq-Decides (bytes key) (bytes e.0)).1 (sym at_key.1 ∙ at_entry.1)) ∙ apart))
-                | inr other ↦ rw (at_entry.0, other.0) refl
-              ]
-              | inr elsewhere ↦ rw elsewhere.0 refl
-            ])
+  asks_another : (wanted : List ℕ) → wanted ≢ bytes key → AreApart (λ k. bytes_eq (bytes key) (bytes k)) (λ k. bytes_eq wanted (bytes k))
+  asks_another wanted other k hit =
+      elim (bytes_tell wanted (bytes k)) [
+        | inl same ↦ absurd (other (same.1 ∙ sym ((bytes_eq-Decides (bytes key) (bytes k)).0 hit)))
+        | inr differ ↦ differ.0
       ]
 
--- the map has the indices once an item with a new name has come
-pub IsIndexOf-push : {K X : Type 0} (bytes : K → List ℕ) (name : X → List ℕ) (old new : BTreeMap K ℕ) (items : List X) (key : K) (item : X) → IsIndexOf bytes name old items → index_named name items (name item) ≡ None → bytes key ≡ name item →
-    new.entries ≡ insert_entry (λ k l. slice_cmp nat_cmp (bytes k) (bytes l)) old.entries key (length items) → IsIndexOf bytes name new (items ++ item ∷ [])
-IsIndexOf-push {K = K} bytes name old new items key item index fresh named inserted wanted =
-    let Finds : List (K × ℕ) → Type 0 = λ es. lookup (λ k. is_eq (slice_cmp nat_cmp wanted (bytes k))) es ≡ index_named name (items ++ item ∷ []) wanted in
-    subst Finds (sym inserted)
-    (lookup-insert_entry bytes wanted old.entries key (length items)
-    ∙ rw (index wanted, named) (sym (index_named-push name items item wanted fresh)))
+  finds_key : (wanted : List ℕ) → wanted ≡ bytes key → get_by (λ k. bytes_eq wanted (bytes k)) new ≡ Some (length items)
+  finds_key wanted same = ap (λ w. get_by (λ k. bytes_eq w (bytes k)) new) same ∙ updates.1 ∙ ap (λ n. Some n) counted
+
+  finds_other : (wanted : List ℕ) → wanted ≢ bytes key → get_by (λ k. bytes_eq wanted (bytes k)) new ≡ get_by (λ k. bytes_eq wanted (bytes k)) old
+  unfolding KeepsOthers
+  finds_other wanted other = updates.3 (λ k. bytes_eq wanted (bytes k)) (asks_one_key wanted) (asks_another wanted other)
+
+  pub IsIndexOf-push : IsIndexOf bytes name new (items ++ item ∷ [])
+  IsIndexOf-push wanted =
+      elim (bytes_tell wanted (name item)) [
+        | inl same ↦ finds_key wanted (same.1 ∙ sym named) ∙ sym (index_named-push name items item wanted fresh ∙ rw same.0 refl)
+        | inr other ↦ finds_other wanted (λ is. other.1 (is ∙ named)) ∙ index wanted ∙ sym (index_named-push name items item wanted fresh ∙ rw other.0 refl)
+      ]
 
 -- the item at the index of a name has it
 pub has_name : {G X : Type 0} (index : G → ℕ) (name : X → List ℕ) (items : List X) (wanted : List ℕ) (found : Option G) → option_map index found ≡ index_named name items wanted →

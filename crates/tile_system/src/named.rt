@@ -4,7 +4,7 @@ ghost use Rattle.tile_system.specs.Names.{index_named};
 
 use crate::NoMemory;
 use std::alloc::Global;
-use std::collections::BTreeMap;
+use std::collections::HashMap;
 use std::marker::Model;
 
 // An item with a name.
@@ -19,7 +19,7 @@ pub trait Named {
 #[derive(Drop)]
 pub struct NamedList<T: Named> {
     items: Vec<T>,
-    indices: BTreeMap<Vec<u8>, u32>,
+    indices: HashMap<Vec<u8>, u32>,
 }
 
 impl<T: Named> Model for NamedList<T> {
@@ -39,10 +39,11 @@ impl<T: Named> NamedList<T> {
     {
         NamedList {
             items: Vec::new(alloc),
-            indices: BTreeMap::new(alloc),
+            indices: HashMap::new(alloc),
         }
     }
 
+    #[inline(always)]
     pub fn as_slice(&self) -> &[T]
         ensures { result.now ≡ self.now }
     {

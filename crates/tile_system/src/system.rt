@@ -86,6 +86,7 @@ impl System {
         }
     }
 
+    #[inline(always)]
     pub fn tau(&self) -> u32
         ensures tau { result ≡ self.now.tau }
         ensures valid { IsValid self.now }
@@ -93,18 +94,21 @@ impl System {
         self.tau
     }
 
+    #[inline(always)]
     pub fn glue_count(&self) -> u32
         ensures count { result ≡ length self.now.glues }
     {
         self.glues.as_slice().len() as u32
     }
 
+    #[inline(always)]
     pub fn type_count(&self) -> u32
         ensures count { result ≡ length self.now.types }
     {
         self.types.as_slice().len() as u32
     }
 
+    #[inline(always)]
     pub fn strength(&self, glue: GlueId) -> u32
         requires { glue.0 < length self.now.glues }
         ensures strength { result ≡ strength_of self.now glue }
@@ -114,6 +118,7 @@ impl System {
         entry.strength()
     }
 
+    #[inline(always)]
     pub fn glue_name(&self, glue: GlueId) -> &[u8]
         requires { glue.0 < length self.now.glues }
         ensures { result.now ≡ glue_name self.now glue }
@@ -122,6 +127,7 @@ impl System {
         entry.name()
     }
 
+    #[inline(always)]
     pub fn type_name(&self, tile: TypeId) -> &[u8]
         requires { IsType self.now tile }
         ensures { result.now ≡ type_name self.now tile }
@@ -130,6 +136,7 @@ impl System {
         entry.name()
     }
 
+    #[inline(always)]
     pub fn side(&self, tile: TypeId, side: Side) -> Option<GlueId>
         requires { IsType self.now tile }
         ensures glue { result ≡ side_glue self.now tile side }
@@ -139,7 +146,8 @@ impl System {
         entry.side(side)
     }
 
-    /// The glue with this name, in time that grows with the logarithm of their number.
+    /// The glue with this name, in time that grows with the name and not with their number.
+    #[inline(always)]
     pub fn find_glue(&self, name: &[u8]) -> Option<GlueId>
         ensures index { option_map (λ glue. glue.0) result ≡ glue_named self.now.glues name.now }
         ensures in_range { IfSome result (λ glue. glue.0 < length self.now.glues) }
@@ -149,7 +157,8 @@ impl System {
         self.glues.find(name).map(GlueId)
     }
 
-    /// The type with this name, in time that grows with the logarithm of their number.
+    /// The type with this name, in time that grows with the name and not with their number.
+    #[inline(always)]
     pub fn find_type(&self, name: &[u8]) -> Option<TypeId>
         ensures index { option_map (λ tile. tile.0) result ≡ type_named self.now.types name.now }
         ensures in_range { IfSome result (IsType self.now) }
@@ -159,6 +168,7 @@ impl System {
         self.types.find(name).map(TypeId)
     }
 
+    #[inline(always)]
     pub fn area(&self) -> BoxArea
         ensures area { result ≡ self.now.area }
         ensures box_limits { IsBox result }
@@ -168,6 +178,7 @@ impl System {
     }
 
     /// The seeds, in their order.
+    #[inline(always)]
     pub fn seeds(&self) -> &[Place]
         ensures seeds { result.now ≡ self.now.seeds }
         ensures some { 1 ≤ length result.now }
@@ -179,6 +190,7 @@ impl System {
     }
 
     /// The first seed.
+    #[inline(always)]
     pub fn seed(&self) -> Place
         ensures first { slice_get self.now.seeds 0 ≡ Some result }
     {
@@ -186,6 +198,7 @@ impl System {
     }
 
     /// The strength of two glues: that of the glue where they are one, else that of their pair.
+    #[inline(always)]
     #[tactic(auto, unfolding(atam::specs::TileSystem::strength_between))]
     pub fn between(&self, first: GlueId, second: GlueId) -> u32
         requires first { first.0 < length self.now.glues }
@@ -200,6 +213,7 @@ impl System {
 }
 
 /// The strength of the pair of two glues; 0 where they aren't paired.
+#[inline(always)]
 fn pair_strength(pairs: &[GluePair], first: GlueId, second: GlueId) -> u32
     ensures { result ≡ pair_strength pairs.now first second }
 {
@@ -211,6 +225,7 @@ fn pair_strength(pairs: &[GluePair], first: GlueId, second: GlueId) -> u32
 }
 
 /// Whether a pair is of these two glues, in either order.
+#[inline(always)]
 fn is_pair_of(pair: &GluePair, first: GlueId, second: GlueId) -> bool
     ensures { result ≡ is_pair_of pair.now first second }
 {

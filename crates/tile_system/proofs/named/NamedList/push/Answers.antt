@@ -1,6 +1,4 @@
-use Rattle.std.proofs.Common.{◌≡◌, ◌++◌, ◌∷◌, [], None, List, length, nat_cmp, subst, sym, rules}
-use Rattle.std.specs.BTreeMap.{insert_entry}
-use Rattle.std.specs.Cmp.Lexicographic.{slice_cmp}
+use Rattle.std.proofs.Common.{◌≡◌, ◌++◌, ◌∷◌, [], None, List, subst, sym, rules}
 use Rattle.tile_system.specs.Names.{index_named}
 use Rattle.tile_system.specs.Inner.Indices.{IsIndexOf}
 use Rattle.tile_system.proofs.NamedLemmas.{IsIndexOf-push}
@@ -14,7 +12,6 @@ invariant_of-self-2 g c =
     let key = c.in_ok-name.name in
     let fresh : index_named name items (name item) ≡ None = search rules in
     let named : key.items ≡ name item = search rules in
-    let entries : c.insert.new.self.entries ≡ insert_entry (λ k l. slice_cmp nat_cmp k.items l.items) c.self.inside.indices.entries key (length items) = search rules in
     let added : c.push_reserved.new.self.items ≡ items ++ item ∷ [] = search rules in
     let IsIndex : List g.row.T.Denot → Type 0 = λ l. IsIndexOf (λ k. k.items) name c.insert.new.self l in
-    subst IsIndex (sym added) (IsIndexOf-push (λ k. k.items) name c.self.inside.indices c.insert.new.self items key item c.self.invariant fresh named entries)
+    subst IsIndex (sym added) (IsIndexOf-push (λ k. k.items) name c.self.inside.indices c.insert.new.self items key item c.self.invariant fresh named c.len-index.result (search rules) c.in_ok-insert.ensures.updates)
