@@ -85,7 +85,8 @@ module _ (sys : TileSystem) (valid : IsValid sys) where
       let y = near_small m.y (le_z (negsuc 1000001) m.y near.bottom) (le_z m.y (pos 1000002) near.top) in
       ((IsWord-signed m.x x, length-signed m.x x), (IsWord-signed m.y y, length-signed m.y y))
 
-  typed_name : (t : TypeId) → IsType sys t → IsWord (type_name sys t) × (length (type_name sys t) ≤ 40)
+  -- the name of a type
+  pub typed_name : (t : TypeId) → IsType sys t → IsWord (type_name sys t) × (length (type_name sys t) ≤ 40)
   typed_name t typed =
       let p : Place = record { site = record { x = pos 0; y = pos 0 }; tile = t } in
       let named = named_seed sys p valid.type_names valid.distinct_types typed in
