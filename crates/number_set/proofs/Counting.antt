@@ -3,12 +3,7 @@ use Rattle.std.proofs.Common.{◌≡◌, ◌≢◌, ◌↔◌, ℕ, zero, suc, �
 use Rattle.std.proofs.lemmas.Bool.{cases_eq}
 use Rattle.std.proofs.lemmas.Nat.Bits.{bit_at-lt}
 use Rattle.number_set.specs.Bits.{bit_of}
-use Rattle.number_set.specs.Numbers.{Numbers, IsIn, Adds, Removes}
-
--- how many numbers below k are in the set
-abbrev pub count_below : Numbers → ℕ → ℕ
-count_below s zero = 0
-count_below s (suc k) = count_below s k + bit_of s.words k
+use Rattle.number_set.specs.Numbers.{count_below, Numbers, IsIn, Adds, Removes}
 
 bit_within : (s : Numbers) (n : ℕ) → bit_of s.words n < 2
 bit_within s n = bit_at-lt _ _
