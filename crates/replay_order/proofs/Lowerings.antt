@@ -10,7 +10,7 @@ use Rattle.assembly.specs.Cells.{cell_count, site_at}
 use Rattle.assembly.proofs.Cells.{site_at-injective}
 use Rattle.number_set.specs.Numbers.{IsIn}
 use Rattle.replay_order.specs.Inner.Replays.{Waiting, Lowers, given_at}
-use Rattle.replay_order.proofs.Pulls.{given_at-here, given_at-other, given_at-zero}
+use Rattle.replay_order.proofs.Pulls.{given_at-here, given_at-other}
 
 -- one after the other
 pub Lowers-both : (area : BoxArea) (f g : Site → ℕ) (a b c : Waiting) → Lowers area f a b → Lowers area g b c → Lowers area (λ m. f m + g m) a c
@@ -36,15 +36,6 @@ Lowers-both area f g a b c first second = record {
   );
 }
 
--- the same where each site is given as much
-pub Lowers-as : (area : BoxArea) (f g : Site → ℕ) (a b : Waiting) → ((m : Site) → f m ≡ g m) → Lowers area f a b → Lowers area g a b
-Lowers-as area f g a b same lowers = record {
-  old_area = lowers.old_area;
-  new_area = lowers.new_area;
-  lacks = λ i below. omega (arith, lowers.lacks i below, same (site_at area i));
-  ready = lowers.ready;
-}
-
 module _ (area : BoxArea) (here : Site) (strength : ℕ) (old : Waiting) (old_area : old.area ≡ area) where
   -- nothing changes where nothing is to be given, or nothing lacks
   lowers_nothing : ((i : ℕ) → i < cell_count area → (given_at here strength (site_at area i) ≡ 0) ⊎ (get_or old.lacks i 0 ≡ 0)) → Lowers area (given_at here strength) old old
@@ -57,9 +48,6 @@ module _ (area : BoxArea) (here : Site) (strength : ℕ) (old : Waiting) (old_ar
       λ or_passed. elim or_passed [ inl is_in ↦ is_in | inr passed ↦ let never : ⊥ = omega (arith, passed.0, passed.1) in absurd never ],
     );
   }
-
-  pub lowers_zero : strength ≡ 0 → Lowers area (given_at here strength) old old
-  lowers_zero zero = lowers_nothing (λ i below. inl (ap (λ w. given_at here w (site_at area i)) zero ∙ given_at-zero here (site_at area i)))
 
   module _ (number : ℕ) (there : site_at area number ≡ here) where
     apart : (i : ℕ) → i ≢ number → here ≢ site_at area i

@@ -47,9 +47,6 @@ given_at-here here m strength is = elim (same_site_tells here m) [ inl same ↦ 
 pub given_at-other : (here m : Site) (strength : ℕ) → here ≢ m → given_at here strength m ≡ 0
 given_at-other here m strength other = elim (same_site_tells here m) [ inl same ↦ absurd (other same.1) | inr differ ↦ rw differ.0 refl ]
 
-pub given_at-zero : (here m : Site) → given_at here 0 m ≡ 0
-given_at-zero here m = elim (same_site_tells here m) [ inl same ↦ rw same.0 refl | inr differ ↦ rw differ.0 refl ]
-
 -- a tile of a whole, and what stands beside it
 module _ (sys : TileSystem) (tiles : List Place) (p : Place) (m : Site) where
   -- the tile beside it gets of it alone what it has with that

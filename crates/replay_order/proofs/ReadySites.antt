@@ -1,5 +1,5 @@
 -- The sites that are ready, and what the tiles lack, as places are listed.
-use Rattle.std.proofs.Common.{◌≡◌, ◌≢◌, ◌<◌, ◌≤◌, ◌-◌, ℕ, List, [], ◌∷◌, ◌++◌, Some, None, Contains, get_or, sym, ◌∙◌, ap, subst, inl, inr, arith}
+use Rattle.std.proofs.Common.{◌≡◌, ◌≢◌, ◌<◌, ◌≤◌, ◌-◌, ℕ, List, [], ◌∷◌, ◌++◌, Some, None, Contains, get_or, slice_get, sym, ◌∙◌, ap, subst, inl, inr, arith}
 use Rattle.std.proofs.Math.Nat.{le_trans}
 use Rattle.std.proofs.lemmas.Bool.{cases_lt}
 use Rattle.std.proofs.lemmas.Option.{none-some, same_Some}
@@ -8,13 +8,13 @@ use Rattle.atam.specs.declared.site.Site.{Site}
 use Rattle.atam.specs.declared.place.TypeId.{TypeId}
 use Rattle.atam.specs.declared.place.Place.{Place}
 use Rattle.atam.specs.Sites.{InBox, neighbor}
-use Rattle.atam.specs.Placements.{IsPartOf, tile_at}
+use Rattle.atam.specs.Placements.{HasDistinctSites, IsPartOf, tile_at}
 use Rattle.atam.specs.TileSystem.{TileSystem, IsType}
 use Rattle.atam.specs.Assembly.{Fits, bond, pull}
 use Rattle.atam.proofs.Boxes.{same_site_tells}
-use Rattle.atam.proofs.Lists.{All-slice_get, Contains-push, some_or_none}
+use Rattle.atam.proofs.Lists.{All-slice_get, Contains-push, slice_get-Contains, some_or_none}
 use Rattle.atam.proofs.Bonds.{beside_a_tile, bond-none}
-use Rattle.atam.proofs.Placements.{tile_at-Contains, tile_at-place}
+use Rattle.atam.proofs.Placements.{Contains-tile_at, tile_at-Contains, tile_at-place}
 use Rattle.atam.proofs.Tiles.{tile_at-push_other, tile_at-push_here}
 use Rattle.assembly.specs.Cells.{cell_count, site_at}
 use Rattle.assembly.proofs.Cells.{site_at-injective}
@@ -178,14 +178,22 @@ module _ (sys : TileSystem) (tiles s : List Place) (old new : Waiting) (m : Site
     λ both. (takes.removed i).1 ((ready i below).1 both.0, λ one. both.1 (ap (λ k. site_at sys.area k) one ∙ taken_site)),
   )
 
-module _ (sys : TileSystem) (tiles s : List Place) where
-  -- a seed is never ready
-  pub ready_but_seed : (p : Place) (ready : Numbers) → Contains sys.seeds p → tile_at sys.seeds p.site ≢ None → AreReadySites sys tiles s ready → AreReadySitesBut sys tiles s ready p.site
-  ready_but_seed p ready seed some are i below = (
+-- a seed
+module _ (sys : TileSystem) (seeds_distinct : HasDistinctSites sys.seeds) (k : ℕ) (p : Place) (there : slice_get sys.seeds k ≡ Some p) where
+  seed_at : tile_at sys.seeds p.site ≡ Some p.tile
+  seed_at = Contains-tile_at sys.seeds p seeds_distinct (slice_get-Contains sys.seeds k p there)
+
+  -- is held by nothing
+  pub seed_held : (s : List Place) → due_at sys.seeds sys.tau p.site ≤ pull sys s p.site p.tile
+  seed_held s = omega (arith, due_at-seed sys.seeds sys.tau p.site p.tile seed_at)
+
+  -- and is never ready
+  pub seed_but : (tiles s : List Place) (ready : Numbers) → AreReadySites sys tiles s ready → AreReadySitesBut sys tiles s ready p.site
+  seed_but tiles s ready are i below = (
     λ is_in.
         let at = (are i below).0 is_in in
         let Empty : Site → Type 0 = λ n. tile_at sys.seeds n ≡ None in
-        (at, λ same. some (subst Empty same at.no_seed)),
+        (at, λ same. none-some p.tile (sym (subst Empty same at.no_seed) ∙ seed_at)),
     λ both. (are i below).1 both.0,
   )
 
