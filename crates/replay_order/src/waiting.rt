@@ -1,0 +1,117 @@
+// The sites of a box that wait for their turn, by their numbers.
+ghost use Rattle.std.specs.Prelude.{ℕ, ◌≡◌, ◌≢◌, ◌↔◌, ◌<◌, ◌≤◌, slice_index, All, IsTrue, IfSome, IfNone, IfOk};
+ghost use Rattle.atam.specs.declared.limits.TheConstants.{MOST_STRENGTH, MOST_TAU};
+ghost use Rattle.atam.specs.Sites.{InBox, IsBox, IsNearSite};
+ghost use Rattle.atam.specs.Placements.{HasDistinctSites};
+ghost use Rattle.assembly.specs.Cells.{cell_count, site_at};
+ghost use Rattle.attach_rule.specs.Bonds.{AreStrengths};
+ghost use Rattle.number_set.specs.Numbers.{IsIn};
+ghost use Rattle.replay_order.specs.Inner.Replays.{due_at, given_at, given_beside, Lowers, AreInside, TakesLeast};
+
+use assembly::{site_index, site_of_index};
+use attach_rule::Strengths;
+use number_set::NumberSet;
+use std::alloc::Global;
+use std::marker::Model;
+use tile_system::{BoxArea, NoMemory, Place, Side, Site};
+
+// How much pull the tile at each site lacks to be held, and the sites that are ready. A site is
+// ready once, when its tile lacks nothing any more. Each call but `make` takes no memory.
+#[derive(Drop)]
+pub(crate) struct WaitingSites {
+    area: BoxArea,
+    lacks: Vec<u16>,
+    ready: NumberSet,
+}
+
+impl Model for WaitingSites {
+    ghost use Rattle.replay_order.specs.Inner.Replays.{Waiting, HasEachSite};
+
+    ghost Value = { Waiting };
+
+    ghost view = { λ w. record { area = w.area; lacks = w.lacks.items; ready = w.ready } };
+
+    ghost invariant = { λ w. HasEachSite w.area w.lacks.items w.ready };
+}
+
+impl WaitingSites {
+    // No site is ready: a seed lacks nothing from the beginning, and each other tile all.
+    pub(crate) fn make(
+        alloc: Global,
+        area: BoxArea,
+        tau: u32,
+        seeds: &[Place],
+    ) -> Result<WaitingSites, NoMemory>
+        requires limits { IsBox area }
+        requires small { tau ≤ MOST_TAU }
+        requires inside { All (λ p. InBox area p.site) seeds.now }
+        requires distinct { HasDistinctSites seeds.now }
+        ensures area { IfOk result (λ w. w.area ≡ area) }
+        ensures lacks { IfOk result (λ w. (i : ℕ) → i < cell_count area →
+            slice_index w.lacks i ≡ due_at seeds.now tau (site_at area i)) }
+        ensures empty { IfOk result (λ w. (i : ℕ) → ¬ IsIn w.ready i) }
+    {
+        let sites = area.width() * area.height();
+        let ready = NumberSet::make(alloc, sites)?;
+        let mut lacks = Vec::from_elem(alloc, tau as u16, sites as usize)?;
+        for seed in seeds {
+            lacks[site_index(&area, seed.site)] = 0;
+        }
+        Ok(WaitingSites { area, lacks, ready })
+    }
+
+    // Gives the tiles beside a site the strengths that the tile at it has with them.
+    pub(crate) fn lower_beside(&mut self, site: Site, strengths: &Strengths)
+        requires near { IsNearSite site }
+        requires inside { AreInside self.old.area site strengths.now }
+        requires small { AreStrengths strengths.now }
+        ensures { Lowers self.old.area (given_beside site strengths.now) self.old self.new }
+    {
+        self.lower(site.step(Side::North), strengths.north);
+        self.lower(site.step(Side::East), strengths.east);
+        self.lower(site.step(Side::South), strengths.south);
+        self.lower(site.step(Side::West), strengths.west);
+    }
+
+    // Gives the tile at a site a strength.
+    #[inline(always)]
+    fn lower(&mut self, site: Site, strength: u32)
+        requires inside { strength ≢ 0 → InBox self.old.area site }
+        requires small { strength ≤ MOST_STRENGTH }
+        ensures { Lowers self.old.area (given_at site strength) self.old self.new }
+    {
+        if strength == 0 {
+            return;
+        }
+        let number = site_index(&self.area, site);
+        let lack = self.lacks[number];
+        if lack == 0 {
+            return;
+        }
+        let left = lack.saturating_sub(strength as u16);
+        self.lacks[number] = left;
+        if left == 0 {
+            self.ready.insert(number);
+        }
+    }
+
+    // Takes the least ready site out.
+    #[inline(always)]
+    pub(crate) fn take_least(&mut self) -> Option<Site>
+        ensures area { self.new.area ≡ self.old.area }
+        ensures lacks { self.new.lacks ≡ self.old.lacks }
+        ensures least { IfSome result (TakesLeast self.old self.new) }
+        ensures none { IfNone result ((i : ℕ) → ¬ IsIn self.old.ready i) }
+    {
+        let number = self.ready.pop_least()?;
+        Some(site_of_index(&self.area, number))
+    }
+
+    // Whether the tile at the site with this number lacks something.
+    pub(crate) fn is_lacking(&self, number: usize) -> bool
+        requires { number < cell_count self.now.area }
+        ensures { IsTrue result ↔ (0 < slice_index self.now.lacks number) }
+    {
+        self.lacks[number] > 0
+    }
+}
