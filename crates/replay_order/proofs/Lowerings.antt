@@ -1,16 +1,21 @@
--- What the tiles of a box lack, as sites are given strengths.
-use Rattle.std.proofs.Common.{◌≡◌, ◌≢◌, ◌⊎◌, ◌↔◌, ◌<◌, ◌+◌, ◌-◌, ℕ, length, get_or, sym, ◌∙◌, ap, subst, inl, inr, arith}
+-- What the tiles of a box lack, as those beside a place are given the strengths that they have with it.
+use Rattle.std.proofs.Common.{List, ◌≡◌, ◌≢◌, ◌⊎◌, ◌↔◌, ◌<◌, ◌+◌, ◌-◌, ℕ, length, get_or, sym, ◌∙◌, ap, subst, inl, inr, arith}
 use Rattle.std.proofs.Common.{get_or-set_same, get_or-set_other}
 use Rattle.std.proofs.lemmas.Bool.{cases_lt}
 use Rattle.std.proofs.lemmas.Bool.Decides.{eqb_tells}
 use Rattle.std.proofs.Math.ListN.{set}
+use Rattle.atam.specs.declared.site.Side.{Side}
 use Rattle.atam.specs.declared.site.Site.{Site}
+use Rattle.atam.specs.declared.place.Place.{Place}
 use Rattle.atam.specs.declared.area.BoxArea.{BoxArea}
+use Rattle.atam.specs.Sites.{InBox, IsBox, neighbor}
+use Rattle.atam.specs.TileSystem.{TileSystem}
+use Rattle.atam.specs.Assembly.{bond}
 use Rattle.assembly.specs.Cells.{cell_count, site_at}
-use Rattle.assembly.proofs.Cells.{site_at-injective}
+use Rattle.assembly.proofs.Cells.{site_at-injective, site_at-inside}
 use Rattle.number_set.specs.Numbers.{IsIn}
-use Rattle.replay_order.specs.Inner.Replays.{Waiting, Lowers, given_at}
-use Rattle.replay_order.proofs.Pulls.{given_at-here, given_at-other}
+use Rattle.replay_order.specs.Inner.Replays.{Waiting, Lowers, given_to}
+use Rattle.replay_order.proofs.Pulls.{given_to-here, given_to-other}
 
 -- one after the other
 pub Lowers-both : (area : BoxArea) (f g : Site → ℕ) (a b c : Waiting) → Lowers area f a b → Lowers area g b c → Lowers area (λ m. f m + g m) a c
@@ -36,9 +41,9 @@ Lowers-both area f g a b c first second = record {
   );
 }
 
-module _ (area : BoxArea) (here : Site) (strength : ℕ) (old : Waiting) (old_area : old.area ≡ area) where
+module _ (area : BoxArea) (sys : TileSystem) (tiles : List Place) (p : Place) (d : Side) (old : Waiting) (old_area : old.area ≡ area) where
   -- nothing changes where nothing is to be given, or nothing lacks
-  lowers_nothing : ((i : ℕ) → i < cell_count area → (given_at here strength (site_at area i) ≡ 0) ⊎ (get_or old.lacks i 0 ≡ 0)) → Lowers area (given_at here strength) old old
+  lowers_nothing : ((i : ℕ) → i < cell_count area → (given_to sys tiles p d (site_at area i) ≡ 0) ⊎ (get_or old.lacks i 0 ≡ 0)) → Lowers area (given_to sys tiles p d) old old
   lowers_nothing either = record {
     old_area = old_area;
     new_area = old_area;
@@ -49,33 +54,39 @@ module _ (area : BoxArea) (here : Site) (strength : ℕ) (old : Waiting) (old_ar
     );
   }
 
-  module _ (number : ℕ) (there : site_at area number ≡ here) where
-    apart : (i : ℕ) → i ≢ number → here ≢ site_at area i
+  -- nothing is given to a site outside the box
+  pub lowers_outside : IsBox area → ¬ InBox area (neighbor p.site d) → Lowers area (given_to sys tiles p d) old old
+  lowers_outside limits outside =
+      let apart_from : (i : ℕ) → i < cell_count area → neighbor p.site d ≢ site_at area i = λ i below same. outside (subst (InBox area) (sym same) (site_at-inside area i limits below)) in
+      lowers_nothing (λ i below. inl (given_to-other sys tiles p d (site_at area i) (apart_from i below)))
+
+  module _ (number : ℕ) (there : site_at area number ≡ neighbor p.site d) where
+    apart : (i : ℕ) → i ≢ number → neighbor p.site d ≢ site_at area i
     apart i other same = other (site_at-injective area i number (sym same ∙ sym there))
 
-    pub lowers_full : get_or old.lacks number 0 ≡ 0 → Lowers area (given_at here strength) old old
+    pub lowers_full : get_or old.lacks number 0 ≡ 0 → Lowers area (given_to sys tiles p d) old old
     lowers_full full = lowers_nothing (λ i below. elim (eqb_tells i number) [
       | inl same ↦ inr (ap (λ k. get_or old.lacks k 0) same.1 ∙ full)
-      | inr differ ↦ inl (given_at-other here (site_at area i) strength (apart i differ.1))
+      | inr differ ↦ inl (given_to-other sys tiles p d (site_at area i) (apart i differ.1))
     ])
 
     -- a number is written
     pub lowers_one : (new : Waiting) (left : ℕ) → new.area ≡ area → number < length old.lacks → 0 < get_or old.lacks number 0 →
-        left ≡ get_or old.lacks number 0 - strength → new.lacks ≡ set old.lacks number left →
-        ((m : ℕ) → IsIn new.ready m ↔ (IsIn old.ready m ⊎ ((m ≡ number) × (left ≡ 0)))) → Lowers area (given_at here strength) old new
+        left ≡ get_or old.lacks number 0 - bond sys tiles p.site p.tile d → new.lacks ≡ set old.lacks number left →
+        ((m : ℕ) → IsIn new.ready m ↔ (IsIn old.ready m ⊎ ((m ≡ number) × (left ≡ 0)))) → Lowers area (given_to sys tiles p d) old new
     lowers_one new left new_area within some is written ready =
         let at_here : get_or new.lacks number 0 ≡ left = ap (λ l. get_or l number 0) written ∙ get_or-set_same old.lacks number left 0 within in
         let at_other : (i : ℕ) → i ≢ number → get_or new.lacks i 0 ≡ get_or old.lacks i 0 = λ i other.
         ap (λ l. get_or l i 0) written ∙ get_or-set_other old.lacks number i left 0 other
         in
-        let Left : ℕ → Type 0 = λ i. get_or new.lacks i 0 ≡ get_or old.lacks i 0 - given_at here strength (site_at area i) in
-        let left_here : Left number = omega (arith, at_here, is, given_at-here here (site_at area number) strength (sym there)) in
+        let Left : ℕ → Type 0 = λ i. get_or new.lacks i 0 ≡ get_or old.lacks i 0 - given_to sys tiles p d (site_at area i) in
+        let left_here : Left number = omega (arith, at_here, is, given_to-here sys tiles p d (site_at area number) (sym there)) in
         record {
           old_area = old_area;
           new_area = new_area;
           lacks = λ i below. elim (eqb_tells i number) [
             | inl same ↦ subst Left (sym same.1) left_here
-            | inr differ ↦ omega (arith, at_other i differ.1, given_at-other here (site_at area i) strength (apart i differ.1))
+            | inr differ ↦ omega (arith, at_other i differ.1, given_to-other sys tiles p d (site_at area i) (apart i differ.1))
           ];
           ready = λ i below. (
             λ is_in. elim ((ready i).0 is_in) [

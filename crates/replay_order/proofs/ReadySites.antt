@@ -3,23 +3,20 @@ use Rattle.std.proofs.Common.{◌≡◌, ◌≢◌, ◌<◌, ◌≤◌, ◌-◌,
 use Rattle.std.proofs.Math.Nat.{le_trans}
 use Rattle.std.proofs.lemmas.Bool.{cases_lt}
 use Rattle.std.proofs.lemmas.Option.{none-some, same_Some}
-use Rattle.atam.specs.declared.site.Side.{Side}
 use Rattle.atam.specs.declared.site.Site.{Site}
 use Rattle.atam.specs.declared.place.TypeId.{TypeId}
 use Rattle.atam.specs.declared.place.Place.{Place}
-use Rattle.atam.specs.Sites.{InBox, neighbor}
+use Rattle.atam.specs.Sites.{InBox}
 use Rattle.atam.specs.Placements.{HasDistinctSites, IsPartOf, tile_at}
 use Rattle.atam.specs.TileSystem.{TileSystem, IsType}
-use Rattle.atam.specs.Assembly.{Fits, bond, pull}
+use Rattle.atam.specs.Assembly.{Fits, pull}
 use Rattle.atam.proofs.Boxes.{same_site_tells}
 use Rattle.atam.proofs.Lists.{All-slice_get, Contains-push, slice_get-Contains, some_or_none}
-use Rattle.atam.proofs.Bonds.{beside_a_tile, bond-none}
+use Rattle.atam.proofs.Bonds.{beside_a_tile}
 use Rattle.atam.proofs.Placements.{Contains-tile_at, tile_at-Contains, tile_at-place}
 use Rattle.atam.proofs.Tiles.{tile_at-push_other, tile_at-push_here}
 use Rattle.assembly.specs.Cells.{cell_count, site_at}
 use Rattle.assembly.proofs.Cells.{site_at-injective}
-use Rattle.attach_rule.specs.declared.bonding.Strengths.{Strengths}
-use Rattle.attach_rule.specs.Bonds.{AreBonds}
 use Rattle.number_set.specs.Numbers.{Numbers, IsIn}
 use Rattle.replay_order.specs.Inner.Replays.{IsReadySite, Waiting, due_at, AreLacks, AreReadySites, AreReadySitesBut, Lowers, given_beside, TakesLeast}
 use Rattle.replay_order.proofs.Dues.{due_at-seed, due_at-other}
@@ -40,15 +37,15 @@ part_push s tiles p part placed q contains = elim (Contains-push s p q contains)
 ]
 
 -- a place is listed, and the tiles beside it are given what it pulls
-module _ (sys : TileSystem) (tiles s : List Place) (p : Place) (old new : Waiting) (strengths : Strengths)
+module _ (sys : TileSystem) (tiles s : List Place) (p : Place) (old new : Waiting)
     (empty : tile_at s p.site ≡ None) (placed : tile_at tiles p.site ≡ Some p.tile) (held : due_at sys.seeds sys.tau p.site ≤ pull sys s p.site p.tile)
-    (bonds : AreBonds sys tiles p.site p.tile strengths) (lowers : Lowers sys.area (given_beside p.site strengths) old new) (lacks : AreLacks sys tiles s old) where
+    (lowers : Lowers sys.area (given_beside sys tiles p) old new) (lacks : AreLacks sys tiles s old) where
   -- what a tile lacks falls by that
   lacks_less : (i : ℕ) (t : TypeId) → i < cell_count sys.area → tile_at tiles (site_at sys.area i) ≡ Some t →
       get_or new.lacks i 0 ≡ due_at sys.seeds sys.tau (site_at sys.area i) - pull sys (s ++ p ∷ []) (site_at sys.area i) t
   lacks_less i t below there =
       let m = site_at sys.area i in
-      omega (arith, lacks.each i t below there, lowers.lacks i below, given_pull sys tiles p m strengths bonds t there, pull-push sys s p m t empty)
+      omega (arith, lacks.each i t below there, lowers.lacks i below, given_pull sys tiles p m t there, pull-push sys s p m t empty)
 
   -- a listed tile lacked nothing before, the new one too
   lacked_nothing : (i : ℕ) (t : TypeId) → i < cell_count sys.area → tile_at (s ++ p ∷ []) (site_at sys.area i) ≡ Some t → get_or old.lacks i 0 ≡ 0
@@ -85,7 +82,7 @@ module _ (sys : TileSystem) (tiles s : List Place) (p : Place) (old new : Waitin
       let m = site_at sys.area i in
       elim (some_or_none (tile_at tiles m)) [
         | inl no_tile ↦
-            let never : ⊥ = omega (arith, lowers.lacks i below, given_none sys tiles p m strengths bonds no_tile, some, none) in
+            let never : ⊥ = omega (arith, lowers.lacks i below, given_none sys tiles p m no_tile, some, none) in
             absurd never
         | inr tile ↦ elim (some_or_none (tile_at sys.seeds m)) [
           | inr seed ↦
@@ -138,13 +135,6 @@ module _ (sys : TileSystem) (tiles s : List Place) (p : Place) (old new : Waitin
           (lowers.ready i below).1 (inl ((but i below).1 (was_ready i below (omega (arith, none)) ready, not_here (site_at sys.area i) ready)))
     ],
   )
-
--- a strength with the tile beside shows that this lies in the box
-pub bonded_inside : (sys : TileSystem) (tiles : List Place) (m : Site) (t : TypeId) (d : Side) → Fits sys tiles → bond sys tiles m t d ≢ 0 → InBox sys.area (neighbor m d)
-bonded_inside sys tiles m t d fits bonded = elim (some_or_none (tile_at tiles (neighbor m d))) [
-  | inl none ↦ absurd (bonded (bond-none sys tiles m t d none))
-  | inr tile ↦ (Fits-tile sys tiles (neighbor m d) tile.0 fits tile.1).1
-]
 
 -- the least ready site is taken out
 module _ (sys : TileSystem) (tiles s : List Place) (old new : Waiting) (m : Site) (lacks : AreLacks sys tiles s old) (ready : AreReadySites sys tiles s old.ready) (takes : TakesLeast old new m) where

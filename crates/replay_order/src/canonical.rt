@@ -13,7 +13,6 @@ use crate::rest::least_left;
 use crate::stop::ReplayStop;
 use crate::waiting::WaitingSites;
 use assembly::{Grid, Sequence};
-use attach_rule::bonds;
 use std::alloc::Global;
 use tile_system::{NoMemory, Place, Placed, System};
 
@@ -146,7 +145,6 @@ fn list_place(
         (AreReadySites sys.now grid.now.tiles order.new waiting.new.ready) }
 {
     order.push(place)?;
-    let strengths = bonds(sys, grid, place.site, place.tile);
-    waiting.lower_beside(place.site, &strengths);
+    waiting.lower_beside(sys, grid, place);
     Ok(())
 }

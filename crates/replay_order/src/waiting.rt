@@ -1,19 +1,20 @@
 // The sites of a box that wait for their turn, by their numbers.
-ghost use Rattle.std.specs.Prelude.{ℕ, ◌≡◌, ◌≢◌, ◌↔◌, ◌<◌, ◌≤◌, slice_index, All, IsTrue, IfSome, IfNone, IfOk};
-ghost use Rattle.atam.specs.declared.limits.TheConstants.{MOST_STRENGTH, MOST_TAU};
-ghost use Rattle.atam.specs.Sites.{InBox, IsBox, IsNearSite};
+ghost use Rattle.std.specs.Prelude.{ℕ, ◌≡◌, ◌↔◌, ◌<◌, ◌≤◌, slice_index, All, IsTrue, IfSome, IfNone, IfOk};
+ghost use Rattle.atam.specs.declared.limits.TheConstants.{MOST_TAU};
+ghost use Rattle.atam.specs.Sites.{InBox, IsBox, neighbor};
 ghost use Rattle.atam.specs.Placements.{HasDistinctSites};
 ghost use Rattle.assembly.specs.Cells.{cell_count, site_at};
-ghost use Rattle.attach_rule.specs.Bonds.{AreStrengths};
+ghost use Rattle.atam.specs.TileSystem.{IsType};
+ghost use Rattle.atam.specs.Assembly.{Fits};
 ghost use Rattle.number_set.specs.Numbers.{IsIn};
-ghost use Rattle.replay_order.specs.Inner.Replays.{due_at, given_at, given_beside, Lowers, AreInside, TakesLeast};
+ghost use Rattle.replay_order.specs.Inner.Replays.{due_at, given_to, given_beside, Lowers, IsNumberOf, TakesLeast};
 
-use assembly::{site_index, site_of_index};
-use attach_rule::Strengths;
+use assembly::{Grid, site_index, site_of_index};
+use attach_rule::bond;
 use number_set::NumberSet;
 use std::alloc::Global;
 use std::marker::Model;
-use tile_system::{BoxArea, NoMemory, Place, Side, Site};
+use tile_system::{BoxArea, NoMemory, Place, Side, Site, System};
 
 // How much pull the tile at each site lacks to be held, and the sites that are ready. A site is
 // ready once, when its tile lacks nothing any more. Each call but `make` takes no memory.
@@ -60,38 +61,45 @@ impl WaitingSites {
         Ok(WaitingSites { area, lacks, ready })
     }
 
-    // Gives the tiles beside a site the strengths that the tile at it has with them.
-    pub(crate) fn lower_beside(&mut self, site: Site, strengths: &Strengths)
-        requires near { IsNearSite site }
-        requires inside { AreInside self.old.area site strengths.now }
-        requires small { AreStrengths strengths.now }
-        ensures { Lowers self.old.area (given_beside site strengths.now) self.old self.new }
+    // Gives each tile beside a listed one the strength that it has with this.
+    #[inline(always)]
+    pub(crate) fn lower_beside(&mut self, sys: &System, grid: &Grid, place: Place)
+        requires inside { InBox self.old.area place.site }
+        requires kind { IsType sys.now place.tile }
+        requires fits { Fits sys.now grid.now.tiles }
+        ensures { Lowers self.old.area (given_beside sys.now grid.now.tiles place)
+            self.old self.new }
     {
-        self.lower(site.step(Side::North), strengths.north);
-        self.lower(site.step(Side::East), strengths.east);
-        self.lower(site.step(Side::South), strengths.south);
-        self.lower(site.step(Side::West), strengths.west);
+        let number = site_index(&self.area, place.site);
+        self.lower(sys, grid, place, number, Side::North);
+        self.lower(sys, grid, place, number, Side::East);
+        self.lower(sys, grid, place, number, Side::South);
+        self.lower(sys, grid, place, number, Side::West);
     }
 
-    // Gives the tile at a site a strength.
+    // The same for the tile on one side of it, by the number of its site.
     #[inline(always)]
-    fn lower(&mut self, site: Site, strength: u32)
-        requires inside { strength ≢ 0 → InBox self.old.area site }
-        requires small { strength ≤ MOST_STRENGTH }
-        ensures { Lowers self.old.area (given_at site strength) self.old self.new }
+    fn lower(&mut self, sys: &System, grid: &Grid, place: Place, number: usize, side: Side)
+        requires inside { InBox self.old.area place.site }
+        requires within { number < cell_count self.old.area }
+        requires number { site_at self.old.area number ≡ place.site }
+        requires kind { IsType sys.now place.tile }
+        requires fits { Fits sys.now grid.now.tiles }
+        ensures { Lowers self.old.area (given_to sys.now grid.now.tiles place side)
+            self.old self.new }
     {
-        if strength == 0 {
+        let Some(beside) = number_beside(&self.area, place.site, number, side) else {
             return;
-        }
-        let number = site_index(&self.area, site);
-        let lack = self.lacks[number];
+        };
+        let lack = self.lacks[beside];
         if lack == 0 {
             return;
         }
+        let strength = bond(sys, grid, place.site, place.tile, side);
         let left = lack.saturating_sub(strength as u16);
-        self.lacks[number] = left;
+        self.lacks[beside] = left;
         if left == 0 {
-            self.ready.insert(number);
+            self.ready.insert(beside);
         }
     }
 
@@ -113,5 +121,42 @@ impl WaitingSites {
         ensures { IsTrue result ↔ (0 < slice_index self.now.lacks number) }
     {
         self.lacks[number] > 0
+    }
+}
+
+// The number of the site on one side of another, if it is in the box.
+#[inline(always)]
+fn number_beside(area: &BoxArea, site: Site, number: usize, side: Side) -> Option<usize>
+    requires limits { IsBox area.now }
+    requires inside { InBox area.now site }
+    requires within { number < cell_count area.now }
+    requires number { site_at area.now number ≡ site }
+    ensures { IsNumberOf area.now (neighbor site side) result }
+{
+    match side {
+        Side::North => {
+            if site.y == area.y1 {
+                return None;
+            }
+            Some(number + area.width() as usize)
+        }
+        Side::East => {
+            if site.x == area.x1 {
+                return None;
+            }
+            Some(number + 1)
+        }
+        Side::South => {
+            if site.y == area.y0 {
+                return None;
+            }
+            Some(number - area.width() as usize)
+        }
+        Side::West => {
+            if site.x == area.x0 {
+                return None;
+            }
+            Some(number - 1)
+        }
     }
 }

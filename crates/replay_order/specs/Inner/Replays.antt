@@ -1,6 +1,7 @@
 -- The sites where a tile is ready to follow, what the other tiles lack for that, and the sites that are left.
-use Rattle.std.specs.Prelude.{◌≡◌, ◌≢◌, ◌⊎◌, ◌↔◌, ◌<◌, ◌≤◌, ◌+◌, ◌-◌, ℕ, List, Option, Some, None, length, slice_index, if◌then◌else◌}
+use Rattle.std.specs.Prelude.{◌≡◌, ◌≢◌, ◌⊎◌, ◌↔◌, ◌<◌, ◌≤◌, ◌+◌, ◌-◌, ℕ, List, Option, Some, None, MatchOption, length, slice_index, if◌then◌else◌}
 use Rattle.std.specs.Option.{option_map_or}
+use Rattle.atam.specs.declared.site.Side.{Side}
 use Rattle.atam.specs.declared.site.Side.TheVariants.{North, East, South, West}
 use Rattle.atam.specs.declared.site.Site.{Site}
 use Rattle.atam.specs.declared.place.TypeId.{TypeId}
@@ -9,9 +10,8 @@ use Rattle.atam.specs.declared.area.BoxArea.{BoxArea}
 use Rattle.atam.specs.Sites.{IsBefore, InBox, IsBox, neighbor, same_site}
 use Rattle.atam.specs.Placements.{tile_at}
 use Rattle.atam.specs.TileSystem.{TileSystem}
-use Rattle.atam.specs.Assembly.{pull}
+use Rattle.atam.specs.Assembly.{bond, pull}
 use Rattle.assembly.specs.Cells.{cell_count, site_at}
-use Rattle.attach_rule.specs.declared.bonding.Strengths.{Strengths}
 use Rattle.number_set.specs.Numbers.{Numbers, IsIn, Removes}
 
 -- a tile stands at the site that is no seed and isn't listed, and whose type is held by the listed places
@@ -60,22 +60,21 @@ pub record Lowers (area : BoxArea) (given : Site → ℕ) (old new : Waiting) : 
   pub lacks : (i : ℕ) → i < cell_count area → slice_index new.lacks i ≡ slice_index old.lacks i - given (site_at area i)
   pub ready : (i : ℕ) → i < cell_count area → IsIn new.ready i ↔ (IsIn old.ready i ⊎ ((0 < slice_index old.lacks i) × (slice_index new.lacks i ≡ 0)))
 
--- one site is given a strength
-abbrev pub given_at : Site → ℕ → Site → ℕ
-given_at here strength m = if same_site here m then strength else 0
+-- the site on one side of a place is given the strength that the tiles at both have
+abbrev pub given_to : TileSystem → List Place → Place → Side → Site → ℕ
+given_to sys tiles p d m = if same_site (neighbor p.site d) m then bond sys tiles p.site p.tile d else 0
 
--- the sites beside one are given the strengths that its tile has with theirs
-abbrev pub given_beside : Site → Strengths → Site → ℕ
-given_beside here strengths m =
-    given_at (neighbor here North) strengths.north m + given_at (neighbor here East) strengths.east m
-    + given_at (neighbor here South) strengths.south m + given_at (neighbor here West) strengths.west m
+-- and so each site beside it
+abbrev pub given_beside : TileSystem → List Place → Place → Site → ℕ
+given_beside sys tiles p m = given_to sys tiles p North m + given_to sys tiles p East m + given_to sys tiles p South m + given_to sys tiles p West m
 
--- where there is a strength, the site beside lies in the box
-pub record AreInside (area : BoxArea) (m : Site) (strengths : Strengths) : Type 0 where
-  pub north : strengths.north ≢ 0 → InBox area (neighbor m North)
-  pub east : strengths.east ≢ 0 → InBox area (neighbor m East)
-  pub south : strengths.south ≢ 0 → InBox area (neighbor m South)
-  pub west : strengths.west ≢ 0 → InBox area (neighbor m West)
+-- the number of a site; none exactly where it isn't in the box
+pub record IsSiteNumber (area : BoxArea) (m : Site) (number : ℕ) : Type 0 where
+  pub within : number < cell_count area
+  pub site : site_at area number ≡ m
+
+abbrev pub IsNumberOf : BoxArea → Site → Option ℕ → Type 0
+IsNumberOf area m found = MatchOption found (¬ InBox area m) (IsSiteNumber area m)
 
 -- the least ready site is taken out
 pub record TakesLeast (old new : Waiting) (m : Site) : Type 0 where
