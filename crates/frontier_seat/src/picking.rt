@@ -32,7 +32,8 @@ impl Picker {
         })
     }
 
-    // One of the types that attach at the empty site, if there are any.
+    // One of the types that attach at the empty site, if there are any. Nothing is chosen where
+    // there is only one.
     #[inline(always)]
     pub(crate) fn pick<C: Chooser>(
         &mut self,
@@ -53,8 +54,8 @@ impl Picker {
         if found.count > 2 {
             return self.pick_listed(sys, grid, site, chooser);
         }
-        if found.count == 0 {
-            return None;
+        if found.count < 2 {
+            return found.first;
         }
         if chooser.pick(found.count) == 0 {
             found.first
