@@ -10,6 +10,8 @@ import os
 import re
 import signal
 import sys
+import threading
+import time
 
 LONGEST_INPUT = 67108864
 LONGEST_LINE = 256
@@ -889,6 +891,27 @@ class Program:
             raise
         finally:
             signal.setitimer(signal.ITIMER_REAL, 0)
+
+    def ask_in_pieces(self, words, pieces):
+        """What comes where the input comes through a pipe, piece by piece."""
+        end, other = os.pipe()
+
+        def write():
+            try:
+                for it in pieces:
+                    os.write(other, it)
+                    time.sleep(0.0005)
+            except BrokenPipeError:
+                pass
+            os.close(other)
+
+        writer = threading.Thread(target=write)
+        writer.start()
+        try:
+            return self.ask(words, b"", given=end)
+        finally:
+            os.close(end)
+            writer.join()
 
     def ask(self, words, text, given=None, out=None, err=None):
         """What comes to words and an input. Other streams may stand in place of its own."""
