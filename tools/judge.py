@@ -10,6 +10,8 @@ import os
 import re
 import signal
 import sys
+import threading
+import time
 
 LONGEST_INPUT = 67108864
 LONGEST_LINE = 256
@@ -779,76 +781,62 @@ class Judge:
         return refused_words(refusal) if refusal else Wanted(0, counter_text(*numbers), is_read=False)
 
     def wanted(self, words, text):
-        """The answers that may come to words (a list of bytes) and an input: one, or two where docs/FORMATS.md does not
-        say whether the words are taken. TooLarge is raised where the judge would have too much to do."""
-        found = []
+        """What must come to words (a list of bytes) and an input. TooLarge is raised where the judge would have too much to
+        do."""
         try:
-            readings = readings_of([it.decode() for it in words])
+            command, numbers = reading_of([it.decode() for it in words])
         except UnicodeDecodeError:
-            return [Wanted(2, is_read=False)]
-        for command, numbers in readings:
-            try:
-                if command not in COMMANDS:
-                    found.append(refused_words(command))
-                elif command in READERS:
-                    found.append(self.read(command, numbers[0] if numbers else 0, text))
-                else:
-                    found.append(self.counted(command, numbers))
-            except Fault as why:
-                found.append(Wanted(3, err=b"refused text line %d %s\n" % (why.line, why.cause.encode())))
-        return found
+            return Wanted(2, is_read=False)
+        if command not in COMMANDS:
+            return refused_words(command)
+        try:
+            return self.read(command, numbers[0] if numbers else 0, text) if command in READERS else self.counted(command, numbers)
+        except Fault as why:
+            return Wanted(3, err=b"refused text line %d %s\n" % (why.line, why.cause.encode()))
 
 
 # ---- words
 
 
 def value_of(word, least, most):
-    """The number of a word, and whether docs/FORMATS.md leaves open that it is one; None where it is none."""
-    digits = word[1:] if word.startswith("+") else word
-    if not re.fullmatch("[0-9]+", digits) or not least <= int(digits) <= most:
-        return None
-    return int(digits), word != str(int(digits))
+    """The number of a word, or None."""
+    is_number = re.fullmatch("[+]?[0-9]+", word) and least <= int(word) <= most
+    return int(word) if is_number else None
 
 
 def options_of(words):
-    """The workers and the choice that words state, and whether it is left open that they may be said so; None for Usage."""
-    given, is_open, words = {}, False, list(words)
+    """The workers and the choice that words state, or None where they are no such words."""
+    given, words = {}, list(words)
     if words and words[-1] == "--":
-        is_open, words = True, words[:-1]
+        words.pop()
     while words:
-        word = words.pop(0)
-        name, joined, value = word.partition("=")
-        if name not in ("--workers", "--choice") or name in given or not (joined or words):
+        name, is_joined, value = words.pop(0).partition("=")
+        if name not in ("--workers", "--choice") or name in given or not (is_joined or words):
             return None
-        found = value_of(value if joined else words.pop(0), *((1, 16) if name == "--workers" else (0, U64)))
-        if found is None:
+        given[name] = value_of(value if is_joined else words.pop(0), *((1, 16) if name == "--workers" else (0, U64)))
+        if given[name] is None:
             return None
-        given[name], is_open = found[0], is_open or found[1] or bool(joined)
-    return [given.get("--workers", 1), given.get("--choice", 0)], is_open
+    return [given.get("--workers", 1), given.get("--choice", 0)]
 
 
 def numbers_of(words, ranges):
-    """The numbers that words state, one for each range, and whether it is left open that they may be said so."""
-    rest = [it for it in words if it != "--"]
-    if len(rest) != len(ranges):
-        return None
-    found = [value_of(word, 0, most) for word, most in zip(rest, ranges)]
-    if None in found or words.count("--") > 1:
-        return None
-    return [it[0] for it in found], len(rest) != len(words) or any(it[1] for it in found)
+    """The numbers that words state, one for each range, or None where they are no such words."""
+    words = list(words)
+    if "--" in words:
+        words.remove("--")
+    found = [value_of(word, 0, most) for word, most in zip(words, ranges)]
+    return None if len(words) != len(ranges) or None in found else found
 
 
-def readings_of(words):
-    """What the words may call for: a command and its numbers, or a refusal. Two where it is left open."""
+def reading_of(words):
+    """What the words call for: a command and its numbers, or a refusal."""
     if not words or words[0] not in COMMANDS:
-        return [("NoCommand", [])]
+        return "NoCommand", []
     if words[0] in GROWERS:
         found = options_of(words[1:])
     else:
         found = numbers_of(words[1:], {"counter": (U32, U64), "load": (U64,)}.get(words[0], ()))
-    if found is None:
-        return [("Usage", [])]
-    return [(words[0], found[0])] + ([("Usage", [])] if found[1] else [])
+    return ("Usage", []) if found is None else (words[0], found)
 
 
 # ---- runs of the program
@@ -889,6 +877,27 @@ class Program:
             raise
         finally:
             signal.setitimer(signal.ITIMER_REAL, 0)
+
+    def ask_in_pieces(self, words, pieces):
+        """What comes where the input comes through a pipe, piece by piece."""
+        end, other = os.pipe()
+
+        def write():
+            try:
+                for it in pieces:
+                    os.write(other, it)
+                    time.sleep(0.0005)
+            except BrokenPipeError:
+                pass
+            os.close(other)
+
+        writer = threading.Thread(target=write)
+        writer.start()
+        try:
+            return self.ask(words, b"", given=end)
+        finally:
+            os.close(end)
+            writer.join()
 
     def ask(self, words, text, given=None, out=None, err=None):
         """What comes to words and an input. Other streams may stand in place of its own."""

@@ -402,12 +402,25 @@ def odd_words(rng):
     elif way < 0.8:
         words = ["load", *rng.choices(ODD_NUMBERS, k=rng.choice((0, 1, 1, 1, 2)))]
         # (few tiles alone)
-        found = judge.value_of(words[-1], 0, judge.U64)
-        if found and found[0] // 31 % 512 > 40:
+        if (judge.value_of(words[-1], 0, judge.U64) or 0) // 31 % 512 > 40:
             words[-1] = "40"
     else:
         words = [rng.choice(judge.COMMANDS)] + rng.choices(ODD_WORDS + ODD_NUMBERS, k=rng.randrange(0, 3))
     return [it.encode(errors="surrogateescape") for it in words if "\x00" not in it]
+
+
+def respelt(rng, words):
+    """The same words in another spelling that is taken too."""
+    words = list(words)
+    for at in range(len(words) - 1, 0, -1):
+        way = rng.random()
+        if words[at].isdigit() and way < 0.4:
+            words[at] = rng.choice(("+", "0", "+00")) + words[at]
+        if words[at - 1].startswith("--") and way < 0.7:
+            words[at - 1 : at + 1] = [f"{words[at - 1]}={words[at]}"]
+    if rng.random() < 0.3:
+        words.append("--")
+    return words
 
 
 def number_words(rng):
