@@ -25,6 +25,7 @@ pub struct Strengths {
 
 impl Strengths {
     /// Their sum.
+    #[inline(always)]
     pub fn sum(&self) -> u32
         requires { AreStrengths self.now }
         ensures sum { result ≡ sum_of self.now }
@@ -35,6 +36,7 @@ impl Strengths {
 }
 
 /// The strengths that a tile of this type has where these glues face it.
+#[inline(always)]
 pub fn facing_bonds(sys: &System, glues: &FacingGlues, tile: TypeId) -> Strengths
     requires { IsType sys.now tile }
     ensures bonds { (tiles : List Place) (site : Site) → FacesSite sys.now tiles site glues.now →
@@ -50,6 +52,7 @@ pub fn facing_bonds(sys: &System, glues: &FacingGlues, tile: TypeId) -> Strength
 }
 
 /// The strengths that a tile of this type at the site has with the tiles beside it.
+#[inline(always)]
 pub fn bonds<P: Placed>(sys: &System, placed: &P, site: Site, tile: TypeId) -> Strengths
     requires kind { IsType sys.now tile }
     requires near { IsNearSite site }

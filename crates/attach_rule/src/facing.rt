@@ -23,6 +23,7 @@ pub struct FacingGlues {
 
 impl FacingGlues {
     /// Whether no glue faces the site.
+    #[inline(always)]
     pub fn are_none(&self) -> bool
         ensures { IsTrue result ↔ AreNone self.now }
     {
@@ -31,6 +32,7 @@ impl FacingGlues {
 }
 
 /// The glues that face the site.
+#[inline(always)]
 #[tactic(auto, using(crate::proofs::Held::kind_beside))]
 pub fn glues_facing<P: Placed>(sys: &System, placed: &P, site: Site) -> FacingGlues
     requires near { IsNearSite site }
@@ -49,6 +51,7 @@ pub fn glues_facing<P: Placed>(sys: &System, placed: &P, site: Site) -> FacingGl
 }
 
 // The glue on a side of a tile, if there is a tile.
+#[inline(always)]
 fn glue_of(sys: &System, tile: Option<TypeId>, side: Side) -> Option<GlueId>
     requires { IfSome tile (IsType sys.now) }
     ensures { result ≡ option_and_then (λ t. side_glue sys.now t side) tile }
@@ -57,6 +60,7 @@ fn glue_of(sys: &System, tile: Option<TypeId>, side: Side) -> Option<GlueId>
 }
 
 /// The pull on a type at a site that these glues face.
+#[inline(always)]
 pub fn facing_pull(sys: &System, glues: &FacingGlues, tile: TypeId) -> u32
     requires { IsType sys.now tile }
     ensures value { result ≡ facing_pull sys.now glues.now tile }

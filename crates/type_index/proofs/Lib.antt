@@ -3,3 +3,4 @@ pub mod Cursors
 pub mod Walks
 pub mod Holding
 pub mod Seconds
+mod Keys

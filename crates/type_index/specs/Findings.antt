@@ -1,6 +1,7 @@
 -- What is found at a site: the number of the types that attach there, the first and the second of them.
-use Rattle.std.specs.Prelude.{◌≡◌, List, All, length, slice_get}
+use Rattle.std.specs.Prelude.{◌≡◌, ℕ, ◌<◌, ◌+◌, ◌*◌, Option, Some, None, List, All, length, slice_get}
 use Rattle.atam.specs.declared.site.Site.{Site}
+use Rattle.atam.specs.declared.place.GlueId.{GlueId}
 use Rattle.atam.specs.declared.place.TypeId.{TypeId}
 use Rattle.atam.specs.declared.place.Place.{Place}
 use Rattle.atam.specs.TileSystem.{TileSystem}
@@ -28,6 +29,19 @@ pub record SumsUpHeld (sys : TileSystem) (glues : FacingGlues) (found : Found) :
   pub are : AreHeld sys glues types
   pub sum : SumsUp types found
 
--- each was found for its glues
+-- one more than the number of a glue, and 0 for none
+abbrev pub code_of : Option GlueId → ℕ
+code_of None = 0
+code_of (Some g) = g.0 + 1
+
+-- the codes of the glues in a row, where each has 16 bits
+pub record IsKeyOf (glues : FacingGlues) (key : ℕ) : Type 0 where
+  pub north : code_of glues.north < 65536
+  pub east : code_of glues.east < 65536
+  pub south : code_of glues.south < 65536
+  pub west : code_of glues.west < 65536
+  pub row : key ≡ code_of glues.north + 65536 * (code_of glues.east + 65536 * (code_of glues.south + 65536 * code_of glues.west))
+
+-- each was found for the glues with its key
 abbrev pub AreFindings : TileSystem → List Finding → Type 0
-AreFindings sys findings = All (λ f. SumsUpHeld sys f.glues f.found) findings
+AreFindings sys findings = All (λ f. (glues : FacingGlues) → IsKeyOf glues f.key → SumsUpHeld sys glues f.found) findings

@@ -1,9 +1,9 @@
 // What was found for glues that came before.
-ghost use Rattle.std.specs.Prelude.{◌≡◌, ◌<◌, IfOk};
+ghost use Rattle.std.specs.Prelude.{◌≡◌, ◌<◌, IfOk, IfSome};
 ghost use Rattle.atam.specs.Sites.{IsNearSite};
 ghost use Rattle.atam.specs.Assembly.{Fits};
 ghost use Rattle.type_index.specs.Indexes.{IsIndexOf};
-ghost use Rattle.type_index.specs.Findings.{AreFindings, SumsUpHeld, SumsUpCandidates};
+ghost use Rattle.type_index.specs.Findings.{AreFindings, IsKeyOf, SumsUpHeld, SumsUpCandidates, code_of};
 
 use crate::{Found, TypeIndex};
 use attach_rule::{FacingGlues, glues_facing};
@@ -13,10 +13,13 @@ use tile_system::{GlueId, NoMemory, Placed, Site, System};
 
 const SLOTS: usize = 8192;
 
-// Glues that face a site, and what was found for them.
+// The codes of a glue in a key.
+const CODES: u64 = 65536;
+
+// The key of glues that face a site, and what was found for them.
 #[derive(Clone, Copy)]
 struct Finding {
-    glues: FacingGlues,
+    key: u64,
     found: Found,
 }
 
@@ -44,19 +47,14 @@ impl FacingCache {
         ensures { IfOk result (AreFindings sys.now) }
     {
         let _valid = sys.tau();
-        let glues = FacingGlues {
-            north: None,
-            east: None,
-            south: None,
-            west: None,
-        };
         let found = Found::NONE;
         Ok(FacingCache {
-            findings: Vec::from_elem(alloc, Finding { glues, found }, SLOTS)?,
+            findings: Vec::from_elem(alloc, Finding { key: 0, found }, SLOTS)?,
         })
     }
 
     /// Of the types that attach at the site, how many there are, the first and the second.
+    #[inline(always)]
     pub fn found_at<P: Placed>(
         &mut self,
         sys: &System,
@@ -79,38 +77,67 @@ impl FacingCache {
     }
 
     /// The same of the types that these glues hold.
+    #[inline(always)]
     pub fn found(&mut self, sys: &System, index: &TypeIndex, glues: &FacingGlues) -> Found
         requires known { AreFindings sys.now self.old }
         requires index { IsIndexOf sys.now index.now }
         ensures found { SumsUpHeld sys.now glues.now result }
         ensures known { AreFindings sys.now self.new }
     {
-        let slot = slot_of(glues);
-        let finding = self.findings[slot];
-        if finding.glues == *glues {
+        let Some(key) = key_of(glues) else {
+            return index.sum_up(sys, glues);
+        };
+        let finding = &self.findings[slot_of(key)];
+        if finding.key == key {
             return finding.found;
         }
+        self.find_anew(sys, index, glues, key)
+    }
+
+    // Looks up what was not found before, and keeps it.
+    fn find_anew(&mut self, sys: &System, index: &TypeIndex, glues: &FacingGlues, key: u64) -> Found
+        requires known { AreFindings sys.now self.old }
+        requires index { IsIndexOf sys.now index.now }
+        requires key { IsKeyOf glues.now key }
+        ensures found { SumsUpHeld sys.now glues.now result }
+        ensures known { AreFindings sys.now self.new }
+    {
         let found = index.sum_up(sys, glues);
-        self.findings[slot] = Finding {
-            glues: *glues,
-            found,
-        };
+        self.findings[slot_of(key)] = Finding { key, found };
         found
     }
 }
 
-// The slot of four glues.
-fn slot_of(glues: &FacingGlues) -> usize
+// The slot of a key.
+#[inline(always)]
+fn slot_of(key: u64) -> usize
     ensures { result < 8192 }
 {
-    let mixed = mark_of(glues.north).wrapping_mul(0x9e37_79b1)
-        ^ mark_of(glues.east).wrapping_mul(0x85eb_ca6b)
-        ^ mark_of(glues.south).wrapping_mul(0xc2b2_ae35)
-        ^ mark_of(glues.west).wrapping_mul(0x27d4_eb2f);
-    (mixed >> 19) as usize
+    (key.wrapping_mul(0x9e37_79b9_7f4a_7c15) >> 51) as usize
+}
+
+// The key of four glues, unless a glue's code has more than 16 bits, as those of a system don't.
+#[inline(always)]
+fn key_of(glues: &FacingGlues) -> Option<u64>
+    ensures { IfSome result (IsKeyOf glues.now) }
+{
+    let north = code_of(glues.north);
+    let east = code_of(glues.east);
+    let south = code_of(glues.south);
+    let west = code_of(glues.west);
+    if north | east | south | west >= CODES {
+        return None;
+    }
+    Some(north + CODES * (east + CODES * (south + CODES * west)))
 }
 
 // A number for a glue, and one for none.
-fn mark_of(glue: Option<GlueId>) -> u32 {
-    glue.map_or(0, |glue| glue.0.wrapping_add(1))
+#[inline(always)]
+fn code_of(glue: Option<GlueId>) -> u64
+    ensures { result ≡ code_of glue }
+{
+    match glue {
+        Some(glue) => u64::from(glue.0) + 1,
+        None => 0,
+    }
 }

@@ -12,6 +12,7 @@ pub(crate) struct Cursor {
 
 impl Cursor {
     // The strength with which the type with this index interacts.
+    #[inline(always)]
     fn strength_at(self, index: usize) -> u32
         ensures { result ≡ strength_at self index }
     {
@@ -31,6 +32,7 @@ pub(crate) struct Walk {
 
 impl Walk {
     // The next type that interacts with one of the glues.
+    #[inline(always)]
     pub(crate) fn least(&self) -> usize
         ensures { result ≡ least_of self.now }
     {
@@ -42,6 +44,7 @@ impl Walk {
     }
 
     // The pull on the type with this index.
+    #[inline(always)]
     pub(crate) fn pull_at(&self, index: usize) -> u32
         requires north { self.now.north.strength ≤ MOST_STRENGTH }
         requires east { self.now.east.strength ≤ MOST_STRENGTH }

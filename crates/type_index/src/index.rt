@@ -44,6 +44,7 @@ impl TypeIndex {
     }
 
     // A walk along the types that interact with these glues.
+    #[inline(always)]
     pub(crate) fn walk(&self, sys: &System, glues: &FacingGlues) -> Walk
         requires { IsIndexOf sys.now self.now }
         ensures walk { IsWalk sys.now glues.now result }
@@ -59,6 +60,7 @@ impl TypeIndex {
     }
 
     // Passes a type.
+    #[inline(always)]
     fn past(&self, sys: &System, walk: &Walk, index: usize) -> Walk
         requires valid { IsValid sys.now }
         requires index { IsIndexOf sys.now self.now }

@@ -47,6 +47,7 @@ impl SideLists {
     }
 
     // Puts a type first in the list of its glue.
+    #[inline(always)]
     fn put(&mut self, tile: TypeId, glue: Option<GlueId>)
         requires tile { tile.0 < length self.old.next }
         requires small { tile.0 < 65536 }
@@ -60,6 +61,7 @@ impl SideLists {
     }
 
     // The first type that interacts with a glue that faces the side.
+    #[inline(always)]
     pub(crate) fn start(&self, sys: &System, glue: Option<GlueId>) -> Cursor
         requires { length self.now.first ≡ length sys.now.glues }
         ensures { (d : Side) → AreListsOf sys.now d self.now → IsCursor sys.now d glue 0 result }
@@ -82,6 +84,7 @@ impl SideLists {
     }
 
     // Passes a type.
+    #[inline(always)]
     pub(crate) fn past(&self, cursor: Cursor, index: usize) -> Cursor
         requires { index < length self.now.next }
         ensures { (sys : TileSystem) (d : Side) (glue : Option GlueId) → IsValid sys
