@@ -233,14 +233,16 @@ impl SystemBuilder {
         self.types.as_slice().len() as u32
     }
 
-    /// The glue with this name, in time that grows with the name and not with their number.
+    /// The glue with this name, by a few comparisons of names; where many share a window of the
+    /// table, by as many more as the logarithm of their number.
     pub fn find_glue(&self, name: &[u8]) -> Option<GlueId>
         ensures { option_map (λ glue. glue.0) result ≡ glue_named self.now.glues name.now }
     {
         self.glues.find(name).map(GlueId)
     }
 
-    /// The type with this name, in time that grows with the name and not with their number.
+    /// The type with this name, by a few comparisons of names; where many share a window of the
+    /// table, by as many more as the logarithm of their number.
     pub fn find_type(&self, name: &[u8]) -> Option<TypeId>
         ensures { option_map (λ tile. tile.0) result ≡ type_named self.now.types name.now }
     {

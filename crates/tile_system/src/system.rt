@@ -146,7 +146,8 @@ impl System {
         entry.side(side)
     }
 
-    /// The glue with this name, in time that grows with the name and not with their number.
+    /// The glue with this name, by a few comparisons of names; where many share a window of the
+    /// table, by as many more as the logarithm of their number.
     #[inline(always)]
     pub fn find_glue(&self, name: &[u8]) -> Option<GlueId>
         ensures index { option_map (λ glue. glue.0) result ≡ glue_named self.now.glues name.now }
@@ -157,7 +158,8 @@ impl System {
         self.glues.find(name).map(GlueId)
     }
 
-    /// The type with this name, in time that grows with the name and not with their number.
+    /// The type with this name, by a few comparisons of names; where many share a window of the
+    /// table, by as many more as the logarithm of their number.
     #[inline(always)]
     pub fn find_type(&self, name: &[u8]) -> Option<TypeId>
         ensures index { option_map (λ tile. tile.0) result ≡ type_named self.now.types name.now }
