@@ -860,6 +860,7 @@ class Program:
         self.path, self.patience, self.environment = path, patience, dict(os.environ)
         self.given, self.out, self.err = (os.memfd_create(it) for it in ("given", "out", "err"))
         signal.signal(signal.SIGALRM, self.stop)
+        signal.signal(signal.SIGPIPE, signal.SIG_IGN)
 
     def stop(self, *_):
         raise Hang
@@ -867,7 +868,7 @@ class Program:
     def spawned(self, words, streams):
         """Runs it with these words and streams, and waits for it."""
         moves = [(os.POSIX_SPAWN_DUP2, stream, at) for at, stream in enumerate(streams)]
-        process = os.posix_spawn(self.path, [self.path, *words], self.environment, file_actions=moves)
+        process = os.posix_spawn(self.path, [self.path, *words], self.environment, file_actions=moves, setsigdef=[signal.SIGPIPE])
         signal.setitimer(signal.ITIMER_REAL, self.patience)
         try:
             return os.waitstatus_to_exitcode(os.waitpid(process, 0)[1])
