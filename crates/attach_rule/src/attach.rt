@@ -12,6 +12,7 @@ use crate::facing::{facing_pull, glues_facing};
 use tile_system::{GlueId, Placed, Side, Site, System, TypeId};
 
 // The strength with which two sides interact.
+#[inline(always)]
 pub(crate) fn interaction(sys: &System, own: Option<GlueId>, other: Option<GlueId>) -> u32
     requires { IfSome own (λ g. g.0 < length sys.now.glues) }
     ensures value { result ≡ model.interaction sys.now own other }
@@ -24,6 +25,7 @@ pub(crate) fn interaction(sys: &System, own: Option<GlueId>, other: Option<GlueI
 }
 
 // The glue on a side of the tile at a site.
+#[inline(always)]
 pub(crate) fn glue_at<P: Placed>(sys: &System, placed: &P, site: Site, side: Side) -> Option<GlueId>
     requires { Fits sys.now (P.placements placed.now) }
     ensures { result ≡ model.glue_at sys.now (P.placements placed.now) site side }
@@ -33,6 +35,7 @@ pub(crate) fn glue_at<P: Placed>(sys: &System, placed: &P, site: Site, side: Sid
 }
 
 /// The strength that a tile of this type at the site has with the tile beside it.
+#[inline(always)]
 #[tactic(auto, unfolding(atam::specs::Assembly::bond))]
 pub fn bond<P: Placed>(sys: &System, placed: &P, site: Site, tile: TypeId, side: Side) -> u32
     requires kind { IsType sys.now tile }

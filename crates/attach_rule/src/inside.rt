@@ -9,6 +9,7 @@ use crate::{EachType, TypeFinder};
 use tile_system::{BoxArea, Placed, Site, System, TypeId};
 
 // The site, if it is open, with the first type that attaches there.
+#[inline(always)]
 pub(crate) fn open_at<F: TypeFinder, P: Placed>(
     finder: &F,
     sys: &System,

@@ -36,6 +36,10 @@ impl Table<Kind, Label> for Counter {
         label.strength()
     }
 
+    fn label_number(&self, label: Label) -> u32 {
+        label.number()
+    }
+
     fn kind_name(&self, alloc: Global, kind: Kind) -> Result<Vec<u8>, NoMemory> {
         Ok(format!(in alloc; "{kind}")?.into_bytes())
     }

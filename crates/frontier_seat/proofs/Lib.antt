@@ -1,2 +1,2 @@
 pub mod Looked
-pub mod Marking
+pub mod Listing

@@ -1,14 +1,12 @@
 -- One look at a site, and the lists of sites.
-use Rattle.std.proofs.Common.{◌≡◌, ◌≢◌, ◌<◌, ◌≤◌, ◌+◌, ◌-◌, ◌*◌, ◌++◌, ℕ, List, [], ◌∷◌, length, length-append, Some, None, All, Contains, append-nil, append_assoc, get_or, pos, refl, sym, ◌∙◌, ap, subst, inl, inr, arith}
-use Rattle.std.proofs.lemmas.List.Elements.{Contains-push, Contains-push_cases, Contains-append_left, All-nil, All-cons, All-append, Contains-get_or}
+use Rattle.std.proofs.Common.{◌≡◌, ◌≢◌, ◌⊎◌, ◌<◌, ◌≤◌, ◌+◌, ◌-◌, ◌*◌, ◌++◌, ℕ, List, [], ◌∷◌, length, length-append, Some, None, All, Contains, append-nil, append_assoc, get_or, pos, refl, sym, ◌∙◌, ap, subst, inl, inr, arith}
+use Rattle.std.proofs.lemmas.List.Elements.{Contains-append_left, All-nil, All-cons, All-append, Contains-get_or}
 use Rattle.std.proofs.lemmas.Option.{none-some}
 use Rattle.std.proofs.Math.Nat.{le_trans}
-use Rattle.atam.specs.declared.site.Side.TheVariants.{North, East, South, West}
 use Rattle.atam.specs.declared.site.Site.{Site}
 use Rattle.atam.specs.declared.place.TypeId.{TypeId}
 use Rattle.atam.specs.declared.place.Place.{Place}
-use Rattle.atam.specs.declared.area.BoxArea.{BoxArea}
-use Rattle.atam.specs.Sites.{neighbor, InBox}
+use Rattle.atam.specs.Sites.{InBox}
 use Rattle.atam.specs.Placements.{SamePlacements, HasDistinctSites, tile_at}
 use Rattle.atam.specs.TileSystem.{TileSystem, IsType}
 use Rattle.atam.specs.Growth.{IsCandidate, IsClosedInBox}
@@ -17,8 +15,7 @@ use Rattle.atam.proofs.Count.{count_in_box}
 use Rattle.atam.proofs.Lists.{some_or_none}
 use Rattle.atam.proofs.Placements.{Extends, Extends-IsPartOf, same_tiles}
 use Rattle.atam.proofs.Sequences.{Fits-push}
-use Rattle.assembly.specs.Cells.{cell_count}
-use Rattle.atam.proofs.Tiles.{same_back, SameTiles-put, SamePlacements-push, SamePlacements-trans}
+use Rattle.atam.proofs.Tiles.{tile_at-push_other, same_back, SameTiles-put, SamePlacements-push, SamePlacements-trans}
 use Rattle.assembly.specs.Grids.{TileGrid}
 use Rattle.atam.proofs.Opening.{IsCandidate-same, IsCandidate-push, Fits-part}
 use Rattle.grow_core.specs.declared.placed_tile.PlacedTile.{PlacedTile}
@@ -30,7 +27,11 @@ use Rattle.site_table.proofs.Seen.{seen_fits}
 use Rattle.frontier_seat.specs.declared.growing.Growing.{Growing}
 use Rattle.frontier_seat.specs.Growths.{IsGrowing, GrowsOn}
 use Rattle.frontier_seat.specs.Inner.Looks.{Puts, ClaimsAt, IsClosedBut, LooksAt}
-use Rattle.frontier_seat.specs.Inner.Listings.{AddsSite, AddsNeighbors}
+use Rattle.number_set.specs.Numbers.{Numbers, IsIn}
+use Rattle.assembly.specs.Cells.{cell_count, site_at}
+use Rattle.assembly.proofs.Cells.{site_at-injective}
+use Rattle.frontier_seat.specs.declared.work_list.Spot.{Spot}
+use Rattle.frontier_seat.specs.Inner.Listings.{AreEmptySites, ListsAround, IsSpot}
 
 -- the tiles of a grid over a box are few
 pub few_tiles : (sys : TileSystem) (g : Growing) → IsGrowing sys g → length g.grid.tiles ≤ cell_count sys.area
@@ -114,60 +115,51 @@ goes_further a b c first second =
       won = omega (arith, last, before, both);
     }
 
--- four sites one after the other
-pub neighbors_listed : (area : BoxArea) (m up right down left : Site) (a b c d e : List Site) → up ≡ neighbor m North → right ≡ neighbor m East →
-    down ≡ neighbor m South → left ≡ neighbor m West → AddsSite area up a b → AddsSite area right b c → AddsSite area down c d → AddsSite area left d e →
-    AddsNeighbors area m a e
-neighbors_listed area m up right down left a b c d e up_is right_is down_is left_is adds_up adds_right adds_down adds_left =
-    let north : AddsSite area (neighbor m North) a b = subst (λ (n : Site). AddsSite area n a b) up_is adds_up in
-    let east : AddsSite area (neighbor m East) b c = subst (λ (n : Site). AddsSite area n b c) right_is adds_right in
-    let south : AddsSite area (neighbor m South) c d = subst (λ (n : Site). AddsSite area n c d) down_is adds_down in
-    let west : AddsSite area (neighbor m West) d e = subst (λ (n : Site). AddsSite area n d e) left_is adds_left in
-    record {
-      kept = λ n in_a. west.kept n (south.kept n (east.kept n (north.kept n in_a)));
-      added = λ side. elim side as (λ s. InBox area (neighbor m s) → Contains e (neighbor m s)) [
-        | North ↦ λ inside. west.kept (neighbor m North) (south.kept (neighbor m North) (east.kept (neighbor m North) (north.added inside)))
-        | East ↦ λ inside. west.kept (neighbor m East) (south.kept (neighbor m East) (east.added inside))
-        | South ↦ λ inside. west.kept (neighbor m South) (south.added inside)
-        | West ↦ λ inside. west.added inside
-      ];
-      few = omega (arith, north.few, east.few, south.few, west.few);
-    }
-
 -- where a type attaches and is claimed
-pub looked_at_some : (sys : TileSystem) (before after : Growing) (site : Site) (old new : List Site) (area : BoxArea) → IsClosedBut sys before.grid.tiles (old ++ site ∷ []) →
-    area ≡ sys.area → tile_at before.grid.tiles site ≡ None → ClaimsAt sys site before after → AddsNeighbors area site old new → LooksAt sys before after old new
-looked_at_some sys before after site old new area closed same_area empty claim listed =
-    let p : Place = place site claim.tile in
-    let near : AddsNeighbors sys.area site old new = subst (λ a. AddsNeighbors a site old new) same_area listed in
+pub looked_at_some : (sys : TileSystem) (before after : Growing) (spot : Spot) (old new : Numbers) → IsSpot sys.area spot →
+    IsClosedBut sys before.grid.tiles (λ n. IsIn old n ⊎ (n ≡ spot.number)) → ¬ IsIn old spot.number → AreEmptySites sys.area before.grid.tiles old →
+    tile_at before.grid.tiles spot.site ≡ None → ClaimsAt sys spot.site before after → ListsAround sys.area after.grid.tiles spot.site old new → LooksAt sys before after old new
+looked_at_some sys before after spot old new is closed gone listed empty claim around =
+    let p : Place = place spot.site claim.tile in
+    let other : (n : ℕ) → site_at sys.area n ≡ spot.site → n ≡ spot.number = λ n here. site_at-injective sys.area n spot.number (here ∙ sym is.site) in
     record {
       growing = claim.growing;
       goes = claim.goes;
-      closed = λ m t m_in_box m_grows. elim (IsCandidate-push sys before.grid.tiles p m t empty (IsCandidate-same sys after.grid.tiles (before.grid.tiles ++ p ∷ []) m t claim.tiles m_grows)) [
-        | inl beside ↦ subst (Contains new) beside.1 (near.added beside.0 (subst (InBox sys.area) (sym beside.1) m_in_box))
-        | inr far ↦ elim (Contains-push_cases old site m (closed m t m_in_box far.1)) [
-          | inl in_old ↦ near.kept m in_old
-          | inr one ↦ absurd (far.0 one)
-        ]
+      closed = λ n t within grows.
+          let m = site_at sys.area n in
+          elim (IsCandidate-push sys before.grid.tiles p m t empty (IsCandidate-same sys after.grid.tiles (before.grid.tiles ++ p ∷ []) m t claim.tiles grows)) [
+            | inl beside ↦ around.added n beside.0 within (sym beside.1) (subst (λ (k : Site). tile_at after.grid.tiles k ≡ None) (sym beside.1) grows.attaches.empty)
+            | inr far ↦ elim (closed n t within far.1) [
+              | inl in_old ↦ around.kept n in_old
+              | inr one ↦ absurd (far.0 (sym (ap (site_at sys.area) one ∙ is.site)))
+            ]
+          ];
+      listed = λ n in_new. elim (around.only n in_new) [
+        | inl in_old ↦
+            let differs : spot.site ≢ site_at sys.area n = λ same. gone (subst (IsIn old) (other n (sym same)) in_old) in
+            claim.tiles (site_at sys.area n) ∙ (tile_at-push_other before.grid.tiles p (site_at sys.area n) differs ∙ listed n in_old)
+        | inr bare ↦ bare
       ];
-      work = omega (arith, claim.count, near.few);
+      work = λ k. let few = around.few k in let count = claim.count in omega (arith, count, few);
     }
 
 -- where no type attaches
-pub looked_at_none : (sys : TileSystem) (g : Growing) (site : Site) (old : List Site) → IsGrowing sys g → IsClosedBut sys g.grid.tiles (old ++ site ∷ []) →
-    ((t : TypeId) → ¬ IsCandidate sys g.grid.tiles site t) → LooksAt sys g g old old
-looked_at_none sys g site old growing closed none = record {
+pub looked_at_none : (sys : TileSystem) (g : Growing) (spot : Spot) (old : Numbers) → IsGrowing sys g → IsSpot sys.area spot →
+    IsClosedBut sys g.grid.tiles (λ n. IsIn old n ⊎ (n ≡ spot.number)) → AreEmptySites sys.area g.grid.tiles old →
+    ((t : TypeId) → ¬ IsCandidate sys g.grid.tiles spot.site t) → LooksAt sys g g old old
+looked_at_none sys g spot old growing is closed listed none = record {
   growing = growing;
   goes = goes_nowhere g;
-  closed = λ m t in_box grows. elim (Contains-push_cases old site m (closed m t in_box grows)) [
-    | inl listed ↦ listed
-    | inr one ↦ absurd (none t (subst (λ (n : Site). IsCandidate sys g.grid.tiles n t) (sym one) grows))
+  closed = λ n t within grows. elim (closed n t within grows) [
+    | inl in_old ↦ in_old
+    | inr one ↦ absurd (none t (subst (λ (m : Site). IsCandidate sys g.grid.tiles m t) (ap (site_at sys.area) one ∙ is.site) grows))
   ];
-  work = omega arith;
+  listed = listed;
+  work = λ k. omega arith;
 }
 
 -- the work that is left
-pub less_work : (cells before after rest new all : ℕ) → after ≤ cells → all ≡ rest + 1 → new + 4 * before ≤ rest + 4 * after →
+pub less_work : (cells before after rest new all : ℕ) → after ≤ cells → rest + 1 ≤ all → new + 4 * before ≤ rest + 4 * after →
     4 * (cells - after) + new < 4 * (cells - before) + all
 less_work cells before after rest new all most one_less work = omega arith
 
@@ -180,15 +172,6 @@ real_some sys v tiles real same =
     let seed : Place = get_or sys.seeds 0 anywhere in
     let c = same.part seed (real.scout.seeds seed (Contains-get_or sys.seeds 0 anywhere real.valid.some_seed)) in
     let l = c.1 in omega (arith, l)
-
--- a site of the box is listed
-pub site_added : (area : BoxArea) (m : Site) (old new : List Site) → new ≡ old ++ m ∷ [] → InBox area m → AddsSite area m old new
-site_added area m old new is inside =
-    subst (AddsSite area m old) (sym is) (record {
-      kept = λ n c. Contains-append_left old (m ∷ []) n c;
-      added = λ _. Contains-push old m;
-      few = let e = length-append old (m ∷ []) in omega (arith, e);
-    })
 
 -- a tile is put
 pub tile_put : (old : Growing) (grid : TileGrid) (p : Place) → grid.area ≡ old.grid.area → tile_at old.grid.tiles p.site ≡ None → tile_at grid.tiles p.site ≡ Some p.tile →

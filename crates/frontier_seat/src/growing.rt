@@ -23,6 +23,7 @@ pub struct Growing {
 
 impl Growing {
     // A tile comes to an empty site of the grid.
+    #[inline(always)]
     fn put(&mut self, place: Place)
         requires inside { InBox self.old.grid.area place.site }
         requires empty { tile_at self.old.grid.tiles place.site ≡ None }
@@ -34,6 +35,7 @@ impl Growing {
     }
 
     // One claim. The tile that stands there afterwards is seen, whoever has won.
+    #[inline(always)]
     pub(crate) fn claim<L: Ledger>(
         &mut self,
         sys: &System,

@@ -1,5 +1,5 @@
-//! A scout that claims at its frontier until its grid is closed, and how it chooses among the
-//! types that attach at a site.
+//! A scout that claims at its frontier until its grid is closed, and how it chooses the next site
+//! and among the types that attach there.
 #![tactic(auto)]
 
 mod chooser;
@@ -8,6 +8,6 @@ mod picking;
 mod scout;
 mod work_list;
 
-pub use chooser::{Chooser, First, RngChooser};
+pub use chooser::{Chooser, First, RngChooser, Wanderer};
 pub use growing::Growing;
 pub use scout::Scout;

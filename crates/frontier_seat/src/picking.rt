@@ -1,13 +1,14 @@
 // Which of the types that attach at a site is claimed.
-ghost use Rattle.std.specs.Prelude.{◌≡◌, ◌≤◌, length, IfOk};
+ghost use Rattle.std.specs.Prelude.{◌≡◌, ◌≤◌, length, None, IfOk};
 ghost use Rattle.atam.specs.Sites.{IsNearSite};
+ghost use Rattle.atam.specs.Placements.{tile_at};
 ghost use Rattle.atam.specs.Assembly.{Fits};
 ghost use Rattle.frontier_seat.specs.Inner.Looks.{IsOpenType};
 ghost use Rattle.frontier_seat.specs.Inner.Pickers.{IsPickerOf};
 
 use crate::Chooser;
 use assembly::Grid;
-use attach_rule::TypeList;
+use attach_rule::{TypeList, glues_facing};
 use std::alloc::Global;
 use tile_system::{NoMemory, Site, System, TypeId};
 use type_index::{FacingCache, TypeIndex};
@@ -31,7 +32,9 @@ impl Picker {
         })
     }
 
-    // One of the types that attach at the site, if there are any.
+    // One of the types that attach at the empty site, if there are any. Nothing is chosen where
+    // there is only one.
+    #[inline(always)]
     pub(crate) fn pick<C: Chooser>(
         &mut self,
         sys: &System,
@@ -41,16 +44,18 @@ impl Picker {
     ) -> Option<TypeId>
         requires picker { IsPickerOf sys.now self.old }
         requires near { IsNearSite site }
+        requires empty { tile_at grid.now.tiles site ≡ None }
         requires fits { Fits sys.now grid.now.tiles }
         ensures open { IsOpenType sys.now grid.now.tiles site result }
         ensures picker { IsPickerOf sys.now self.new }
     {
-        let found = self.cache.found_at(sys, &self.index, grid, site);
+        let glues = glues_facing(sys, grid, site);
+        let found = self.cache.found(sys, &self.index, &glues);
         if found.count > 2 {
             return self.pick_listed(sys, grid, site, chooser);
         }
-        if found.count == 0 {
-            return None;
+        if found.count < 2 {
+            return found.first;
         }
         if chooser.pick(found.count) == 0 {
             found.first

@@ -1,18 +1,19 @@
 // A scout that claims until nothing attaches to what it has seen.
-ghost use Rattle.std.specs.Prelude.{◌≡◌, ◌<◌, ◌≤◌, ◌+◌, [], ◌∷◌, ◌++◌, length, IfOk, IfErr};
-ghost use Rattle.atam.specs.Sites.{InBox};
+ghost use Rattle.std.specs.Prelude.{◌≡◌, ◌⊎◌, ◌<◌, ◌≤◌, ◌+◌, ℕ, None, length, IfOk, IfErr};
 ghost use Rattle.atam.specs.TileSystem.{IsValid};
-ghost use Rattle.atam.specs.Placements.{SamePlacements};
+ghost use Rattle.atam.specs.Placements.{SamePlacements, tile_at};
 ghost use Rattle.atam.specs.Growth.{IsClosedInBox};
 ghost use Rattle.assembly.specs.Cells.{cell_count};
 ghost use Rattle.site_table.specs.Seats.{IsSeatOf};
 ghost use Rattle.site_table.specs.Laws.{IsFinal};
 ghost use Rattle.frontier_seat.specs.Growths.{IsGrowing, GrowsOn};
+ghost use Rattle.number_set.specs.Numbers.{IsIn};
+ghost use Rattle.frontier_seat.specs.Inner.Listings.{AreEmptySites, IsSpot};
 ghost use Rattle.frontier_seat.specs.Inner.Looks.{IsClosedBut, LooksAt};
 ghost use Rattle.frontier_seat.specs.Inner.Pickers.{IsPickerOf};
 
 use crate::picking::Picker;
-use crate::work_list::WorkList;
+use crate::work_list::{Spot, WorkList};
 use crate::{Chooser, Growing};
 use assembly::Grid;
 use site_table::{SiteSeat, SiteTable};
@@ -20,10 +21,10 @@ use std::alloc::Global;
 use std::marker::Model;
 use std::sync::ledger::Ledger;
 use tile_io::Steps;
-use tile_system::{Site, System};
+use tile_system::System;
 
-/// A seat with the grid of what it has seen, an index of types, and room to work: with the grid,
-/// seven bytes a site.
+/// A seat with the grid of what it has seen, an index of types, and room to work: with the grid, two
+/// bytes and an eighth a site.
 #[derive(Drop)]
 pub struct Scout {
     growing: Growing,
@@ -36,6 +37,8 @@ impl Model for Scout {
     ghost use Rattle.frontier_seat.specs.declared.growing.Growing.{Growing};
     ghost use Rattle.frontier_seat.specs.Growths.{IsGrowing};
     ghost use Rattle.frontier_seat.specs.Inner.Pickers.{IsPickerOf};
+    ghost use Rattle.std.specs.Prelude.{ℕ};
+    ghost use Rattle.number_set.specs.Numbers.{IsIn};
 
     ghost Value = { Growing };
 
@@ -43,17 +46,19 @@ impl Model for Scout {
 
     ghost invariant = { λ s. IsGrowing s.growing.seat.sys s.growing
         × IsPickerOf s.growing.seat.sys s.picker
-        × (s.work.area ≡ s.growing.seat.sys.area) };
+        × (s.work.area ≡ s.growing.seat.sys.area)
+        × ((n : ℕ) → ¬ IsIn s.work.numbers n) };
 }
 
-// Looks at one site that is listed no longer, and claims it for a type that attaches.
+// Looks at one empty site that is listed no longer, and claims it for a type that attaches.
+#[inline(always)]
 fn look<C: Chooser, L: Ledger>(
     sys: &System,
     table: &SiteTable,
     growing: &mut Growing,
     chooser: &mut C,
     picker: &mut Picker,
-    site: Site,
+    spot: Spot,
     work: &mut WorkList,
     steps: &mut Steps<L>,
 )
@@ -62,22 +67,26 @@ fn look<C: Chooser, L: Ledger>(
     requires growing { IsGrowing sys.now growing.old }
     requires picker { IsPickerOf sys.now picker.old }
     requires area { work.old.area ≡ sys.now.area }
-    requires site { InBox sys.now.area site }
-    requires closed { IsClosedBut sys.now growing.old.grid.tiles (work.old.sites ++ site ∷ []) }
-    ensures looks { LooksAt sys.now growing.old growing.new work.old.sites work.new.sites }
+    requires spot { IsSpot sys.now.area spot }
+    requires gone { ¬ IsIn work.old.numbers spot.number }
+    requires empty { tile_at growing.old.grid.tiles spot.site ≡ None }
+    requires listed { AreEmptySites sys.now.area growing.old.grid.tiles work.old.numbers }
+    requires closed { IsClosedBut sys.now growing.old.grid.tiles
+        (λ n. IsIn work.old.numbers n ⊎ (n ≡ spot.number)) }
+    ensures looks { LooksAt sys.now growing.old growing.new work.old.numbers work.new.numbers }
     ensures picker { IsPickerOf sys.now picker.new }
     ensures area { work.new.area ≡ work.old.area }
     ensures cost { steps.new + length growing.old.grid.tiles
         ≡ steps.old + length growing.new.grid.tiles }
 {
     let _area = sys.area();
-    if let Some(tile) = picker.pick(sys, &growing.grid, site, chooser) {
-        growing.claim(sys, table, site, tile, steps);
-        work.list_neighbors(site);
+    if let Some(tile) = picker.pick(sys, &growing.grid, spot.site, chooser) {
+        growing.claim(sys, table, spot.site, tile, steps);
+        work.list_around(&growing.grid, spot);
     }
 }
 
-// Looks at all sites, and at those beside each tile that comes.
+// Looks at the empty sites beside what was seen, and at those beside each tile that comes.
 fn look_around<C: Chooser, L: Ledger>(
     sys: &System,
     table: &SiteTable,
@@ -92,19 +101,22 @@ fn look_around<C: Chooser, L: Ledger>(
     requires growing { IsGrowing sys.now growing.old }
     requires picker { IsPickerOf sys.now picker.old }
     requires area { work.old.area ≡ sys.now.area }
+    requires none { (n : ℕ) → ¬ IsIn work.old.numbers n }
     ensures valid { IsValid sys.now }
     ensures growing { IsGrowing sys.now growing.new }
     ensures goes { GrowsOn growing.old growing.new }
     ensures closed { IsClosedInBox sys.now growing.new.grid.tiles }
     ensures picker { IsPickerOf sys.now picker.new }
     ensures area { work.new.area ≡ work.old.area }
+    ensures none { (n : ℕ) → ¬ IsIn work.new.numbers n }
     ensures cost { steps.new + length growing.old.grid.tiles
         ≡ steps.old + length growing.new.grid.tiles }
 {
-    let _area = sys.area();
-    work.list_all();
-    while let Some(site) = work.take() {
-        look(sys, table, growing, chooser, picker, site, work, steps);
+    let area = sys.area();
+    let count = area.width() * area.height();
+    work.list_frontier(&growing.grid);
+    while let Some(spot) = work.take(chooser.start(count)) {
+        look(sys, table, growing, chooser, picker, spot, work, steps);
     }
 }
 

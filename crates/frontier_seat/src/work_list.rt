@@ -1,32 +1,42 @@
 // The sites that are to be looked at.
-ghost use Rattle.std.specs.Prelude.{◌≡◌, [], ◌∷◌, ◌++◌, Contains, IfOk, IfSome, MatchOption};
-ghost use Rattle.atam.specs.declared.site.Site.{Site};
-ghost use Rattle.atam.specs.Sites.{InBox, IsBox, IsNearSite};
-ghost use Rattle.frontier_seat.specs.Inner.Listings.{AddsSite, AddsNeighbors};
+ghost use Rattle.std.specs.Prelude.{◌≡◌, ◌<◌, ◌+◌, ◌*◌, ℕ, IfOk, IfSome, IfNone};
+ghost use Rattle.atam.specs.Sites.{IsBox, IsNearSite, neighbor, width_of, height_of};
+ghost use Rattle.atam.specs.Placements.{tile_at};
+ghost use Rattle.assembly.specs.Cells.{cell_count};
+ghost use Rattle.number_set.specs.Numbers.{IsIn, IsLeastOf};
+ghost use Rattle.frontier_seat.specs.Inner.Listings.{AreEmptySites, ListsAround, ListsFrontier, ListsFrontierTo, ListsSide, IsSpot, IsSpotBeside, TakesSpot};
 
-use assembly::{site_index, site_of_index};
+use assembly::{Grid, site_of_index};
+use number_set::NumberSet;
 use std::alloc::Global;
 use std::marker::Model;
-use tile_system::{BoxArea, NoMemory, Side, Site};
+use tile_system::{BoxArea, NoMemory, Placed, Side, Site, TypeId};
 
-// Sites of a box, each listed at most once, with room for all: five bytes a site.
+// A site of a box, and its number there.
+#[derive(Clone, Copy)]
+pub(crate) struct Spot {
+    pub(crate) site: Site,
+    pub(crate) number: usize,
+}
+
+// Sites of a box, each listed at most once, with room for all: an eighth of a byte a site.
 #[derive(Drop)]
 pub(crate) struct WorkList {
     area: BoxArea,
-    listed: Vec<bool>,
-    cells: Vec<u32>,
+    numbers: NumberSet,
 }
 
 impl Model for WorkList {
-    ghost use Rattle.std.specs.Prelude.{map, vec_capacity};
-    ghost use Rattle.assembly.specs.Cells.{site_at};
-    ghost use Rattle.frontier_seat.specs.Inner.Listings.{ListedSites, IsWorkList};
+    ghost use Rattle.std.specs.Prelude.{◌≡◌};
+    ghost use Rattle.atam.specs.Sites.{IsBox};
+    ghost use Rattle.assembly.specs.Cells.{cell_count};
+    ghost use Rattle.frontier_seat.specs.Inner.Listings.{ListedSites};
 
     ghost Value = { ListedSites };
 
-    ghost view = { λ w. record { area = w.area; sites = map (site_at w.area) w.cells.items } };
+    ghost view = { λ w. record { area = w.area; numbers = w.numbers } };
 
-    ghost invariant = { λ w. IsWorkList w.area w.listed.items w.cells.items (vec_capacity w.cells) };
+    ghost invariant = { λ w. IsBox w.area × (w.numbers.bound ≡ cell_count w.area) };
 }
 
 impl WorkList {
@@ -34,64 +44,165 @@ impl WorkList {
     pub(crate) fn make(alloc: Global, area: BoxArea) -> Result<WorkList, NoMemory>
         requires { IsBox area }
         ensures area { IfOk result (λ work. work.area ≡ area) }
+        ensures none { IfOk result (λ work. (n : ℕ) → ¬ IsIn work.numbers n) }
     {
-        let count = area.width() as usize * area.height() as usize;
+        let count = area.width() * area.height();
         Ok(WorkList {
             area,
-            listed: Vec::from_elem(alloc, false, count)?,
-            cells: Vec::with_capacity(alloc, count)?,
+            numbers: NumberSet::make(alloc, count)?,
         })
     }
 
-    // Lists a site, if it is in the box.
-    fn list(&mut self, site: Site)
-        ensures area { self.new.area ≡ self.old.area }
-        ensures adds { AddsSite self.old.area site self.old.sites self.new.sites }
+    // The number of the least site that is listed at or after this one, else of the least one.
+    #[inline(always)]
+    fn next(&self, from: u32) -> Option<usize>
+        requires { from < cell_count self.now.area }
+        ensures within { IfSome result (λ n. n < cell_count self.now.area) }
+        ensures listed { IfSome result (IsIn self.now.numbers) }
+        ensures none { IfNone result ((n : ℕ) → ¬ IsIn self.now.numbers n) }
     {
-        if !self.area.holds(site) {
-            return;
+        if from > 0 {
+            if let Some(number) = self.numbers.least_from(from as usize) {
+                return Some(number);
+            }
         }
-        let index = site_index(&self.area, site);
-        if self.listed[index] {
-            return;
-        }
-        self.listed[index] = true;
-        self.cells.push_reserved(index as u32);
+        self.numbers.least()
     }
 
-    // Takes the site that was listed last.
-    pub(crate) fn take(&mut self) -> Option<Site>
+    // Takes the least site that is listed at or after the one with this number, else the least one.
+    #[inline(always)]
+    pub(crate) fn take(&mut self, from: u32) -> Option<Spot>
+        requires { from < cell_count self.old.area }
         ensures area { self.new.area ≡ self.old.area }
-        ensures last { MatchOption result (self.old.sites ≡ [])
-            (λ site. self.old.sites ≡ self.new.sites ++ site ∷ []) }
-        ensures inside { IfSome result (InBox self.old.area) }
+        ensures takes { IfSome result
+            (TakesSpot self.old.area self.old.numbers self.new.numbers) }
+        ensures none { IfNone result ((n : ℕ) → ¬ IsIn self.old.numbers n) }
+        ensures same { IfNone result (self.new ≡ self.old) }
     {
-        let index = self.cells.pop()? as usize;
-        self.listed[index] = false;
-        Some(site_of_index(&self.area, index))
+        let number = self.next(from)?;
+        self.numbers.remove(number);
+        let site = site_of_index(&self.area, number);
+        Some(Spot { site, number })
     }
 
-    // Lists all sites of the box.
-    pub(crate) fn list_all(&mut self)
+    // Lists the site on one side, if it is in the box and no tile is there.
+    #[inline(always)]
+    fn list_side(&mut self, spot: Spot, side: Side, there: Option<TypeId>)
+        requires spot { IsSpot self.old.area spot }
         ensures area { self.new.area ≡ self.old.area }
-        ensures whole { (m : Site) → InBox self.old.area m → Contains self.new.sites m }
+        ensures lists { ListsSide self.old.area (neighbor spot.site side) there
+            self.old.numbers self.new.numbers }
+    {
+        if there.is_some() {
+            return;
+        }
+        if let Some(number) = number_beside(&self.area, spot, side) {
+            self.numbers.insert(number);
+        }
+    }
+
+    // Lists the empty sites of the box beside a site.
+    #[inline(always)]
+    pub(crate) fn list_around(&mut self, grid: &Grid, spot: Spot)
+        requires near { IsNearSite spot.site }
+        requires spot { IsSpot self.old.area spot }
+        ensures area { self.new.area ≡ self.old.area }
+        ensures lists { ListsAround self.old.area grid.now.tiles spot.site
+            self.old.numbers self.new.numbers }
+    {
+        let beside = grid.beside(spot.site);
+        self.list_side(spot, Side::North, beside.north);
+        self.list_side(spot, Side::East, beside.east);
+        self.list_side(spot, Side::South, beside.south);
+        self.list_side(spot, Side::West, beside.west);
+    }
+
+    // Lists the empty sites of the box beside a site, if a tile is there.
+    #[inline(always)]
+    fn list_tile(&mut self, grid: &Grid, spot: Spot)
+        requires near { IsNearSite spot.site }
+        requires spot { IsSpot self.old.area spot }
+        requires empty { AreEmptySites self.old.area grid.now.tiles self.old.numbers }
+        requires before { ListsFrontierTo self.old.area grid.now.tiles self.old.numbers
+            spot.number }
+        ensures area { self.new.area ≡ self.old.area }
+        ensures empty { AreEmptySites self.old.area grid.now.tiles self.new.numbers }
+        ensures lists { ListsFrontierTo self.old.area grid.now.tiles self.new.numbers
+            (spot.number + 1) }
+    {
+        if grid.at(spot.site).is_none() {
+            return;
+        }
+        self.list_around(grid, spot);
+    }
+
+    // Lists the empty sites of the box beside the tiles of one row.
+    fn list_row(&mut self, grid: &Grid, row: u32)
+        requires row { row < height_of self.old.area }
+        requires empty { AreEmptySites self.old.area grid.now.tiles self.old.numbers }
+        requires before { ListsFrontierTo self.old.area grid.now.tiles self.old.numbers
+            (row * width_of self.old.area) }
+        ensures area { self.new.area ≡ self.old.area }
+        ensures empty { AreEmptySites self.old.area grid.now.tiles self.new.numbers }
+        ensures lists { ListsFrontierTo self.old.area grid.now.tiles self.new.numbers
+            (row * width_of self.old.area + width_of self.old.area) }
     {
         let area = self.area;
-        let count = self.listed.len();
-        for index in 0..count {
-            self.list(site_of_index(&area, index));
+        let width = area.width();
+        let first = row as usize * width as usize;
+        for column in 0..width {
+            let site = area.site(column, row);
+            let number = first + column as usize;
+            self.list_tile(grid, Spot { site, number });
         }
     }
 
-    // Lists the sites beside a site.
-    pub(crate) fn list_neighbors(&mut self, site: Site)
-        requires near { IsNearSite site }
+    // Lists the empty sites of the box beside a tile, where no site is listed.
+    pub(crate) fn list_frontier(&mut self, grid: &Grid)
+        requires { (n : ℕ) → ¬ IsIn self.old.numbers n }
         ensures area { self.new.area ≡ self.old.area }
-        ensures adds { AddsNeighbors self.old.area site self.old.sites self.new.sites }
+        ensures empty { AreEmptySites self.old.area grid.now.tiles self.new.numbers }
+        ensures lists { ListsFrontier self.old.area grid.now.tiles self.new.numbers }
     {
-        self.list(site.step(Side::North));
-        self.list(site.step(Side::East));
-        self.list(site.step(Side::South));
-        self.list(site.step(Side::West));
+        let area = self.area;
+        for row in 0..area.height() {
+            self.list_row(grid, row);
+        }
+    }
+}
+
+// The number of the site on one side, if it is in the box.
+#[inline(always)]
+fn number_beside(area: &BoxArea, spot: Spot, side: Side) -> Option<usize>
+    requires limits { IsBox area.now }
+    requires spot { IsSpot area.now spot }
+    ensures { IsSpotBeside area.now (neighbor spot.site side) result }
+{
+    let Spot { site, number } = spot;
+    match side {
+        Side::North => {
+            if site.y >= area.y1 {
+                return None;
+            }
+            Some(number + area.width() as usize)
+        }
+        Side::East => {
+            if site.x >= area.x1 {
+                return None;
+            }
+            Some(number + 1)
+        }
+        Side::South => {
+            if site.y <= area.y0 {
+                return None;
+            }
+            Some(number - area.width() as usize)
+        }
+        Side::West => {
+            if site.x <= area.x0 {
+                return None;
+            }
+            Some(number - 1)
+        }
     }
 }

@@ -5,7 +5,7 @@ ghost use Rattle.site_table.specs.Seats.{IsSeatOf};
 ghost use Rattle.grow_workers.specs.Inner.Wins.{PartedGrowth};
 
 use assembly::Grid;
-use frontier_seat::{RngChooser, Scout};
+use frontier_seat::{Chooser, RngChooser, Scout, Wanderer};
 use rand_pcg::Lcg64Xsh32;
 use site_table::{SiteSeat, SiteTable};
 use std::alloc::Global;
@@ -22,13 +22,13 @@ pub(crate) struct Part {
     pub won: u32,
 }
 
-fn sweep_counted<L: Ledger>(
+fn sweep_counted<L: Ledger, C: Chooser + Drop>(
     alloc: Global,
     sys: &System,
     table: &SiteTable,
     seat: SiteSeat,
     seen: Grid,
-    mut chooser: RngChooser<Lcg64Xsh32>,
+    mut chooser: C,
     blank: Blank,
 ) -> Result<Part, NoMemory>
     requires blank { (blank.name ≡ L.name) × (blank.parts ≡ L.parts) × (0 < blank.parts) }
@@ -49,7 +49,8 @@ fn sweep_counted<L: Ledger>(
     Ok(Part { seat, grid, won })
 }
 
-// A worker claims until nothing attaches to what it has seen. It picks the ledger.
+// A worker claims until nothing attaches to what it has seen, the least site first where the choice
+// is 0, and else at sites by its generator. It picks the ledger.
 pub(crate) fn work_alone<G: Gate>(
     alloc: Global,
     sys: &System,
@@ -68,6 +69,12 @@ pub(crate) fn work_alone<G: Gate>(
         PartedGrowth sys.now seat seen part.seat part.grid part.won []) }
 {
     gate.arrive(worker);
-    let chooser = RngChooser::make(Lcg64Xsh32::new(choice, u64::from(worker)));
-    sweep_counted::<Brand>(alloc, sys, table, seat, seen, chooser, Blank::new(1))
+    let rng = Lcg64Xsh32::new(choice, u64::from(worker));
+    let blank = Blank::new(1);
+    if choice == 0 {
+        let chooser = RngChooser::make(rng);
+        return sweep_counted::<Brand, _>(alloc, sys, table, seat, seen, chooser, blank);
+    }
+    let chooser = Wanderer::make(rng);
+    sweep_counted::<Brand, _>(alloc, sys, table, seat, seen, chooser, blank)
 }

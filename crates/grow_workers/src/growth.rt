@@ -13,9 +13,12 @@ use tile_io::Gate;
 use tile_system::{NoMemory, System};
 
 /// Grows with so many workers, from what the seat has seen, each in a thread of its own but worker
-/// 0. The list has what each worker has won. Worker w chooses by PCG's generator of state `choice`
-/// and stream w, and calls the gate once before its first claim; no clause says more of either.
-/// Where memory is wanting the seats are dropped, and the table stays usable.
+/// 0. The list has what each worker has won. Where several types attach, worker w chooses by PCG's
+/// generator of state `choice` and stream w. With the choice 0 it claims the least site of those at
+/// which it has to look; with any other the generator says where in the box it looks for the next
+/// one, so that each of them may come first. It calls the gate once before its first claim. No
+/// clause says more of either. Where memory is wanting the seats are dropped, and the table stays
+/// usable.
 pub fn grow_on<R: Threads + Sync, G: Gate>(
     rt: &R,
     alloc: Global,

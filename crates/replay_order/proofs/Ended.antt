@@ -1,5 +1,5 @@
 -- A canonical sequence with nothing left, and one that leaves tiles over.
-use Rattle.std.proofs.Common.{◌≡◌, ◌≤◌, ◌+◌, ℕ, List, length, Some, None, Contains, refl, sym, ◌∙◌, subst, inl, inr}
+use Rattle.std.proofs.Common.{rules, ◌≡◌, ◌≢◌, ◌≤◌, ◌+◌, ℕ, List, length, Option, Some, None, IsSome, Contains, refl, sym, ◌∙◌, subst, inl, inr, arith}
 use Rattle.std.proofs.lemmas.Option.{none-some}
 use Rattle.std.proofs.lemmas.List.Elements.{All-contains}
 use Rattle.atam.specs.declared.site.Site.{Site}
@@ -18,6 +18,7 @@ use Rattle.atam.proofs.Opening.{Fits-part}
 use Rattle.atam.proofs.Beginnings.{unlisted_empty}
 use Rattle.replay_order.specs.Inner.Replays.{IsLeftAt, IsLeastLeft}
 use Rattle.replay_order.specs.ReplayAnswers.{IsWholeOrder, IsStuckAt}
+use Rattle.replay_order.proofs.Begun.{fewer_listed}
 
 module _ (sys : TileSystem) (tiles s : List Place) (fits : Fits sys tiles) (distinct : HasDistinctSites tiles)
     (seeds_distinct : HasDistinctSites sys.seeds) (canonical : IsCanonical sys tiles s) where
@@ -51,16 +52,32 @@ module _ (sys : TileSystem) (tiles s : List Place) (fits : Fits sys tiles) (dist
   inside : (q : Place) → Contains tiles q → InBox sys.area q.site
   inside q placed = All-contains (λ p. InBox sys.area p.site) tiles q fits.sites placed
 
+  -- where as many are listed, nothing is left
+  pub none_left : length tiles ≤ length s → IsLeastLeft sys.area tiles s None
+  none_left all m inside left =
+      let few = fewer_listed sys tiles s canonical.begins distinct seeds_distinct (record { site = m; tile = left.tile }) left.placed left.unlisted in
+      let never : ⊥ = omega (arith, few, all) in
+      never
+
+  -- and the other way round
+  pub all_listed : IsLeastLeft sys.area tiles s None → length tiles ≤ length s
+  all_listed none = count_in_part tiles s distinct listed_distinct (λ q placed. listed_or_left q placed (none q.site (inside q placed)))
+
+  -- a number that is left over shows that some tile is
+  pub some_left : (count : ℕ) (least : Option Site) → count + length s ≡ length tiles → count ≢ 0 → IsLeastLeft sys.area tiles s least → IsSome least
+  some_left count None counted some none = let never : ⊥ = omega (arith, all_listed none, counted, some) in absurd never
+  some_left count (Some least) counted some found = search rules
+
   -- nothing is left
   pub whole_order : IsLeastLeft sys.area tiles s None → IsWholeOrder sys tiles s
   whole_order none =
-      let all_listed : IsPartOf tiles s = λ q placed. listed_or_left q placed (none q.site (inside q placed)) in
+      let whole : IsPartOf tiles s = λ q placed. listed_or_left q placed (none q.site (inside q placed)) in
       record {
         canonical = canonical;
         legal = canonical_IsLegal sys tiles s distinct fits.types seeds_distinct canonical;
-        same = record { part = part; whole = all_listed };
+        same = record { part = part; whole = whole };
         fits = Fits-part sys s tiles part fits;
-        producible = (producible_exactly sys tiles s distinct fits.types seeds_distinct canonical).1 all_listed;
+        producible = (producible_exactly sys tiles s distinct fits.types seeds_distinct canonical).1 whole;
       }
 
   -- something is left

@@ -1,7 +1,8 @@
-pub mod SiteSets
-pub mod Listings
+pub mod Pulls
+pub mod Dues
+pub mod Lowerings
 pub mod ReadySites
-pub mod Rests
 pub mod Begun
+pub mod Rests
 pub mod Ended
 pub mod Sequences

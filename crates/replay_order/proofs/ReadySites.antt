@@ -1,25 +1,26 @@
--- The sites that are ready, as places are listed.
-use Rattle.std.proofs.Common.{◌≡◌, ◌≢◌, ◌⊎◌, ◌↔◌, ◌≤◌, ℕ, List, [], ◌∷◌, ◌++◌, Some, None, Contains, refl, sym, ◌∙◌, ap, subst, inl, inr, arith}
+-- The sites that are ready, and what the tiles lack, as places are listed.
+use Rattle.std.proofs.Common.{◌≡◌, ◌≢◌, ◌<◌, ◌≤◌, ◌-◌, ℕ, List, [], ◌∷◌, ◌++◌, Some, None, Contains, get_or, slice_get, sym, ◌∙◌, ap, subst, inl, inr, arith}
 use Rattle.std.proofs.Math.Nat.{le_trans}
-use Rattle.std.proofs.lemmas.Int.{ints}
-use Rattle.std.proofs.lemmas.Option.{none-some}
-use Rattle.atam.specs.declared.site.Side.{Side}
-use Rattle.atam.specs.declared.site.Side.TheVariants.{North, East, South, West}
+use Rattle.std.proofs.lemmas.Bool.{cases_lt}
+use Rattle.std.proofs.lemmas.Option.{none-some, same_Some}
 use Rattle.atam.specs.declared.site.Site.{Site}
 use Rattle.atam.specs.declared.place.TypeId.{TypeId}
 use Rattle.atam.specs.declared.place.Place.{Place}
-use Rattle.atam.specs.declared.area.BoxArea.{BoxArea}
-use Rattle.atam.specs.Sites.{InBox, IsBox, IsNearSite, neighbor, opposite}
-use Rattle.atam.specs.Placements.{IsPartOf, tile_at}
+use Rattle.atam.specs.Sites.{InBox}
+use Rattle.atam.specs.Placements.{HasDistinctSites, IsPartOf, tile_at}
 use Rattle.atam.specs.TileSystem.{TileSystem, IsType}
-use Rattle.atam.specs.Assembly.{Fits}
+use Rattle.atam.specs.Assembly.{Fits, pull}
 use Rattle.atam.proofs.Boxes.{same_site_tells}
-use Rattle.atam.proofs.Lists.{All-slice_get, Contains-push, Contains-slice_get}
-use Rattle.atam.proofs.Bonds.{pull-mono, beside_a_tile, neighbor-opposite}
-use Rattle.atam.proofs.Placements.{tile_at-append, tile_at-Contains, tile_at-place}
-use Rattle.atam.proofs.Opening.{pull-beside}
+use Rattle.atam.proofs.Lists.{All-slice_get, Contains-push, slice_get-Contains, some_or_none}
+use Rattle.atam.proofs.Bonds.{beside_a_tile}
+use Rattle.atam.proofs.Placements.{Contains-tile_at, tile_at-Contains, tile_at-place}
 use Rattle.atam.proofs.Tiles.{tile_at-push_other, tile_at-push_here}
-use Rattle.replay_order.specs.Inner.Replays.{IsReadySite, AreReadySites, AreReadySitesBut, AddsIfReady, AddsReadyBeside}
+use Rattle.assembly.specs.Cells.{cell_count, site_at}
+use Rattle.assembly.proofs.Cells.{site_at-injective}
+use Rattle.number_set.specs.Numbers.{Numbers, IsIn}
+use Rattle.replay_order.specs.Inner.Replays.{IsReadySite, Waiting, due_at, AreLacks, AreReadySites, AreReadySitesBut, Lowers, given_beside, TakesLeast}
+use Rattle.replay_order.proofs.Dues.{due_at-seed, due_at-other}
+use Rattle.replay_order.proofs.Pulls.{pull-push, given_pull, given_none}
 
 -- the tile at a site of an assembly that fits
 pub Fits-tile : (sys : TileSystem) (tiles : List Place) (m : Site) (t : TypeId) → Fits sys tiles → tile_at tiles m ≡ Some t → IsType sys t × InBox sys.area m
@@ -35,112 +36,176 @@ part_push s tiles p part placed q contains = elim (Contains-push s p q contains)
   | inr new ↦ subst (Contains tiles) new (tile_at-Contains tiles p.site p.tile placed)
 ]
 
--- a site is beside another, or it isn't
-beside_or_not : (here m : Site) → ((d : Side) × (m ≡ neighbor here d)) ⊎ ((d : Side) → here ≢ neighbor m d)
-beside_or_not here m =
-    let back : (d : Side) → here ≡ neighbor m d → m ≡ neighbor here (opposite d) = λ d same. sym (neighbor-opposite m d) ∙ ap (λ n. neighbor n (opposite d)) (sym same) in
-    elim (same_site_tells here (neighbor m North)) [
-      | inl same ↦ inl (South, back North same.1)
-      | inr north ↦ elim (same_site_tells here (neighbor m East)) [
-        | inl same ↦ inl (West, back East same.1)
-        | inr east ↦ elim (same_site_tells here (neighbor m South)) [
-          | inl same ↦ inl (North, back South same.1)
-          | inr south ↦ elim (same_site_tells here (neighbor m West)) [
-            | inl same ↦ inl (East, back West same.1)
-            | inr west ↦ inr (λ d. elim d as (λ d. here ≢ neighbor m d) [ North ↦ north.1 | East ↦ east.1 | South ↦ south.1 | West ↦ west.1 ])
+-- a place is listed, and the tiles beside it are given what it pulls
+module _ (sys : TileSystem) (tiles s : List Place) (p : Place) (old new : Waiting)
+    (empty : tile_at s p.site ≡ None) (placed : tile_at tiles p.site ≡ Some p.tile) (held : due_at sys.seeds sys.tau p.site ≤ pull sys s p.site p.tile)
+    (lowers : Lowers sys.area (given_beside sys tiles p) old new) (lacks : AreLacks sys tiles s old) where
+  -- what a tile lacks falls by that
+  lacks_less : (i : ℕ) (t : TypeId) → i < cell_count sys.area → tile_at tiles (site_at sys.area i) ≡ Some t →
+      get_or new.lacks i 0 ≡ due_at sys.seeds sys.tau (site_at sys.area i) - pull sys (s ++ p ∷ []) (site_at sys.area i) t
+  lacks_less i t below there =
+      let m = site_at sys.area i in
+      omega (arith, lacks.each i t below there, lowers.lacks i below, given_pull sys tiles p m t there, pull-push sys s p m t empty)
+
+  -- a listed tile lacked nothing before, the new one too
+  lacked_nothing : (i : ℕ) (t : TypeId) → i < cell_count sys.area → tile_at (s ++ p ∷ []) (site_at sys.area i) ≡ Some t → get_or old.lacks i 0 ≡ 0
+  lacked_nothing i t below listed =
+      let m = site_at sys.area i in
+      elim (same_site_tells p.site m) [
+        | inl same ↦
+            let There : Site → Type 0 = λ n. tile_at tiles n ≡ Some p.tile in
+            let Held : Site → Type 0 = λ n. due_at sys.seeds sys.tau n ≤ pull sys s n p.tile in
+            let held_here : Held m = subst Held same.1 held in
+            omega (arith, lacks.each i p.tile below (subst There same.1 placed), held_here)
+        | inr other ↦ lacks.settled i t below (sym (tile_at-push_other s p m other.1) ∙ listed)
+      ]
+
+  pub lacks_after : AreLacks sys tiles (s ++ p ∷ []) new
+  lacks_after = record {
+    area = lowers.new_area;
+    each = lacks_less;
+    settled = λ i t below listed. omega (arith, lowers.lacks i below, lacked_nothing i t below listed);
+  }
+
+  still_ready : (m : Site) → m ≢ p.site → IsReadySite sys tiles s m → IsReadySite sys tiles (s ++ p ∷ []) m
+  still_ready m other ready = record {
+    tile = ready.tile;
+    placed = ready.placed;
+    no_seed = ready.no_seed;
+    empty = tile_at-push_other s p m (λ same. other (sym same)) ∙ ready.empty;
+    held = omega (arith, ready.held, pull-push sys s p m ready.tile empty);
+  }
+
+  -- a tile that lacks nothing from now on becomes ready
+  becomes_ready : (i : ℕ) → i < cell_count sys.area → 0 < get_or old.lacks i 0 → get_or new.lacks i 0 ≡ 0 → IsReadySite sys tiles (s ++ p ∷ []) (site_at sys.area i)
+  becomes_ready i below some none =
+      let m = site_at sys.area i in
+      elim (some_or_none (tile_at tiles m)) [
+        | inl no_tile ↦
+            let never : ⊥ = omega (arith, lowers.lacks i below, given_none sys tiles p m no_tile, some, none) in
+            absurd never
+        | inr tile ↦ elim (some_or_none (tile_at sys.seeds m)) [
+          | inr seed ↦
+              let never : ⊥ = omega (arith, lacks.each i tile.0 below tile.1, due_at-seed sys.seeds sys.tau m seed.0 seed.1, some) in
+              absurd never
+          | inl no_seed ↦ elim (some_or_none (tile_at (s ++ p ∷ []) m)) [
+            | inr listed ↦
+                let never : ⊥ = omega (arith, lacked_nothing i listed.0 below listed.1, some) in
+                absurd never
+            | inl unlisted ↦ record {
+              tile = tile.0;
+              placed = tile.1;
+              no_seed = no_seed;
+              empty = unlisted;
+              held = omega (arith, lacks_less i tile.0 below tile.1, due_at-other sys.seeds sys.tau m no_seed, none);
+            }
           ]
         ]
       ]
-    ]
 
--- a place is listed
-module _ (sys : TileSystem) (tiles s : List Place) (p : Place) (empty : tile_at s p.site ≡ None) where
-  stays_ready : (m : Site) → p.site ≢ m → IsReadySite sys tiles s m → IsReadySite sys tiles (s ++ p ∷ []) m
-  stays_ready m other ready = record {
-    tile = ready.tile;
-    placed = ready.placed;
-    empty = tile_at-push_other s p m other ∙ ready.empty;
-    held = le_trans ready.held (pull-mono sys s (s ++ p ∷ []) m ready.tile (λ n t found. tile_at-append s (p ∷ []) n t found));
-  }
-
-  not_here : (m : Site) → IsReadySite sys tiles (s ++ p ∷ []) m → p.site ≢ m
+  not_here : (m : Site) → IsReadySite sys tiles (s ++ p ∷ []) m → m ≢ p.site
   not_here m ready same =
-      none-some p.tile (sym (subst (λ n. tile_at (s ++ p ∷ []) n ≡ None) (sym same) ready.empty) ∙ tile_at-push_here s p empty)
+      let Empty : Site → Type 0 = λ n. tile_at (s ++ p ∷ []) n ≡ None in
+      none-some p.tile (sym (subst Empty same ready.empty) ∙ tile_at-push_here s p empty)
 
-  was_ready : (m : Site) → ((d : Side) → p.site ≢ neighbor m d) → IsReadySite sys tiles (s ++ p ∷ []) m → IsReadySite sys tiles s m
-  was_ready m apart ready =
-      let same = pull-beside sys (s ++ p ∷ []) s m ready.tile (λ d. tile_at-push_other s p (neighbor m d) (apart d)) in
-      let Held : ℕ → Type 0 = λ n. sys.tau ≤ n in
+  -- a tile that lacked nothing before was ready
+  was_ready : (i : ℕ) → i < cell_count sys.area → get_or old.lacks i 0 ≡ 0 → IsReadySite sys tiles (s ++ p ∷ []) (site_at sys.area i) → IsReadySite sys tiles s (site_at sys.area i)
+  was_ready i below none ready =
+      let m = site_at sys.area i in
       record {
         tile = ready.tile;
         placed = ready.placed;
-        empty = sym (tile_at-push_other s p m (not_here m ready)) ∙ ready.empty;
-        held = subst Held same ready.held;
+        no_seed = ready.no_seed;
+        empty = sym (tile_at-push_other s p m (λ same. not_here m ready (sym same))) ∙ ready.empty;
+        held = omega (arith, lacks.each i ready.tile below ready.placed, due_at-other sys.seeds sys.tau m ready.no_seed, none);
       }
 
-  pub ready_after : (old new : List Site) → AreReadySitesBut sys tiles s old p.site → AddsReadyBeside sys tiles (s ++ p ∷ []) p.site old new →
-      AreReadySites sys tiles (s ++ p ∷ []) new
-  ready_after old new but adds m = (
-    λ contains. elim (adds.sound m contains) [
-      | inl before ↦
-          let other : p.site ≢ m = λ same. but.absent (subst (Contains old) (sym same) before) in
-          stays_ready m other ((but.others m (λ one. other (sym one))).0 before)
-      | inr ready ↦ ready
+  pub ready_after : AreReadySitesBut sys tiles s old.ready p.site → AreReadySites sys tiles (s ++ p ∷ []) new.ready
+  ready_after but i below = (
+    λ is_in. elim ((lowers.ready i below).0 is_in) [
+      | inl before ↦ let was = (but i below).0 before in still_ready (site_at sys.area i) was.1 was.0
+      | inr passed ↦ becomes_ready i below passed.0 passed.1
     ],
-    λ ready. elim (beside_or_not p.site m) [
-      | inl beside ↦ subst (Contains new) (sym beside.1) (adds.beside beside.0 (subst (λ n. IsReadySite sys tiles (s ++ p ∷ []) n) beside.1 ready))
-      | inr apart ↦ adds.kept m ((but.others m (λ one. not_here m ready (sym one))).1 (was_ready m apart ready))
+    λ ready. elim (cases_lt 0 (get_or old.lacks i 0)) [
+      | inl some ↦
+          let m = site_at sys.area i in
+          let none : get_or new.lacks i 0 ≡ 0 = omega (arith, lacks_less i ready.tile below ready.placed, due_at-other sys.seeds sys.tau m ready.no_seed, ready.held) in
+          (lowers.ready i below).1 (inr (some, none))
+      | inr none ↦
+          (lowers.ready i below).1 (inl ((but i below).1 (was_ready i below (omega (arith, none)) ready, not_here (site_at sys.area i) ready)))
     ],
   )
 
-module _ (sys : TileSystem) (tiles s : List Place) where
-  -- a ready site is added
-  pub added_ready : (m : Site) (old new : List Site) → IsReadySite sys tiles s m → ((n : Site) → Contains new n ↔ (Contains old n ⊎ (n ≡ m))) →
-      AddsIfReady sys tiles s m old new
-  added_ready m old new ready added = record {
-    kept = λ n contains. (added n).1 (inl contains);
-    sound = λ n contains. elim ((added n).0 contains) [
-      | inl before ↦ inl before
-      | inr one ↦ inr (subst (λ k. IsReadySite sys tiles s k) (sym one) ready)
-    ];
-    here = λ is_ready. (added m).1 (inr refl);
+-- the least ready site is taken out
+module _ (sys : TileSystem) (tiles s : List Place) (old new : Waiting) (m : Site) (lacks : AreLacks sys tiles s old) (ready : AreReadySites sys tiles s old.ready) (takes : TakesLeast old new m) where
+  pub taken_site : site_at sys.area takes.number ≡ m
+  taken_site = ap (λ area. site_at area takes.number) (sym lacks.area) ∙ takes.site
+
+  pub taken_ready : IsReadySite sys tiles s m
+  taken_ready =
+      let within : takes.number < cell_count sys.area = omega (arith, takes.within, ap cell_count lacks.area) in
+      subst (IsReadySite sys tiles s) taken_site ((ready takes.number within).0 takes.member)
+
+  pub taken_held : (t : TypeId) → tile_at tiles m ≡ Some t → due_at sys.seeds sys.tau m ≤ pull sys s m t
+  taken_held t placed =
+      let at = taken_ready in
+      let Held : TypeId → Type 0 = λ u. sys.tau ≤ pull sys s m u in
+      let held : Held t = subst Held (same_Some at.tile t (sym at.placed ∙ placed)) at.held in
+      omega (arith, held, due_at-other sys.seeds sys.tau m at.no_seed)
+
+  pub taken_lacks : new.area ≡ old.area → new.lacks ≡ old.lacks → AreLacks sys tiles s new
+  taken_lacks same_area same_lacks = record {
+    area = same_area ∙ lacks.area;
+    each = λ i t below placed. ap (λ l. get_or l i 0) same_lacks ∙ lacks.each i t below placed;
+    settled = λ i t below listed. ap (λ l. get_or l i 0) same_lacks ∙ lacks.settled i t below listed;
   }
 
-  -- the sites in the four directions are looked at
-  pub added_beside : (m : Site) (a b c d e : List Site) →
-      AddsIfReady sys tiles s (neighbor m North) a b → AddsIfReady sys tiles s (neighbor m East) b c →
-      AddsIfReady sys tiles s (neighbor m South) c d → AddsIfReady sys tiles s (neighbor m West) d e →
-      AddsReadyBeside sys tiles s m a e
-  added_beside m a b c d e north east south west = record {
-    kept = λ n contains. west.kept n (south.kept n (east.kept n (north.kept n contains)));
-    sound = λ n contains. elim (west.sound n contains) [
-      | inr ready ↦ inr ready
-      | inl in_d ↦ elim (south.sound n in_d) [
-        | inr ready ↦ inr ready
-        | inl in_c ↦ elim (east.sound n in_c) [ inr ready ↦ inr ready | inl in_b ↦ north.sound n in_b ]
-      ]
-    ];
-    beside = λ side. elim side as (λ side. IsReadySite sys tiles s (neighbor m side) → Contains e (neighbor m side)) [
-      | North ↦ λ ready. west.kept (neighbor m North) (south.kept (neighbor m North) (east.kept (neighbor m North) (north.here ready)))
-      | East ↦ λ ready. west.kept (neighbor m East) (south.kept (neighbor m East) (east.here ready))
-      | South ↦ λ ready. west.kept (neighbor m South) (south.here ready)
-      | West ↦ λ ready. west.here ready
-    ];
-  }
+  pub taken_but : AreReadySitesBut sys tiles s new.ready m
+  taken_but i below = (
+    λ is_in.
+        let was = (takes.removed i).0 is_in in
+        ((ready i below).0 was.0, λ same. was.1 (site_at-injective sys.area i takes.number (same ∙ sym taken_site))),
+    λ both. (takes.removed i).1 ((ready i below).1 both.0, λ one. both.1 (ap (λ k. site_at sys.area k) one ∙ taken_site)),
+  )
 
-  -- a site is taken out
-  pub ready_but : (k : Site) (old new : List Site) → AreReadySites sys tiles s old → ((m : Site) → Contains new m ↔ (Contains old m × (m ≢ k))) →
-      AreReadySitesBut sys tiles s new k
-  ready_but k old new ready removed = record {
-    absent = λ contains. ((removed k).0 contains).1 refl;
-    others = λ m other. (λ contains. (ready m).0 ((removed m).0 contains).0, λ is_ready. (removed m).1 ((ready m).1 is_ready, other));
-  }
+-- a seed
+module _ (sys : TileSystem) (seeds_distinct : HasDistinctSites sys.seeds) (k : ℕ) (p : Place) (there : slice_get sys.seeds k ≡ Some p) where
+  seed_at : tile_at sys.seeds p.site ≡ Some p.tile
+  seed_at = Contains-tile_at sys.seeds p seeds_distinct (slice_get-Contains sys.seeds k p there)
 
--- before the first place no site is ready
-pub none_ready : (sys : TileSystem) (tiles : List Place) → 1 ≤ sys.tau → AreReadySites sys tiles [] []
-none_ready sys tiles some_tau m = (
-  λ contains. let at = Contains-slice_get [] m contains in absurd (none-some m at.2),
-  λ ready.
-      let beside = beside_a_tile sys [] m ready.tile (le_trans some_tau ready.held) in
+  -- is held by nothing
+  pub seed_held : (s : List Place) → due_at sys.seeds sys.tau p.site ≤ pull sys s p.site p.tile
+  seed_held s = omega (arith, due_at-seed sys.seeds sys.tau p.site p.tile seed_at)
+
+  -- and is never ready
+  pub seed_but : (tiles s : List Place) (ready : Numbers) → AreReadySites sys tiles s ready → AreReadySitesBut sys tiles s ready p.site
+  seed_but tiles s ready are i below = (
+    λ is_in.
+        let at = (are i below).0 is_in in
+        let Empty : Site → Type 0 = λ n. tile_at sys.seeds n ≡ None in
+        (at, λ same. none-some p.tile (sym (subst Empty same at.no_seed) ∙ seed_at)),
+    λ both. (are i below).1 both.0,
+  )
+
+-- before the first place no site is ready, and each tile lacks all
+pub none_ready : (sys : TileSystem) (tiles : List Place) (ready : Numbers) → 1 ≤ sys.tau → ((i : ℕ) → ¬ IsIn ready i) → AreReadySites sys tiles [] ready
+none_ready sys tiles ready some_tau none i below = (
+  λ is_in. absurd (none i is_in),
+  λ is_ready.
+      let beside = beside_a_tile sys [] (site_at sys.area i) is_ready.tile (le_trans some_tau is_ready.held) in
       absurd (none-some beside.1 beside.2),
 )
+
+pub all_lack : (sys : TileSystem) (tiles : List Place) (waiting : Waiting) → waiting.area ≡ sys.area →
+    ((i : ℕ) → i < cell_count sys.area → get_or waiting.lacks i 0 ≡ due_at sys.seeds sys.tau (site_at sys.area i)) → AreLacks sys tiles [] waiting
+all_lack sys tiles waiting area due = record {
+  area = area;
+  each = λ i t below placed. omega (arith, due i below, none_pulls (site_at sys.area i) t);
+  settled = λ i t below listed. absurd (none-some t listed);
+}
+  where
+    none_pulls : (m : Site) (t : TypeId) → pull sys [] m t ≡ 0
+    none_pulls m t = elim (cases_lt 0 (pull sys [] m t)) [
+      | inl some ↦ let beside = beside_a_tile sys [] m t some in absurd (none-some beside.1 beside.2)
+      | inr none ↦ omega (arith, none)
+    ]

@@ -1,28 +1,25 @@
 // The canonical order of an assembly.
-ghost use Rattle.std.specs.Prelude.{◌≡◌, ◌≢◌, ◌↔◌, IsOk, ◌∷◌, ◌++◌, [], Some, None, IsTrue, IfOk, OnOk};
+ghost use Rattle.std.specs.Prelude.{◌≡◌, ◌≢◌, ◌↔◌, ◌≤◌, IsOk, ◌∷◌, ◌++◌, [], Some, None, IfOk, OnOk};
 ghost use Rattle.std.specs.Bool.{OnTrue, OnFalse};
-ghost use Rattle.atam.specs.Sites.{InBox, IsNearSite};
-ghost use Rattle.atam.specs.Placements.{HasDistinctSites, IsPartOf, tile_at};
+ghost use Rattle.atam.specs.Placements.{HasDistinctSites, tile_at};
 ghost use Rattle.atam.specs.TileSystem.{IsValid};
-ghost use Rattle.atam.specs.Assembly.{Fits};
+ghost use Rattle.atam.specs.Assembly.{Fits, pull};
 ghost use Rattle.atam.specs.Growth.{IsProducible};
 ghost use Rattle.atam.specs.Canonical.{BeginsCanonical, IsCanonical};
-ghost use Rattle.replay_order.specs.Inner.Replays.{IsReadySite, AreReadySites, AreReadySitesBut, AddsIfReady, AddsReadyBeside};
+ghost use Rattle.replay_order.specs.Inner.Replays.{due_at, AreLacks, AreReadySites, AreReadySitesBut};
 ghost use Rattle.replay_order.specs.ReplayAnswers.{HoldsSeeds, LacksSeed, IsReplayAnswer};
 
-use crate::listing::Listing;
-use crate::ready_set::ReadySet;
 use crate::rest::least_left;
 use crate::stop::ReplayStop;
+use crate::waiting::WaitingSites;
 use assembly::{Grid, Sequence};
-use attach_rule::can_attach;
 use std::alloc::Global;
-use tile_system::{NoMemory, Place, Placed, Side, Site, System};
+use tile_system::{NoMemory, Place, Placed, System};
 
 /// The canonical sequence of a producible grid: the seeds, and then at each step the place with
 /// the least site that the places so far hold. It is legal, and has exactly the grid's placements.
-/// It takes memory for the sequence, for a grid and for the sites that are ready. Its time grows
-/// with the number of tiles times its logarithm, and with the number of sites of the box.
+/// It takes memory for the sequence, and some two bytes for each site of the box. Its time grows
+/// with the number of tiles, and with the number of sites of the box.
 pub fn replay(alloc: Global, sys: &System, grid: &Grid) -> Result<Sequence, ReplayStop>
     requires area { grid.now.area ≡ sys.now.area }
     requires fits { Fits sys.now grid.now.tiles }
@@ -36,14 +33,14 @@ pub fn replay(alloc: Global, sys: &System, grid: &Grid) -> Result<Sequence, Repl
     if !holds_seeds(sys, grid) {
         return Err(ReplayStop::NoSeedThere);
     }
-    let listing = canonical_listing(alloc, sys, grid)?;
-    match least_left(&area, grid, &listing) {
-        None => Ok(listing.into_order()),
-        Some(least) => Err(ReplayStop::Stuck {
-            left: grid.count() - listing.len() as u32,
-            least,
-        }),
+    let mut order = Sequence::make(alloc);
+    let waiting = list_all(alloc, sys, grid, &mut order)?;
+    let left = grid.count() - order.len() as u32;
+    if left == 0 {
+        return Ok(order);
     }
+    let least = least_left(&area, grid, &waiting).unwrap();
+    Err(ReplayStop::Stuck { left, least })
 }
 
 // Whether each seed stands in the grid.
@@ -57,43 +54,46 @@ fn holds_seeds(sys: &System, grid: &Grid) -> bool
         .all(|seed| grid.at(seed.site) == Some(seed.tile))
 }
 
-// The listing of the canonical sequence.
-fn canonical_listing(alloc: Global, sys: &System, grid: &Grid) -> Result<Listing, NoMemory>
+// Lists the canonical sequence, and hands out what its rest waits for.
+fn list_all(
+    alloc: Global,
+    sys: &System,
+    grid: &Grid,
+    order: &mut Sequence,
+) -> Result<WaitingSites, NoMemory>
     requires area { grid.now.area ≡ sys.now.area }
     requires fits { Fits sys.now grid.now.tiles }
-    requires distinct { HasDistinctSites grid.now.tiles }
     requires seeded { HoldsSeeds sys.now grid.now.tiles }
-    ensures { IfOk result (λ listing. IsCanonical sys.now grid.now.tiles listing.places) }
+    requires unlisted { order.old ≡ [] }
+    ensures canonical { IfOk result (λ _. IsCanonical sys.now grid.now.tiles order.new) }
+    ensures lacks { IfOk result (AreLacks sys.now grid.now.tiles order.new) }
 {
-    let mut listing = Listing::make(alloc, sys.area())?;
-    let mut ready = ReadySet::make(alloc);
-    list_seeds(sys, grid, &mut listing, &mut ready)?;
-    list_ready(sys, grid, &mut listing, &mut ready)?;
-    Ok(listing)
+    let mut waiting = WaitingSites::make(alloc, grid.area(), sys.tau(), sys.seeds())?;
+    list_seeds(sys, grid, order, &mut waiting)?;
+    list_ready(sys, grid, order, &mut waiting)?;
+    Ok(waiting)
 }
 
 // Lists the seeds, and adds the sites that are ready then.
 fn list_seeds(
     sys: &System,
     grid: &Grid,
-    listing: &mut Listing,
-    ready: &mut ReadySet,
+    order: &mut Sequence,
+    waiting: &mut WaitingSites,
 ) -> Result<(), NoMemory>
-    requires area { grid.now.area ≡ sys.now.area }
-    requires listing_area { listing.old.area ≡ sys.now.area }
     requires valid { IsValid sys.now }
     requires fits { Fits sys.now grid.now.tiles }
     requires seeded { HoldsSeeds sys.now grid.now.tiles }
-    requires unlisted { listing.old.places ≡ [] }
-    requires no_site { ready.old ≡ [] }
-    ensures listed { OnOk result (listing.new.places ≡ sys.now.seeds) }
-    ensures area { listing.new.area ≡ listing.old.area }
+    requires unlisted { order.old ≡ [] }
+    requires lacks { AreLacks sys.now grid.now.tiles order.old waiting.old }
+    requires ready { AreReadySites sys.now grid.now.tiles order.old waiting.old.ready }
+    ensures listed { OnOk result (order.new ≡ sys.now.seeds) }
+    ensures lacks { OnOk result (AreLacks sys.now grid.now.tiles order.new waiting.new) }
     ensures ready { OnOk result
-        (AreReadySites sys.now grid.now.tiles listing.new.places ready.new) }
+        (AreReadySites sys.now grid.now.tiles order.new waiting.new.ready) }
 {
     for seed in sys.seeds() {
-        ready.remove(seed.site);
-        list_place(sys, grid, listing, ready, *seed)?;
+        list_place(sys, grid, order, waiting, *seed)?;
     }
     Ok(())
 }
@@ -102,101 +102,49 @@ fn list_seeds(
 fn list_ready(
     sys: &System,
     grid: &Grid,
-    listing: &mut Listing,
-    ready: &mut ReadySet,
+    order: &mut Sequence,
+    waiting: &mut WaitingSites,
 ) -> Result<(), NoMemory>
-    requires area { grid.now.area ≡ sys.now.area }
-    requires listing_area { listing.old.area ≡ sys.now.area }
     requires valid { IsValid sys.now }
     requires fits { Fits sys.now grid.now.tiles }
     requires distinct { HasDistinctSites grid.now.tiles }
-    requires begun { BeginsCanonical sys.now grid.now.tiles listing.old.places }
-    requires ready { AreReadySites sys.now grid.now.tiles listing.old.places ready.old }
-    ensures { OnOk result (IsCanonical sys.now grid.now.tiles listing.new.places) }
+    requires begun { BeginsCanonical sys.now grid.now.tiles order.old }
+    requires lacks { AreLacks sys.now grid.now.tiles order.old waiting.old }
+    requires ready { AreReadySites sys.now grid.now.tiles order.old waiting.old.ready }
+    ensures canonical { OnOk result (IsCanonical sys.now grid.now.tiles order.new) }
+    ensures lacks { OnOk result (AreLacks sys.now grid.now.tiles order.new waiting.new) }
 {
-    while let Some(site) = ready.pop_least() {
+    while let Some(site) = waiting.take_least() {
         let tile = grid.at(site).unwrap();
-        list_place(sys, grid, listing, ready, Place { site, tile })?;
+        list_place(sys, grid, order, waiting, Place { site, tile })?;
     }
     Ok(())
 }
 
 // Lists a place of the grid, and adds the sites that become ready.
+#[inline(always)]
 fn list_place(
     sys: &System,
     grid: &Grid,
-    listing: &mut Listing,
-    ready: &mut ReadySet,
+    order: &mut Sequence,
+    waiting: &mut WaitingSites,
     place: Place,
 ) -> Result<(), NoMemory>
-    requires area { grid.now.area ≡ sys.now.area }
-    requires listing_area { listing.old.area ≡ sys.now.area }
     requires valid { IsValid sys.now }
     requires fits { Fits sys.now grid.now.tiles }
-    requires part { IsPartOf listing.old.places grid.now.tiles }
     requires placed { tile_at grid.now.tiles place.site ≡ Some place.tile }
-    requires empty { tile_at listing.old.places place.site ≡ None }
+    requires empty { tile_at order.old place.site ≡ None }
+    requires held { due_at sys.now.seeds sys.now.tau place.site ≤
+        pull sys.now order.old place.site place.tile }
+    requires lacks { AreLacks sys.now grid.now.tiles order.old waiting.old }
     requires ready { AreReadySitesBut sys.now grid.now.tiles
-        listing.old.places ready.old place.site }
-    ensures area { listing.new.area ≡ listing.old.area }
-    ensures listed { OnOk result (listing.new.places ≡ listing.old.places ++ place ∷ []) }
+        order.old waiting.old.ready place.site }
+    ensures listed { OnOk result (order.new ≡ order.old ++ place ∷ []) }
+    ensures lacks { OnOk result (AreLacks sys.now grid.now.tiles order.new waiting.new) }
     ensures ready { OnOk result
-        (AreReadySites sys.now grid.now.tiles listing.new.places ready.new) }
+        (AreReadySites sys.now grid.now.tiles order.new waiting.new.ready) }
 {
-    listing.push(place)?;
-    add_ready_beside(sys, grid, listing, ready, place.site)
-}
-
-// Adds the ready sites beside a site.
-fn add_ready_beside(
-    sys: &System,
-    grid: &Grid,
-    listing: &Listing,
-    ready: &mut ReadySet,
-    site: Site,
-) -> Result<(), NoMemory>
-    requires valid { IsValid sys.now }
-    requires inside { InBox sys.now.area site }
-    requires fits { Fits sys.now grid.now.tiles }
-    requires listing_fits { Fits sys.now listing.now.places }
-    ensures { OnOk result (AddsReadyBeside sys.now grid.now.tiles
-        listing.now.places site ready.old ready.new) }
-{
-    add_if_ready(sys, grid, listing, ready, site.step(Side::North))?;
-    add_if_ready(sys, grid, listing, ready, site.step(Side::East))?;
-    add_if_ready(sys, grid, listing, ready, site.step(Side::South))?;
-    add_if_ready(sys, grid, listing, ready, site.step(Side::West))
-}
-
-// Adds a site if it is ready.
-fn add_if_ready(
-    sys: &System,
-    grid: &Grid,
-    listing: &Listing,
-    ready: &mut ReadySet,
-    site: Site,
-) -> Result<(), NoMemory>
-    requires near { IsNearSite site }
-    requires fits { Fits sys.now grid.now.tiles }
-    requires listing_fits { Fits sys.now listing.now.places }
-    ensures { OnOk result (AddsIfReady sys.now grid.now.tiles
-        listing.now.places site ready.old ready.new) }
-{
-    if is_ready(sys, grid, listing, site) {
-        ready.add(site)?;
-    }
+    order.push(place)?;
+    waiting.lower_beside(sys, grid, place);
     Ok(())
-}
-
-// Whether the site has a tile that is not listed, and whose type the listed places hold.
-fn is_ready(sys: &System, grid: &Grid, listing: &Listing, site: Site) -> bool
-    requires near { IsNearSite site }
-    requires fits { Fits sys.now grid.now.tiles }
-    requires listing_fits { Fits sys.now listing.now.places }
-    ensures { IsTrue result ↔ IsReadySite sys.now grid.now.tiles listing.now.places site }
-{
-    match grid.at(site) {
-        None => false,
-        Some(tile) => can_attach(sys, listing, site, tile),
-    }
 }

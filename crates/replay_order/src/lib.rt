@@ -3,10 +3,9 @@
 
 mod canonical;
 mod legal;
-mod listing;
-mod ready_set;
 mod rest;
 mod stop;
+mod waiting;
 
 pub use canonical::replay;
 pub use legal::{Legality, check_legal};

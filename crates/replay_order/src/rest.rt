@@ -1,20 +1,25 @@
-// What a listing leaves of a grid.
+// What is left of a grid once no site is ready.
+ghost use Rattle.std.specs.Prelude.{◌≡◌, IfSome, IfNone};
 ghost use Rattle.atam.specs.Sites.{IsBox};
-ghost use Rattle.replay_order.specs.Inner.Replays.{IsLeastLeft};
+ghost use Rattle.assembly.specs.Cells.{cell_count};
+ghost use Rattle.replay_order.specs.Inner.Replays.{IsLeastLacking, NoneLacksBelow};
 
-use crate::listing::Listing;
+use crate::waiting::WaitingSites;
 use assembly::{Grid, site_of_index};
 use tile_system::{BoxArea, Placed, Site};
 
-// The least site of the box with a tile of the grid that is not listed.
-pub(crate) fn least_left(area: &BoxArea, grid: &Grid, listing: &Listing) -> Option<Site>
-    requires { IsBox area.now }
-    ensures { IsLeastLeft area.now grid.now.tiles listing.now.places result }
+// The least site with a tile of the grid that lacks something.
+pub(crate) fn least_left(area: &BoxArea, grid: &Grid, waiting: &WaitingSites) -> Option<Site>
+    requires limits { IsBox area.now }
+    requires same { area.now ≡ waiting.now.area }
+    ensures least { IfSome result (IsLeastLacking grid.now.tiles waiting.now) }
+    ensures none { IfNone result
+        (NoneLacksBelow grid.now.tiles waiting.now (cell_count waiting.now.area)) }
 {
     let cells = area.width() as usize * area.height() as usize;
     for index in 0..cells {
         let site = site_of_index(area, index);
-        if grid.at(site).is_some() && listing.at(site).is_none() {
+        if waiting.is_lacking(index) && grid.at(site).is_some() {
             return Some(site);
         }
     }

@@ -1,14 +1,15 @@
 -- The fields that name a type, and what a `place` line that passed says of its place.
-use Rattle.std.proofs.Common.{◌≡◌, ℕ, ◌<◌, Bool, true, List, length, Ok, sym, subst, arith}
+use Rattle.std.proofs.Common.{◌≡◌, ℕ, ◌<◌, Bool, true, List, length, Some, Ok, refl, sym, subst, ◌∙◌, arith}
 use Rattle.std.specs.Prelude.{position, bytes_eq}
 use Rattle.std.proofs.lemmas.List.{length-map}
 use Rattle.tile_io.specs.declared.fault.Cause.TheVariants.{OutsideBox, DoubleSite}
 use Rattle.tile_io.specs.Checks.{◌>>=◌, require, field}
 use Rattle.tile_io.proofs.Checking.{bind_ok, require_ok}
 use Rattle.atam.specs.declared.place.Place.{Place}
-use Rattle.atam.specs.TileSystem.{TileSystem, TileType, IsType}
+use Rattle.atam.specs.declared.place.TypeId.{TypeId}
+use Rattle.atam.specs.TileSystem.{TileSystem, TileType, IsType, is_name}
 use Rattle.tile_system.specs.Names.{type_named}
-use Rattle.tile_text.specs.Fields.{place_field}
+use Rattle.tile_text.specs.Fields.{place_field, site_field, type_field}
 use Rattle.tile_text.specs.SystemText.{is_in_box}
 use Rattle.tile_text.proofs.Built.{position_map}
 use Rattle.tile_text.proofs.Inverse.{place_ok}
@@ -18,6 +19,14 @@ use Rattle.seq_text.specs.GrowthText.GrowthItem.{PlaceLine}
 -- a type's place in the system is that of its name
 pub type_found : (sys : TileSystem) (name : List ℕ) → type_named sys.types name ≡ position (bytes_eq name) (names_of sys)
 type_found sys name = sym (position_map (λ t. t.name) (bytes_eq name) sys.types)
+
+-- the site of a tile whose name was found
+pub place_of_found : (sys : TileSystem) (column row name : List ℕ) (t : TypeId) → is_name name ≡ true → type_named sys.types name ≡ Some t.0 →
+    place_field (names_of sys) column row name ≡ (site_field column row >>= λ m. Ok (record { site = m; tile = t }))
+unfolding place_field type_field
+place_of_found sys column row name t named found =
+    let at : position (bytes_eq name) (names_of sys) ≡ Some t.0 = sym (type_found sys name) ∙ found in
+    rw (named, at) refl
 
 -- a place that may stand after those before it
 pub record MayStand (distinct : Bool) (sys : TileSystem) (earlier : List Place) (p : Place) : Type 0 where

@@ -1,5 +1,6 @@
 pub mod Fields
 pub mod Fitting
 pub mod Growths
+pub mod HeldLines
 pub mod Printed
 pub mod Scratch

@@ -19,7 +19,7 @@ use Rattle.atam.specs.declared.place.TypeId.{TypeId}
 use Rattle.atam.specs.declared.place.Place.{Place}
 use Rattle.atam.specs.Sites.{InBox, IsNearSite}
 use Rattle.atam.specs.Placements.{HasDistinctSites, tile_at}
-use Rattle.atam.specs.TileSystem.{TileSystem, IsValid, IsType, type_name}
+use Rattle.atam.specs.TileSystem.{TileSystem, IsValid, IsType, type_name, is_name}
 use Rattle.atam.proofs.Placements.{distinct-empty}
 use Rattle.tile_text.specs.Fields.{site_field, type_field, place_field}
 use Rattle.tile_text.proofs.Boxes.{le_z, inside_passes}
@@ -85,11 +85,18 @@ module _ (sys : TileSystem) (valid : IsValid sys) where
       let y = near_small m.y (le_z (negsuc 1000001) m.y near.bottom) (le_z m.y (pos 1000002) near.top) in
       ((IsWord-signed m.x x, length-signed m.x x), (IsWord-signed m.y y, length-signed m.y y))
 
-  typed_name : (t : TypeId) → IsType sys t → IsWord (type_name sys t) × (length (type_name sys t) ≤ 40)
+  -- the name of a type
+  pub typed_name : (t : TypeId) → IsType sys t → IsWord (type_name sys t) × (length (type_name sys t) ≤ 40)
   typed_name t typed =
       let p : Place = record { site = record { x = pos 0; y = pos 0 }; tile = t } in
       let named = named_seed sys p valid.type_names valid.distinct_types typed in
       (name_word (type_name sys t) named.named, name_short (type_name sys t) named.named)
+
+  -- the name of a type is one
+  pub named_type : (t : TypeId) → IsType sys t → (name : List ℕ) → type_name sys t ≡ name → is_name name ≡ true
+  named_type t typed name same =
+      let p : Place = record { site = record { x = pos 0; y = pos 0 }; tile = t } in
+      ap is_name (sym same) ∙ (named_seed sys p valid.type_names valid.distinct_types typed).named
 
   spelled_closed : (found : Option (Site × TypeId)) → MayBeOpen sys found → IsSpelled (closed_words sys found)
   spelled_closed None h = record {

@@ -6,7 +6,9 @@ ghost use Rattle.atam.specs.Placements.{HasDistinctSites};
 ghost use Rattle.tile_io.specs.NextLine.{IsMark};
 ghost use Rattle.tile_io.specs.Formats.{ReadsOrStops};
 ghost use Rattle.tile_io.specs.LineReader.{TakesItem};
-ghost use Rattle.seq_text.specs.GrowthText.{GrowthItem, sequence_format, grid_format, ReadsSequence, ReadsGrid, place_fields, place_in, may_stand};
+ghost use Rattle.atam.specs.TileSystem.{IsType};
+ghost use Rattle.tile_text.specs.Fields.{place_field};
+ghost use Rattle.seq_text.specs.GrowthText.{GrowthItem, sequence_format, grid_format, ReadsSequence, ReadsGrid, names_of, place_fields, place_in, may_stand};
 ghost use Rattle.seq_text.specs.Inner.SoFar.{HasScratch};
 
 use crate::kind::LineKind;
@@ -15,7 +17,7 @@ use atam::MOST_TYPES;
 use std::alloc::Global;
 use tile_io::{Cause, LineReader, LineStop, LineWords, MOST_INPUT, Mark, TextStop, read_text};
 use tile_system::{NoMemory, Place, Placed, Site, System};
-use tile_text::read_place;
+use tile_text::{read_place, read_site};
 
 /// Reads a growth text to the end of the input, as the sequence of its places, in time that grows with its length and the
 /// logarithm of the number of types.
@@ -170,9 +172,7 @@ impl<'a> GrowthReader<'a> {
         ensures free { IfOk result (λ p.
             may_stand (is_some self.now.scratch) self.now.places p.site ≡ true) }
     {
-        let name = words.word(3);
-        let found = self.system.find_type(name);
-        let place = read_place(words.word(1), words.word(2), name, found)?;
+        let place = read_tile(self.system, words.word(1), words.word(2), words.word(3))?;
         if !self.system.area().holds(place.site) {
             return Err(Cause::OutsideBox);
         }
@@ -212,5 +212,21 @@ impl<'a> GrowthReader<'a> {
         }
         self.last = Some(LineKind::Place);
         Ok(())
+    }
+}
+
+// Reads a tile of a system: its site, and the name of its type. A name that is found is one.
+fn read_tile(sys: &System, column: &[u8], row: &[u8], name: &[u8]) -> Result<Place, Cause>
+    ensures place { result ≡ place_field (names_of sys.now) column.now row.now name.now }
+    ensures known { IfOk result (λ p. IsType sys.now p.tile) }
+{
+    // a system is valid
+    let _area = sys.area();
+    match sys.find_type(name) {
+        Some(tile) => {
+            let site = read_site(column, row)?;
+            Ok(Place { site, tile })
+        }
+        None => read_place(column, row, name, None),
     }
 }

@@ -20,7 +20,7 @@ use Rattle.assembly.specs.Cells.{cell_count, site_at}
 use Rattle.assembly.specs.Grids.{place_of, places_of}
 use Rattle.assembly.proofs.Cells.{index_of, site_at-injective, site_at-inside}
 use Rattle.assembly.proofs.Contents.{type_in-tile, tile_at-cell, tile_at-outside, All-places, places-distinct}
-use Rattle.assembly.proofs.Contents as grids
+use Rattle.assembly.specs.Inner.GridCells as grids
 use Rattle.atam.proofs.Tiles.{SamePlacements-from_tiles, SamePlacements-trans, SameTiles-put}
 use Rattle.grow_core.specs.declared.placed_tile.PlacedTile.{PlacedTile}
 use Rattle.grow_core.specs.Core.{ScoutState, places, IsHistory, ScoutInvariant}

@@ -1,10 +1,8 @@
 -- The checks of a line, one after another, and what a check that passed says.
 use Rattle.std.proofs.Common.{◌≡◌, ℕ, ◌+◌, ◌-◌, Bool, true, false, List, [], ◌∷◌, ◌++◌, length, slice_get, Some, Result, Ok, Err, refl, ap, ◌∙◌, length-append, arith}
-use Rattle.std.specs.Prelude.{bytes_eq, find}
-use Rattle.std.proofs.lemmas.Option.{none-some, same_Some}
 use Rattle.tile_io.specs.declared.fault.Cause.{Cause}
 use Rattle.tile_io.specs.declared.fault.Cause.TheVariants.{BadLine, OutOfOrder, TooMany}
-use Rattle.tile_io.specs.Checks.{◌>>=◌, require, Keyword, check_keyword, keyword_of, last_of}
+use Rattle.tile_io.specs.Checks.{◌>>=◌, require, Keyword, check_keyword, last_of}
 
 module _ {Item : Type 0} where
   get_last : (items : List Item) (item : Item) → slice_get (items ++ item ∷ []) (length items) ≡ Some item

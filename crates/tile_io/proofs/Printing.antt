@@ -123,6 +123,16 @@ module _ {S : Type 0} {written : S → Option (List ℕ)} {faults : S → ℕ} w
         cause = HasCause-failed passed.cause;
       }
 
+  -- a piece that found its room behind what is held
+  pub PassesOn-held : {T U E F : Type 0} {a b : S} {i j k : List ℕ} {x : T} {y : U} {p : List ℕ} →
+      PassesOn {T = T} {E = E} written faults a b i j (Ok x) [] → k ≡ j ++ p → PassesOn {T = U} {E = F} written faults a b i k (Ok y) p
+  PassesOn-held {i = i} {j = j} {k = k} {y = y} {p = p} passed held =
+      let out = passed.taken.0 in
+      let all : i ++ p ≡ out ++ k =
+      ap (λ l. l ++ p) (sym (append-nil i)) ∙ ap (λ l. l ++ p) passed.taken.2 ∙ append_assoc out j p ∙ ap (λ l. out ++ l) (sym held)
+      in
+      record { taken = (out, passed.taken.1, all); front = tt; dropped = tt; cause = HasCause-then (Ok y) passed.cause (record { stays = refl; failed = tt; later = omega arith }) }
+
   -- all that was held goes out, and then a piece that is written past the chunk
   pub PassesOn-past : {T U E F : Type 0} {a b c : S} {i j : List ℕ} {x : T} {p : List ℕ} (r : Result U F) → j ≡ [] →
       Prints {T = T} {E = E} written faults a b (Ok x) i → Prints written faults b c r p → PassesOn written faults a c i j r p

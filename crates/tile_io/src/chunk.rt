@@ -1,14 +1,16 @@
 // Bytes held back in front of a sink, so that they go out in large pieces.
-ghost use Rattle.std.specs.Prelude.{◌≡◌, ◌≤◌, ◌+◌, [], ◌∷◌, ◌++◌, List, ℕ, length, take, map, flat_map};
+ghost use Rattle.std.specs.Prelude.{◌≡◌, ◌≤◌, ◌+◌, [], ◌∷◌, ◌++◌, List, ℕ, length, take, map, flat_map, OnOk};
+ghost use Rattle.std.specs.Fmt.{decimal, signed_decimal};
 ghost use Rattle.tile_io.specs.Chunks.{PassesOn};
 ghost use Rattle.tile_io.specs.Lines.{line_of};
 ghost use Rattle.tile_io.specs.Prints.{Prints};
 
 use crate::{Failed, Sink, write_all};
+use itoa::write_digits;
 use std::marker::Model;
 
 /// How many bytes are held back at most.
-const ROOM: usize = 8192;
+pub const CHUNK_ROOM: usize = 8192;
 
 /// The bytes that are held back, on the stack. After a failure nothing is held, since it may be out already.
 #[derive(Drop)]
@@ -39,25 +41,65 @@ impl Chunk {
     pub fn put<K: Sink>(&mut self, sink: &mut K, piece: &[u8]) -> Result<(), Failed>
         ensures { PassesOn K.written K.faults sink.old sink.new self.old self.new result piece.now }
     {
-        if piece.len() <= ROOM - self.len {
+        if piece.len() <= CHUNK_ROOM - self.len {
             self.hold(piece);
             return Ok(());
         }
         self.flush(sink)?;
-        if piece.len() <= ROOM {
+        if piece.len() <= CHUNK_ROOM {
             self.hold(piece);
             return Ok(());
         }
         write_all(sink, piece)
     }
 
-    // Adds a piece for which there is room.
-    fn hold(&mut self, piece: &[u8])
-        requires { length self.old + length piece.now ≤ ROOM }
-        ensures { self.new ≡ self.old ++ piece.now }
+    /// Makes room for so many bytes: what is held goes out first where fewer are free.
+    #[inline(always)]
+    pub fn make_room<K: Sink>(&mut self, sink: &mut K, count: usize) -> Result<(), Failed>
+        requires { count ≤ CHUNK_ROOM }
+        ensures passed { PassesOn K.written K.faults sink.old sink.new self.old self.new result [] }
+        ensures room { OnOk result (length self.new + count ≤ CHUNK_ROOM) }
+    {
+        if count <= CHUNK_ROOM - self.len {
+            return Ok(());
+        }
+        self.flush(sink)
+    }
+
+    /// Adds a piece for which there is room.
+    #[inline(always)]
+    pub fn hold(&mut self, piece: &[u8])
+        requires { length self.old + length piece.now ≤ CHUNK_ROOM }
+        ensures bytes { self.new ≡ self.old ++ piece.now }
+        ensures len { length self.new ≡ length self.old + length piece.now }
     {
         let end = self.len + piece.len();
         self.bytes[self.len..end].copy_from_slice(piece);
+        self.len = end;
+    }
+
+    /// Adds a number, where there is room for the longest.
+    #[inline(always)]
+    pub fn hold_number(&mut self, number: i32)
+        requires { length self.old + 11 ≤ CHUNK_ROOM }
+        ensures bytes { self.new ≡ self.old ++ signed_decimal number }
+        ensures len { length self.new ≤ length self.old + 11 }
+    {
+        if number < 0 {
+            self.hold(b"-");
+        }
+        self.hold_digits(number.unsigned_abs());
+    }
+
+    // Adds the digits of a number that isn't negative.
+    #[inline(always)]
+    fn hold_digits(&mut self, number: u32)
+        requires { length self.old + 10 ≤ CHUNK_ROOM }
+        ensures bytes { self.new ≡ self.old ++ decimal number }
+        ensures len { length self.new ≤ length self.old + 10 }
+    {
+        let end = self.len + digit_count(number);
+        write_digits(u64::from(number), &mut self.bytes, end);
         self.len = end;
     }
 
@@ -115,4 +157,24 @@ pub fn print_line<K: Sink>(sink: &mut K, first: &[u8], rest: &[&[u8]]) -> Result
     let mut chunk = Chunk::new();
     chunk.put_line(sink, first, rest)?;
     chunk.flush(sink)
+}
+
+// The number of digits that write a number.
+#[inline(always)]
+fn digit_count(number: u32) -> usize
+    ensures count { result ≡ length (decimal number) }
+    ensures bound { result ≤ 10 }
+{
+    match number {
+        0..=9 => 1,
+        10..=99 => 2,
+        100..=999 => 3,
+        1_000..=9_999 => 4,
+        10_000..=99_999 => 5,
+        100_000..=999_999 => 6,
+        1_000_000..=9_999_999 => 7,
+        10_000_000..=99_999_999 => 8,
+        100_000_000..=999_999_999 => 9,
+        _ => 10,
+    }
 }

@@ -25,9 +25,6 @@ module _ {K G : Type 0} (set : TileSet K G) where
       ∷ option_map (glue_id set) (set.side k West)
       ∷ []
 
-  -- the draft has all glues, and all types
-  abbrev pub HasLabels : Draft → Type 0
-  HasLabels draft = draft.glues ≡ map (glue_of set) set.labels
-
+  -- the draft has all types
   abbrev pub HasKinds : Draft → Type 0
   HasKinds draft = draft.types ≡ map (tile_type set) set.kinds

@@ -1,8 +1,9 @@
 // A table of kinds of tiles and of labels, and its system.
-ghost use Rattle.std.specs.Prelude.{◌≡◌, [], ◌∷◌, Contains, OnOk, IfOk, option_map};
+ghost use Rattle.std.specs.Prelude.{◌≡◌, ◌<◌, [], ◌∷◌, Contains, OnOk, IfOk, option_map};
+ghost use Rattle.atam.specs.declared.limits.TheConstants.{MOST_GLUES};
 ghost use Rattle.atam.specs.Sites.{InBox, IsBox};
 ghost use Rattle.design.specs.TileSets.{TileSet, IsTileSet, IsWithinLimits, cell_site, glue_id, system_of, type_id};
-ghost use Rattle.tile_table.specs.Drafts.{HasKinds, HasLabels, draft_of, sides_of};
+ghost use Rattle.tile_table.specs.Drafts.{HasKinds, draft_of, sides_of};
 
 use atam::{BoxArea, GlueId, Place, Side, Site, TypeId};
 use std::alloc::Global;
@@ -25,6 +26,12 @@ pub trait Table<K, G> {
         requires { Contains (tiles self.now).labels label }
         ensures { result ≡ (tiles self.now).strength label };
 
+    /// The place of a label in the list of labels.
+    fn label_number(&self, label: G) -> u32
+        requires listed { Contains (tiles self.now).labels label }
+        requires small { (tiles self.now).label_number label < MOST_GLUES }
+        ensures { result ≡ (tiles self.now).label_number label };
+
     fn kind_name(&self, alloc: Global, kind: K) -> Result<Vec<u8>, NoMemory>
         requires { Contains (tiles self.now).kinds kind }
         ensures { IfOk result (λ name. name.items ≡ (tiles self.now).kind_name kind) };
@@ -34,8 +41,7 @@ pub trait Table<K, G> {
         ensures { IfOk result (λ name. name.items ≡ (tiles self.now).label_name label) };
 }
 
-/// The system of a table. Glues of sides are found by their names, so this takes time that grows
-/// with the number of kinds times the logarithm of the number of labels.
+/// The system of a table, in time that grows with the number of kinds and of labels.
 pub fn build_system<K: Copy, G: Copy, T: Table<K, G>>(
     alloc: Global,
     table: &T,
@@ -99,53 +105,35 @@ fn push_kinds<K: Copy, G: Copy, T: Table<K, G>>(
 {
     for kind in kinds {
         let name = table.kind_name(alloc, *kind)?;
-        let sides = glues_of_kind(alloc, builder, table, *kind)?;
+        let sides = glues_of_kind(table, *kind);
         builder.push_type(name.as_slice(), sides)?;
     }
     Ok(())
 }
 
 // The glues on the sides of a kind, in the order north, east, south, west.
-fn glues_of_kind<K: Copy, G: Copy, T: Table<K, G>>(
-    alloc: Global,
-    builder: &SystemBuilder,
-    table: &T,
-    kind: K,
-) -> Result<[Option<GlueId>; 4], NoMemory>
-    requires labels { HasLabels (T.tiles table.now) builder.now }
+fn glues_of_kind<K: Copy, G: Copy, T: Table<K, G>>(table: &T, kind: K) -> [Option<GlueId>; 4]
     requires numbered { IsTileSet (T.tiles table.now) }
     requires limits { IsWithinLimits (T.tiles table.now) }
     requires kind { Contains (T.tiles table.now).kinds kind }
-    ensures { IfOk result (λ sides. sides ≡ sides_of (T.tiles table.now) kind) }
+    ensures { result ≡ sides_of (T.tiles table.now) kind }
 {
-    let north = glue_on_side(alloc, builder, table, kind, Side::North)?;
-    let east = glue_on_side(alloc, builder, table, kind, Side::East)?;
-    let south = glue_on_side(alloc, builder, table, kind, Side::South)?;
-    let west = glue_on_side(alloc, builder, table, kind, Side::West)?;
-    Ok([north, east, south, west])
+    let north = glue_on_side(table, kind, Side::North);
+    let east = glue_on_side(table, kind, Side::East);
+    let south = glue_on_side(table, kind, Side::South);
+    let west = glue_on_side(table, kind, Side::West);
+    [north, east, south, west]
 }
 
-fn glue_on_side<K: Copy, G: Copy, T: Table<K, G>>(
-    alloc: Global,
-    builder: &SystemBuilder,
-    table: &T,
-    kind: K,
-    side: Side,
-) -> Result<Option<GlueId>, NoMemory>
-    requires labels { HasLabels (T.tiles table.now) builder.now }
+#[inline(always)]
+fn glue_on_side<K: Copy, G: Copy, T: Table<K, G>>(table: &T, kind: K, side: Side) -> Option<GlueId>
     requires numbered { IsTileSet (T.tiles table.now) }
     requires limits { IsWithinLimits (T.tiles table.now) }
     requires kind { Contains (T.tiles table.now).kinds kind }
-    ensures { IfOk result (λ glue. glue
-        ≡ option_map (glue_id (T.tiles table.now)) ((T.tiles table.now).side kind side)) }
+    ensures { result ≡ option_map (glue_id (T.tiles table.now)) ((T.tiles table.now).side kind side) }
 {
-    match table.side(kind, side) {
-        Some(label) => {
-            let name = table.label_name(alloc, label)?;
-            Ok(builder.find_glue(name.as_slice()))
-        }
-        None => Ok(None),
-    }
+    let label = table.side(kind, side)?;
+    Some(GlueId(table.label_number(label)))
 }
 
 fn type_of_kind<K: Copy, G: Copy, T: Table<K, G>>(

@@ -11,3 +11,4 @@ pub mod ShortNames
 pub mod Named
 pub mod TypesShown
 pub mod ConfigsShown
+mod Counts

@@ -2,10 +2,12 @@
 ghost use Rattle.std.specs.Prelude.{◌≡◌, IfOk, IfSome};
 ghost use Rattle.machine_text.specs.Machines.{IsMachine};
 ghost use Rattle.turing_compile.specs.Compiled.{area_of, compiled};
+ghost use Rattle.turing_compile.specs.Inner.Counts.{AreRuleCounts};
 
 use crate::kind::{Kind, Label};
 use crate::listing::{kinds, labels};
 use crate::names::{kind_name, label_name};
+use crate::numbers::{RuleCounts, count_rules, label_number};
 use crate::table::{label_on, row_of_kind, strength};
 use atam::{BoxArea, Side};
 use machine_text::Machine;
@@ -22,7 +24,8 @@ pub fn compile(alloc: Global, machine: &Machine) -> Result<System, NoMemory>
     prove!(machine.states() > 0);
     let labels = labels(alloc, machine)?;
     let kinds = kinds(alloc, machine)?;
-    let table = MachineTable { machine };
+    let counts = count_rules(alloc, machine)?;
+    let table = MachineTable { machine, counts };
     let seed = Kind::First { cell: 0 };
     build_system(
         alloc,
@@ -38,6 +41,8 @@ pub fn compile(alloc: Global, machine: &Machine) -> Result<System, NoMemory>
 #[derive(Drop)]
 struct MachineTable<'a> {
     machine: &'a Machine,
+    counts: RuleCounts,
+    ghost counted: { AreRuleCounts machine.now counts.before.items counts.all },
 }
 
 impl<'a> Table<Kind, Label> for MachineTable<'a> {
@@ -53,6 +58,11 @@ impl<'a> Table<Kind, Label> for MachineTable<'a> {
 
     fn strength(&self, label: Label) -> u32 {
         strength(label)
+    }
+
+    fn label_number(&self, label: Label) -> u32 {
+        prove!(self.machine.states() > 0);
+        label_number(self.machine, &self.counts, label)
     }
 
     fn kind_name(&self, alloc: Global, kind: Kind) -> Result<Vec<u8>, NoMemory> {

@@ -6,6 +6,7 @@ mod kind;
 mod laws;
 mod listing;
 mod names;
+mod numbers;
 mod reading;
 mod table;
 

@@ -52,8 +52,8 @@ fn sideways(alloc: Global, machine: &Machine) -> Result<Vec<Label>, NoMemory>
     Ok(labels)
 }
 
-// The pairs of a state and a symbol, by state and then by symbol.
-fn pairs(alloc: Global, machine: &Machine) -> Result<Vec<(u32, u32)>, NoMemory>
+/// The pairs of a state and a symbol, by state and then by symbol.
+pub fn pairs(alloc: Global, machine: &Machine) -> Result<Vec<(u32, u32)>, NoMemory>
     ensures { IfOk result (λ found. found.items ≡ pairs machine.now) }
 {
     let mut pairs = Vec::new(alloc);

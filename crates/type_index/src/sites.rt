@@ -1,9 +1,11 @@
 // What attaches at a site, and the least open site.
-ghost use Rattle.std.specs.Prelude.{◌≡◌, ◌≤◌, length};
+ghost use Rattle.std.specs.Prelude.{◌≡◌, ◌≤◌, None, length};
 ghost use Rattle.atam.specs.Sites.{IsNearSite};
+ghost use Rattle.atam.specs.Placements.{tile_at};
 ghost use Rattle.atam.specs.Assembly.{Fits};
 ghost use Rattle.atam.specs.Growth.{IsLeastOpen, IsLeastOpenOutside};
 ghost use Rattle.attach_rule.specs.Candidates.{AreCandidates};
+ghost use Rattle.attach_rule.specs.Searches.{IsFirstType};
 ghost use Rattle.type_index.specs.Indexes.{IsIndexOf};
 ghost use Rattle.type_index.specs.Others.{IsFirstOther};
 
@@ -14,17 +16,34 @@ use tile_system::{Placed, Site, System, TypeId};
 impl TypeFinder for TypeIndex {
     ghost serves = { λ index sys. IsIndexOf sys index };
 
+    #[inline(always)]
     fn first_type<P: Placed>(&self, sys: &System, placed: &P, site: Site) -> Option<TypeId> {
         if placed.at(site).is_some() {
             return None;
         }
-        let glues = glues_facing(sys, placed, site);
-        let mut walk = self.walk(sys, &glues);
-        self.next_held(sys, &glues, &mut walk)
+        self.first_at_empty(sys, placed, site)
     }
 }
 
 impl TypeIndex {
+    // The first type, by index, that attaches at an empty site. It looks for none where no glue faces
+    // the site.
+    fn first_at_empty<P: Placed>(&self, sys: &System, placed: &P, site: Site) -> Option<TypeId>
+        requires index { IsIndexOf sys.now self.now }
+        requires near { IsNearSite site }
+        requires fits { Fits sys.now (P.placements placed.now) }
+        requires empty { tile_at (P.placements placed.now) site ≡ None }
+        ensures { IsFirstType sys.now (P.placements placed.now) site result }
+    {
+        let _valid = sys.tau();
+        let glues = glues_facing(sys, placed, site);
+        if glues.are_none() {
+            return None;
+        }
+        let mut walk = self.walk(sys, &glues);
+        self.next_held(sys, &glues, &mut walk)
+    }
+
     /// Lists all types that attach at the site, and tries those alone that have one of the glues
     /// that face it.
     pub fn candidates<P: Placed>(&self, sys: &System, placed: &P, site: Site, into: &mut TypeList)

@@ -1,35 +1,60 @@
--- Sites that are to be looked at.
-use Rattle.std.specs.Prelude.{◌≡◌, ◌≢◌, ℕ, ◌+◌, ◌≤◌, Bool, true, false, List, length, AllPairs, Contains, count_by}
-use Rattle.std.specs.List.{slice_index_or}
+-- Sites that are to be looked at, by their numbers.
+use Rattle.std.specs.Prelude.{◌≡◌, ◌⊎◌, ℕ, ◌+◌, ◌≤◌, ◌<◌, List, Option, Some, None, MatchOption}
 use Rattle.atam.specs.declared.site.Side.{Side}
 use Rattle.atam.specs.declared.site.Site.{Site}
+use Rattle.atam.specs.declared.place.TypeId.{TypeId}
+use Rattle.atam.specs.declared.place.Place.{Place}
 use Rattle.atam.specs.declared.area.BoxArea.{BoxArea}
-use Rattle.atam.specs.Sites.{neighbor, InBox, IsBox}
-use Rattle.assembly.specs.Cells.{cell_count}
+use Rattle.atam.specs.Sites.{neighbor, InBox}
+use Rattle.atam.specs.Placements.{tile_at}
+use Rattle.assembly.specs.Cells.{cell_count, site_at}
+use Rattle.number_set.specs.Numbers.{Numbers, IsIn, Removes, count_below}
+use Rattle.frontier_seat.specs.declared.work_list.Spot.{Spot}
 
--- sites of a box
+-- the numbers of sites of a box
 pub record ListedSites : Type 0 where
   pub area : BoxArea
-  pub sites : List Site
+  pub numbers : Numbers
 
--- The cells that are listed are marked, each is listed once, and there is room for all.
-pub record IsWorkList (area : BoxArea) (marks : List Bool) (cells : List ℕ) (room : ℕ) : Type 0 where
-  pub box_limits : IsBox area
-  pub size : length marks ≡ cell_count area
-  pub marked : (i : ℕ) → Contains cells i → slice_index_or marks i false ≡ true
-  pub listed : (i : ℕ) → slice_index_or marks i false ≡ true → Contains cells i
-  pub once : AllPairs (λ i j. i ≢ j) cells
-  pub counted : count_by (λ b. b) marks ≡ length cells
-  pub enough : cell_count area ≤ room
+-- the site has this number in the box
+pub record IsSpot (area : BoxArea) (spot : Spot) : Type 0 where
+  pub within : spot.number < cell_count area
+  pub site : site_at area spot.number ≡ spot.site
+  pub inside : InBox area spot.site
 
--- the site is listed too, if it is in the box
-pub record AddsSite (area : BoxArea) (m : Site) (old new : List Site) : Type 0 where
-  pub kept : (n : Site) → Contains old n → Contains new n
-  pub added : InBox area m → Contains new m
-  pub few : length new ≤ length old + 1
+-- the number of a site; none exactly where it is outside the box
+abbrev pub IsSpotBeside : BoxArea → Site → Option ℕ → Type 0
+IsSpotBeside area m found = MatchOption found (¬ InBox area m) (λ number. IsSpot area (record { site = m; number = number }))
 
--- and each site beside it
-pub record AddsNeighbors (area : BoxArea) (m : Site) (old new : List Site) : Type 0 where
-  pub kept : (n : Site) → Contains old n → Contains new n
-  pub added : (d : Side) → InBox area (neighbor m d) → Contains new (neighbor m d)
-  pub few : length new ≤ length old + 4
+-- a site that was listed is listed no longer
+pub record TakesSpot (area : BoxArea) (old new : Numbers) (taken : Spot) : Type 0 where
+  pub spot : IsSpot area taken
+  pub listed : IsIn old taken.number
+  pub removed : Removes old new taken.number
+
+-- no tile is at a site that is listed
+abbrev pub AreEmptySites : BoxArea → List Place → Numbers → Type 0
+AreEmptySites area tiles numbers = (n : ℕ) → IsIn numbers n → tile_at tiles (site_at area n) ≡ None
+
+-- A site is listed, if it is in the box and no tile is there; no other is new.
+pub record ListsSide (area : BoxArea) (m : Site) (there : Option TypeId) (old new : Numbers) : Type 0 where
+  pub kept : (n : ℕ) → IsIn old n → IsIn new n
+  pub added : (n : ℕ) → n < cell_count area → site_at area n ≡ m → there ≡ None → IsIn new n
+  pub only : (n : ℕ) → IsIn new n → IsIn old n ⊎ ((site_at area n ≡ m) × (there ≡ None))
+  pub few : (k : ℕ) → count_below new k ≤ count_below old k + 1
+
+-- the same of each site beside one
+pub record ListsAround (area : BoxArea) (tiles : List Place) (m : Site) (old new : Numbers) : Type 0 where
+  pub kept : (n : ℕ) → IsIn old n → IsIn new n
+  pub added : (n : ℕ) (d : Side) → n < cell_count area → site_at area n ≡ neighbor m d → tile_at tiles (neighbor m d) ≡ None → IsIn new n
+  pub only : (n : ℕ) → IsIn new n → IsIn old n ⊎ (tile_at tiles (site_at area n) ≡ None)
+  pub few : (k : ℕ) → count_below new k ≤ count_below old k + 4
+
+-- an empty site of the box beside a tile at one of the first sites is listed
+abbrev pub ListsFrontierTo : BoxArea → List Place → Numbers → ℕ → Type 0
+ListsFrontierTo area tiles numbers count = (k n : ℕ) (d : Side) (t : TypeId) → k < count → tile_at tiles (site_at area k) ≡ Some t →
+    n < cell_count area → site_at area n ≡ neighbor (site_at area k) d → tile_at tiles (site_at area n) ≡ None → IsIn numbers n
+
+-- at any site of the box
+abbrev pub ListsFrontier : BoxArea → List Place → Numbers → Type 0
+ListsFrontier area tiles numbers = ListsFrontierTo area tiles numbers (cell_count area)

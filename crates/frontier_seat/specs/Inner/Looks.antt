@@ -1,15 +1,17 @@
 -- One look at a site, and the claim there.
-use Rattle.std.specs.Prelude.{◌≡◌, ◌+◌, ◌*◌, ◌≤◌, List, [], ◌∷◌, ◌++◌, length, Contains, Option, MatchOption}
+use Rattle.std.specs.Prelude.{◌≡◌, ℕ, ◌+◌, ◌*◌, ◌≤◌, ◌<◌, List, [], ◌∷◌, ◌++◌, length, Option, MatchOption}
 use Rattle.atam.specs.declared.site.Site.{Site}
 use Rattle.atam.specs.declared.place.TypeId.{TypeId}
 use Rattle.atam.specs.declared.place.Place.{Place}
-use Rattle.atam.specs.Sites.{InBox}
 use Rattle.atam.specs.TileSystem.{TileSystem}
 use Rattle.atam.specs.Placements.{SamePlacements, HasDistinctSites, tile_at}
 use Rattle.atam.specs.Growth.{IsCandidate}
+use Rattle.assembly.specs.Cells.{cell_count, site_at}
 use Rattle.grow_core.specs.Steps.{place}
+use Rattle.number_set.specs.Numbers.{Numbers, IsIn, count_below}
 use Rattle.frontier_seat.specs.declared.growing.Growing.{Growing}
 use Rattle.frontier_seat.specs.Growths.{IsGrowing, GrowsOn}
+use Rattle.frontier_seat.specs.Inner.Listings.{AreEmptySites}
 
 -- a tile more in the grid
 pub record Puts (p : Place) (old new : Growing) : Type 0 where
@@ -29,17 +31,18 @@ pub record ClaimsAt (sys : TileSystem) (site : Site) (old new : Growing) : Type 
   pub tiles : (m : Site) → tile_at new.grid.tiles m ≡ tile_at (old.grid.tiles ++ place site tile ∷ []) m
   pub count : length new.grid.tiles ≡ length old.grid.tiles + 1
 
--- no type attaches at a site of the box that isn't listed
-abbrev pub IsClosedBut : TileSystem → List Place → List Site → Type 0
-IsClosedBut sys tiles sites = (m : Site) (t : TypeId) → InBox sys.area m → IsCandidate sys tiles m t → Contains sites m
+-- no type attaches at a site of the box but those with these numbers
+abbrev pub IsClosedBut : TileSystem → List Place → (ℕ → Type 0) → Type 0
+IsClosedBut sys tiles Listed = (n : ℕ) (t : TypeId) → n < cell_count sys.area → IsCandidate sys tiles (site_at sys.area n) t → Listed n
 
 -- a type that attaches at the site; none exactly where none does
 abbrev pub IsOpenType : TileSystem → List Place → Site → Option TypeId → Type 0
 IsOpenType sys tiles m found = MatchOption found ((t : TypeId) → ¬ IsCandidate sys tiles m t) (IsCandidate sys tiles m)
 
 -- one look at a site that was listed: what may open is listed, and each new tile lists at most four sites
-pub record LooksAt (sys : TileSystem) (before after : Growing) (old new : List Site) : Type 0 where
+pub record LooksAt (sys : TileSystem) (before after : Growing) (old new : Numbers) : Type 0 where
   pub growing : IsGrowing sys after
   pub goes : GrowsOn before after
-  pub closed : IsClosedBut sys after.grid.tiles new
-  pub work : length new + 4 * length before.grid.tiles ≤ length old + 4 * length after.grid.tiles
+  pub closed : IsClosedBut sys after.grid.tiles (IsIn new)
+  pub listed : AreEmptySites sys.area after.grid.tiles new
+  pub work : (k : ℕ) → count_below new k + 4 * length before.grid.tiles ≤ count_below old k + 4 * length after.grid.tiles

@@ -1,52 +1,107 @@
--- The sites where a tile is ready to follow, and the sites that are left.
-use Rattle.std.specs.Prelude.{◌≡◌, ◌≢◌, ◌⊎◌, ◌↔◌, ◌≤◌, List, Option, Some, None, Contains}
+-- The sites where a tile is ready to follow, what the other tiles lack for that, and the sites that are left.
+use Rattle.std.specs.Prelude.{◌≡◌, ◌≢◌, ◌⊎◌, ◌↔◌, ◌<◌, ◌≤◌, ◌+◌, ◌-◌, ℕ, List, Option, Some, None, MatchOption, length, slice_index, if◌then◌else◌}
+use Rattle.std.specs.Option.{option_map_or}
 use Rattle.atam.specs.declared.site.Side.{Side}
+use Rattle.atam.specs.declared.site.Side.TheVariants.{North, East, South, West}
 use Rattle.atam.specs.declared.site.Site.{Site}
 use Rattle.atam.specs.declared.place.TypeId.{TypeId}
 use Rattle.atam.specs.declared.place.Place.{Place}
 use Rattle.atam.specs.declared.area.BoxArea.{BoxArea}
-use Rattle.atam.specs.Sites.{IsBefore, InBox, neighbor}
-use Rattle.atam.specs.Placements.{HasDistinctSites, tile_at}
+use Rattle.atam.specs.Sites.{IsBefore, InBox, IsBox, neighbor, same_site}
+use Rattle.atam.specs.Placements.{tile_at}
 use Rattle.atam.specs.TileSystem.{TileSystem}
-use Rattle.atam.specs.Assembly.{pull}
+use Rattle.atam.specs.Assembly.{bond, pull}
+use Rattle.assembly.specs.Cells.{cell_count, site_at}
+use Rattle.number_set.specs.Numbers.{Numbers, IsIn, Removes}
 
--- the places in the order in which they were listed, and the box that they lie in
-pub record Listed : Type 0 where
-  pub area : BoxArea
-  pub places : List Place
-
--- the listed places have distinct sites, and the tiles of a grid are theirs
-pub record IsListing (places tiles : List Place) : Type 0 where
-  pub distinct : HasDistinctSites places
-  pub same : (m : Site) → tile_at places m ≡ tile_at tiles m
-
--- a tile stands at the site that isn't listed, and whose type is held by the listed places
+-- a tile stands at the site that is no seed and isn't listed, and whose type is held by the listed places
 pub record IsReadySite (sys : TileSystem) (tiles listed : List Place) (m : Site) : Type 0 where
   pub tile : TypeId
   pub placed : tile_at tiles m ≡ Some tile
+  pub no_seed : tile_at sys.seeds m ≡ None
   pub empty : tile_at listed m ≡ None
   pub held : sys.tau ≤ pull sys listed m tile
 
--- the sites of the places that are ready
-abbrev pub AreReadySites : TileSystem → List Place → List Place → List Site → Type 0
-AreReadySites sys tiles listed sites = (m : Site) → Contains sites m ↔ IsReadySite sys tiles listed m
+-- by the numbers of a box's sites: how much pull the tile at each lacks to be held, and which of them are ready
+pub record Waiting : Type 0 where
+  pub area : BoxArea
+  pub lacks : List ℕ
+  pub ready : Numbers
 
--- the same but for one site, which isn't among them
-pub record AreReadySitesBut (sys : TileSystem) (tiles listed : List Place) (sites : List Site) (but : Site) : Type 0 where
-  pub absent : ¬ Contains sites but
-  pub others : (m : Site) → m ≢ but → Contains sites m ↔ IsReadySite sys tiles listed m
+-- there is room for each site of the box
+pub record HasEachSite (area : BoxArea) (lacks : List ℕ) (ready : Numbers) : Type 0 where
+  pub box_limits : IsBox area
+  pub lacks_len : length lacks ≡ cell_count area
+  pub ready_bound : ready.bound ≡ cell_count area
 
--- a site was added if it is ready
-pub record AddsIfReady (sys : TileSystem) (tiles listed : List Place) (m : Site) (old new : List Site) : Type 0 where
-  pub kept : (n : Site) → Contains old n → Contains new n
-  pub sound : (n : Site) → Contains new n → Contains old n ⊎ IsReadySite sys tiles listed n
-  pub here : IsReadySite sys tiles listed m → Contains new m
+-- how much pull the tile at a site needs: none where there is a seed, and else the temperature
+abbrev pub due_at : List Place → ℕ → Site → ℕ
+due_at seeds tau m = option_map_or (λ _. 0) (tile_at seeds m) tau
 
--- the ready sites beside a site were added
-pub record AddsReadyBeside (sys : TileSystem) (tiles listed : List Place) (m : Site) (old new : List Site) : Type 0 where
-  pub kept : (n : Site) → Contains old n → Contains new n
-  pub sound : (n : Site) → Contains new n → Contains old n ⊎ IsReadySite sys tiles listed n
-  pub beside : (d : Side) → IsReadySite sys tiles listed (neighbor m d) → Contains new (neighbor m d)
+-- each tile lacks what the pull of the listed places leaves of that, and a listed tile lacks nothing
+pub record AreLacks (sys : TileSystem) (tiles listed : List Place) (waiting : Waiting) : Type 0 where
+  pub area : waiting.area ≡ sys.area
+  pub each : (i : ℕ) (t : TypeId) → i < cell_count sys.area → tile_at tiles (site_at sys.area i) ≡ Some t →
+      slice_index waiting.lacks i ≡ due_at sys.seeds sys.tau (site_at sys.area i) - pull sys listed (site_at sys.area i) t
+  pub settled : (i : ℕ) (t : TypeId) → i < cell_count sys.area → tile_at listed (site_at sys.area i) ≡ Some t → slice_index waiting.lacks i ≡ 0
+
+-- the numbers of the sites that are ready
+abbrev pub AreReadySites : TileSystem → List Place → List Place → Numbers → Type 0
+AreReadySites sys tiles listed ready = (i : ℕ) → i < cell_count sys.area → IsIn ready i ↔ IsReadySite sys tiles listed (site_at sys.area i)
+
+-- the same but for one site
+abbrev pub AreReadySitesBut : TileSystem → List Place → List Place → Numbers → Site → Type 0
+AreReadySitesBut sys tiles listed ready but = (i : ℕ) → i < cell_count sys.area → IsIn ready i ↔ (IsReadySite sys tiles listed (site_at sys.area i) × (site_at sys.area i ≢ but))
+
+-- each site lacks less by what it is given, and those are added that lack nothing from then on
+pub record Lowers (area : BoxArea) (given : Site → ℕ) (old new : Waiting) : Type 0 where
+  pub old_area : old.area ≡ area
+  pub new_area : new.area ≡ area
+  pub lacks : (i : ℕ) → i < cell_count area → slice_index new.lacks i ≡ slice_index old.lacks i - given (site_at area i)
+  pub ready : (i : ℕ) → i < cell_count area → IsIn new.ready i ↔ (IsIn old.ready i ⊎ ((0 < slice_index old.lacks i) × (slice_index new.lacks i ≡ 0)))
+
+-- the site on one side of a place is given the strength that the tiles at both have
+abbrev pub given_to : TileSystem → List Place → Place → Side → Site → ℕ
+given_to sys tiles p d m = if same_site (neighbor p.site d) m then bond sys tiles p.site p.tile d else 0
+
+-- and so each site beside it
+abbrev pub given_beside : TileSystem → List Place → Place → Site → ℕ
+given_beside sys tiles p m = given_to sys tiles p North m + given_to sys tiles p East m + given_to sys tiles p South m + given_to sys tiles p West m
+
+-- the number of a site; none exactly where it isn't in the box
+pub record IsSiteNumber (area : BoxArea) (m : Site) (number : ℕ) : Type 0 where
+  pub within : number < cell_count area
+  pub site : site_at area number ≡ m
+
+abbrev pub IsNumberOf : BoxArea → Site → Option ℕ → Type 0
+IsNumberOf area m found = MatchOption found (¬ InBox area m) (IsSiteNumber area m)
+
+-- the least ready site is taken out
+pub record TakesLeast (old new : Waiting) (m : Site) : Type 0 where
+  pub number : ℕ
+  pub within : number < cell_count old.area
+  pub site : site_at old.area number ≡ m
+  pub member : IsIn old.ready number
+  pub least : (i : ℕ) → IsIn old.ready i → number ≤ i
+  pub removed : Removes old.ready new.ready number
+
+-- the tile at the site with this number lacks something
+pub record IsLackingAt (tiles : List Place) (waiting : Waiting) (i : ℕ) : Type 0 where
+  pub tile : TypeId
+  pub placed : tile_at tiles (site_at waiting.area i) ≡ Some tile
+  pub lacks : 0 < slice_index waiting.lacks i
+
+-- none of the sites with lesser numbers does
+abbrev pub NoneLacksBelow : List Place → Waiting → ℕ → Type 0
+NoneLacksBelow tiles waiting n = (i : ℕ) → i < n → ¬ IsLackingAt tiles waiting i
+
+-- the least site whose tile lacks something
+pub record IsLeastLacking (tiles : List Place) (waiting : Waiting) (m : Site) : Type 0 where
+  pub number : ℕ
+  pub within : number < cell_count waiting.area
+  pub site : site_at waiting.area number ≡ m
+  pub here : IsLackingAt tiles waiting number
+  pub least : NoneLacksBelow tiles waiting number
 
 -- a tile stands at the site that isn't listed
 pub record IsLeftAt (tiles s : List Place) (m : Site) : Type 0 where

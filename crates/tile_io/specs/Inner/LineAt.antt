@@ -1,5 +1,5 @@
 -- The line at a mark.
-use Rattle.std.specs.Prelude.{◌≡◌, ℕ, ◌+◌, ◌<◌, ◌≤◌, true, List, ◌∷◌, length, Some}
+use Rattle.std.specs.Prelude.{◌≡◌, ℕ, ◌+◌, ◌<◌, ◌≤◌, ◌==◌, Bool, true, List, [], ◌∷◌, length, Some}
 use Rattle.tile_io.specs.declared.fault.TextFault.{TextFault}
 use Rattle.tile_io.specs.declared.mark.Mark.{Mark}
 use Rattle.tile_io.specs.declared.reading.Line.{Line}
@@ -25,3 +25,8 @@ pub record IsBadAt (text : List ℕ) (at : Mark) (fault : TextFault) : Type 0 wh
   pub first : lines_from text at ≡ line ∷ others
   pub cause : plain_cause line ≡ Some fault.cause
   pub number : fault.line ≡ at.line
+
+-- what is left from the first word on is nothing, or begins with `#`
+abbrev pub is_remark : List ℕ → Bool
+is_remark [] = true
+is_remark (byte ∷ bytes) = byte == 35

@@ -1,22 +1,41 @@
-use Rattle.std.proofs.Common.{List, [], sym, subst}
-use Rattle.atam.specs.declared.site.Site.{Site}
+use Rattle.std.proofs.Common.{◌≡◌, ◌<◌, ℕ, List, length, Some, None, slice_get, take, get_or, sym, subst}
+use Rattle.std.proofs.lemmas.Option.{slice_get-get_or}
 use Rattle.atam.specs.declared.place.Place.{Place}
-use Rattle.replay_order.specs.Inner.Replays.{AreReadySites}
-use Rattle.replay_order.proofs.ReadySites.{none_ready, ready_but}
+use Rattle.atam.specs.Placements.{HasDistinctSites, tile_at}
+use Rattle.atam.proofs.Lists.{All-slice_get}
+use Rattle.atam.proofs.Placements.{distinct-empty}
+use Rattle.replay_order.proofs.ReadySites.{seed_held, seed_but}
 use Rattle.replay_order.proofs.canonical.list_seeds.Goals as goal
 
-pub loop-seed-init : goal.loop-seed-init
-loop-seed-init c =
-    let sys = c.args.sys.now in
-    let tiles = c.args.grid.now.tiles in
-    let Ready : List Place → List Site → Type 0 = λ l sites. AreReadySites sys tiles l sites in
-    record {
-      area = c.requires.listing_area;
-      listed = c.requires.unlisted;
-      ready = subst (λ l. Ready l c.args.ready.now) (sym c.requires.unlisted) (subst (Ready []) (sym c.requires.no_site) (none_ready sys tiles c.requires.valid.some_tau));
-    }
+-- the seed with this index, by the list that is gone through
+seed_of : (items seeds : List Place) (k : ℕ) (e : Place) → items ≡ seeds → k < length items → slice_get seeds k ≡ Some (get_or items k e)
+seed_of items seeds k e same within =
+    let At : List Place → Type 0 = λ l. slice_get l k ≡ Some (get_or items k e) in
+    subst At same (slice_get-get_or items k e within)
+
+-- its site is empty before it
+unlisted_seed : (order seeds : List Place) (k : ℕ) (p : Place) → order ≡ take k seeds → HasDistinctSites seeds → slice_get seeds k ≡ Some p → tile_at order p.site ≡ None
+unlisted_seed order seeds k p listed distinct there =
+    let Empty : List Place → Type 0 = λ l. tile_at l p.site ≡ None in
+    subst Empty (sym listed) (distinct-empty seeds k p distinct there)
+
+pub list_place-requires-clause-placed : goal.list_place-requires-clause-placed
+list_place-requires-clause-placed c =
+    All-slice_get (λ p. tile_at c.args.grid.now.tiles p.site ≡ Some p.tile) c.args.sys.now.seeds c.loop-seed.seed-index _ c.requires.seeded
+    (seed_of c.seeds-seed-items.result.now c.args.sys.now.seeds c.loop-seed.seed-index _ c.seeds-seed-items.ensures.seeds c.loop-seed-test.true)
+
+pub list_place-requires-clause-empty : goal.list_place-requires-clause-empty
+list_place-requires-clause-empty c =
+    unlisted_seed c.loop-seed.order c.args.sys.now.seeds c.loop-seed.seed-index _ c.loop-seed.invariant.listed c.requires.valid.distinct_seeds
+    (seed_of c.seeds-seed-items.result.now c.args.sys.now.seeds c.loop-seed.seed-index _ c.seeds-seed-items.ensures.seeds c.loop-seed-test.true)
+
+pub list_place-requires-clause-held : goal.list_place-requires-clause-held
+list_place-requires-clause-held c =
+    seed_held c.args.sys.now c.requires.valid.distinct_seeds c.loop-seed.seed-index _
+    (seed_of c.seeds-seed-items.result.now c.args.sys.now.seeds c.loop-seed.seed-index _ c.seeds-seed-items.ensures.seeds c.loop-seed-test.true) c.loop-seed.order
 
 pub list_place-requires-clause-ready : goal.list_place-requires-clause-ready
 list_place-requires-clause-ready c =
-    ready_but c.args.sys.now c.args.grid.now.tiles c.loop-seed.listing.places _ c.loop-seed.ready c.remove.new.self
-    c.loop-seed.invariant.ready c.remove.ensures.removed
+    seed_but c.args.sys.now c.requires.valid.distinct_seeds c.loop-seed.seed-index _
+    (seed_of c.seeds-seed-items.result.now c.args.sys.now.seeds c.loop-seed.seed-index _ c.seeds-seed-items.ensures.seeds c.loop-seed-test.true)
+    c.args.grid.now.tiles c.loop-seed.order c.loop-seed.waiting.ready c.loop-seed.invariant.ready

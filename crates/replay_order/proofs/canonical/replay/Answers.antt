@@ -1,58 +1,63 @@
-use Rattle.std.proofs.Common.{rules, ◌≤◌, ◌-◌, ◌∙◌, sym, subst, arith, length, Some, None}
-use Rattle.atam.specs.declared.area.BoxArea.{BoxArea}
+use Rattle.std.proofs.Common.{rules, ◌≤◌, ◌-◌, ◌∙◌, arith, length, Option, subst}
+use Rattle.atam.specs.declared.site.Site.{Site}
+use Rattle.atam.specs.Sites.{IsBox}
 use Rattle.replay_order.specs.Inner.Replays.{IsLeastLeft}
-use Rattle.replay_order.specs.ReplayAnswers.{LacksSeed, IsWholeOrder}
+use Rattle.replay_order.specs.ReplayAnswers.{LacksSeed}
 use Rattle.replay_order.proofs.Begun.{lacks_no_seed}
-use Rattle.replay_order.proofs.Ended.{listed_count, whole_order, stuck_at}
+use Rattle.replay_order.proofs.Rests.{least_left-found}
+use Rattle.replay_order.proofs.Ended.{listed_count, none_left, some_left, whole_order, stuck_at}
 use Rattle.replay_order.proofs.canonical.replay.Goals as goal
 
-pub overflow_cast-result : goal.overflow_cast-result
-overflow_cast-result c =
-    let sys = c.args.sys.now in
-    let tiles = c.args.grid.now.tiles in
-    let s = c.in_ok-listing.listing.places in
-    let few : length s ≤ length tiles =
-    listed_count sys tiles s c.requires.fits c.area-area.ensures.distinct c.holds_seeds.ensures.distinct c.in_ok-listing.ensures in
+pub overflow_cast-left : goal.overflow_cast-left
+overflow_cast-left c =
+    let few = listed_count c.args.sys.now c.args.grid.now.tiles c.list_all.new.order c.requires.fits c.area-area.ensures.distinct c.holds_seeds.ensures.distinct c.in_ok-waiting.ensures.canonical in
     omega (arith, few, c.len.ensures, c.count.ensures, c.count.type_inv)
 
-pub overflow_sub-result : goal.overflow_sub-result
-overflow_sub-result c =
-    let sys = c.args.sys.now in
-    let tiles = c.args.grid.now.tiles in
-    let s = c.in_ok-listing.listing.places in
-    let few : length s ≤ length tiles =
-    listed_count sys tiles s c.requires.fits c.area-area.ensures.distinct c.holds_seeds.ensures.distinct c.in_ok-listing.ensures in
+pub overflow_sub-left : goal.overflow_sub-left
+overflow_sub-left c =
+    let few = listed_count c.args.sys.now c.args.grid.now.tiles c.list_all.new.order c.requires.fits c.area-area.ensures.distinct c.holds_seeds.ensures.distinct c.in_ok-waiting.ensures.canonical in
     omega (arith, few, c.len.ensures, c.count.ensures)
 
-pub returns-in-None-clause-answer : goal.returns-in-None-clause-answer
-returns-in-None-clause-answer c =
+pub returns-then-left-eq0-clause-answer : goal.returns-then-left-eq0-clause-answer
+returns-then-left-eq0-clause-answer c =
     let sys = c.args.sys.now in
     let tiles = c.args.grid.now.tiles in
-    let s = c.in_ok-listing.listing.places in
-    let Least : BoxArea → Type 0 = λ area. IsLeastLeft area tiles s None in
-    let none : Least sys.area = subst Least (c.area-area.ensures.area ∙ c.requires.area) c.in-None.ensures in
-    subst (IsWholeOrder sys tiles) (sym c.into_order.ensures) (
-    whole_order sys tiles s c.requires.fits c.area-area.ensures.distinct c.holds_seeds.ensures.distinct c.in_ok-listing.ensures none
-    )
+    let s = c.list_all.new.order in
+    let all : length tiles ≤ length s = omega (arith, c.len.ensures, c.count.ensures, c.if-left-eq0.true) in
+    whole_order sys tiles s c.requires.fits c.area-area.ensures.distinct c.holds_seeds.ensures.distinct c.in_ok-waiting.ensures.canonical
+    (none_left sys tiles s c.requires.fits c.area-area.ensures.distinct c.holds_seeds.ensures.distinct c.in_ok-waiting.ensures.canonical all)
 
-pub returns-in-Some-clause-answer : goal.returns-in-Some-clause-answer
-returns-in-Some-clause-answer c =
+pub returns-then-left-eq0-clause-producible : goal.returns-then-left-eq0-clause-producible
+returns-then-left-eq0-clause-producible c = λ _. (λ _. (returns-then-left-eq0-clause-answer c).producible, λ _. search rules)
+
+pub unwrap-least-requires : goal.unwrap-least-requires
+unwrap-least-requires c =
     let sys = c.args.sys.now in
     let tiles = c.args.grid.now.tiles in
-    let s = c.in_ok-listing.listing.places in
-    let Least : BoxArea → Type 0 = λ area. IsLeastLeft area tiles s (Some c.in-Some.least) in
-    let found : Least sys.area = subst Least (c.area-area.ensures.area ∙ c.requires.area) c.in-Some.ensures in
-    let few : length s ≤ length tiles =
-    listed_count sys tiles s c.requires.fits c.area-area.ensures.distinct c.holds_seeds.ensures.distinct c.in_ok-listing.ensures in
-    stuck_at sys tiles s c.requires.fits c.area-area.ensures.distinct c.holds_seeds.ensures.distinct c.in_ok-listing.ensures c.in-Some.least found
+    let s = c.list_all.new.order in
+    let canonical = c.in_ok-waiting.ensures.canonical in
+    let few = listed_count sys tiles s c.requires.fits c.area-area.ensures.distinct c.holds_seeds.ensures.distinct canonical in
+    let limits = subst IsBox (c.area-area.ensures.area ∙ c.requires.area) c.area-area.ensures.box_limits in
+    some_left sys tiles s c.requires.fits c.area-area.ensures.distinct c.holds_seeds.ensures.distinct canonical (c.count.result - c.len.result) c.least_left.result
+    (omega (arith, few, c.len.ensures, c.count.ensures)) c.if-left-eq0.false
+    (least_left-found sys tiles s c.in_ok-waiting.waiting canonical c.in_ok-waiting.ensures.lacks limits c.least_left.result c.least_left.ensures.least c.least_left.ensures.none)
+
+pub returns-clause-answer : goal.returns-clause-answer
+returns-clause-answer c =
+    let sys = c.args.sys.now in
+    let tiles = c.args.grid.now.tiles in
+    let s = c.list_all.new.order in
+    let canonical = c.in_ok-waiting.ensures.canonical in
+    let few = listed_count sys tiles s c.requires.fits c.area-area.ensures.distinct c.holds_seeds.ensures.distinct canonical in
+    let Left : Option Site → Type 0 = λ o. IsLeastLeft sys.area tiles s o in
+    let limits = subst IsBox (c.area-area.ensures.area ∙ c.requires.area) c.area-area.ensures.box_limits in
+    let found = least_left-found sys tiles s c.in_ok-waiting.waiting canonical c.in_ok-waiting.ensures.lacks limits c.least_left.result c.least_left.ensures.least c.least_left.ensures.none in
+    stuck_at sys tiles s c.requires.fits c.area-area.ensures.distinct c.holds_seeds.ensures.distinct canonical c.unwrap-least.result (subst Left c.unwrap-least.ensures found)
     (c.count.result - c.len.result) (omega (arith, few, c.len.ensures, c.count.ensures))
 
-pub returns-in-None-clause-producible : goal.returns-in-None-clause-producible
-returns-in-None-clause-producible c = λ _. (λ _. (returns-in-None-clause-answer c).producible, λ _. search rules)
-
-pub returns-in-Some-clause-producible : goal.returns-in-Some-clause-producible
-returns-in-Some-clause-producible c =
-    λ _. (λ ok. absurd (search rules), λ producible. absurd ((returns-in-Some-clause-answer c).unproducible producible))
+pub returns-clause-producible : goal.returns-clause-producible
+returns-clause-producible c =
+    λ _. (λ ok. absurd (search rules), λ producible. absurd ((returns-clause-answer c).unproducible producible))
 
 pub returns-then-not-holds_seeds-clause-producible : goal.returns-then-not-holds_seeds-clause-producible
 returns-then-not-holds_seeds-clause-producible c =

@@ -1,6 +1,6 @@
-use Rattle.replay_order.proofs.Rests.{NoneLeftBelow}
+use Rattle.replay_order.specs.Inner.Replays.{NoneLacksBelow}
 use Rattle.replay_order.proofs.rest.least_left.Given as goal
 
--- no tile is left at the sites so far
+-- at the sites so far no tile lacks anything
 abbrev pub invariant-loop-index : goal.invariant-loop-index
-invariant-loop-index l = NoneLeftBelow l.area l.grid.tiles l.listing.places l.index
+invariant-loop-index l = NoneLacksBelow l.grid.tiles l.waiting l.index

@@ -10,4 +10,5 @@ invariant_of-result c =
       growth_start c.args.sys.now c.args.seat c.args.seen system c.requires.area c.requires.seen c.area-area-2.ensures.distinct c.owned-owned.ensures.possible,
       subst (λ (z : TileSystem). IsPickerOf z c.in-Ok.picker) (sym system) c.in-Ok.ensures,
       c.in-Ok-make.ensures.area ∙ (c.area-area.ensures.area ∙ ap (λ (z : TileSystem). z.area) (sym system)),
+      c.in-Ok-make.ensures.none,
     )

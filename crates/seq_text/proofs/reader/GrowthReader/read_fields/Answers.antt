@@ -5,7 +5,6 @@ use Rattle.tile_text.specs.SystemText.{is_in_box}
 use Rattle.tile_text.proofs.Boxes.{holds_is}
 use Rattle.seq_text.specs.GrowthText.{names_of, place_in}
 use Rattle.std.specs.Prelude.{is_some}
-use Rattle.seq_text.proofs.Fields.{type_found}
 use Rattle.seq_text.proofs.reader.GrowthReader.read_fields.Goals as goal
 
 pub returns-in_err-place-clause-place : goal.returns-in_err-place-clause-place
@@ -15,7 +14,7 @@ returns-in_err-place-clause-place c =
     let sys = r.system.now in
     let words = c.args.words.now in
     let read : place_field (names_of sys) (field words 1) (field words 2) (field words 3) ≡ Err c.in_err-place.field-0.0 =
-    rw (sym c.word.ensures, sym c.word-2.ensures, sym c.word-name.ensures) (sym (c.in_err-place.ensures.place (names_of sys) (c.find_type-found.ensures.index ∙ type_found sys c.word-name.result.now))) in
+    rw (sym c.word.ensures, sym c.word-2.ensures, sym c.word-3.ensures) (sym c.in_err-place.ensures.place) in
     let bad : Err c.in_err-place.field-0.0 ≡ place_in (is_some r.scratch) sys r.places words = rw read refl in
     search (rules, bad)
 
@@ -26,7 +25,7 @@ returns-then-not-holds-clause-place c =
     let words = c.args.words.now in
     let site = c.in_ok-place.place.site in
     let read : place_field (names_of sys) (field words 1) (field words 2) (field words 3) ≡ Ok c.in_ok-place.place =
-    rw (sym c.word.ensures, sym c.word-2.ensures, sym c.word-name.ensures) (sym (c.in_ok-place.ensures.place (names_of sys) (c.find_type-found.ensures.index ∙ type_found sys c.word-name.result.now))) in
+    rw (sym c.word.ensures, sym c.word-2.ensures, sym c.word-3.ensures) (sym c.in_ok-place.ensures.place) in
     let outside : is_in_box sys.area site ≡ false = ap (λ a. is_in_box a site) (sym c.area.ensures.area) ∙ sym (holds_is c.area.result site c.holds.result c.holds.ensures) ∙ c.if-not-holds.true in
     rw (read, outside) refl
 
@@ -37,7 +36,7 @@ returns-then-not-is_free-clause-place c =
     let words = c.args.words.now in
     let site = c.in_ok-place.place.site in
     let read : place_field (names_of sys) (field words 1) (field words 2) (field words 3) ≡ Ok c.in_ok-place.place =
-    rw (sym c.word.ensures, sym c.word-2.ensures, sym c.word-name.ensures) (sym (c.in_ok-place.ensures.place (names_of sys) (c.find_type-found.ensures.index ∙ type_found sys c.word-name.result.now))) in
+    rw (sym c.word.ensures, sym c.word-2.ensures, sym c.word-3.ensures) (sym c.in_ok-place.ensures.place) in
     let inside : is_in_box sys.area site ≡ true = ap (λ a. is_in_box a site) (sym c.area.ensures.area) ∙ sym (holds_is c.area.result site c.holds.result c.holds.ensures) ∙ c.if-not-holds.false in
     rw (read, inside, sym c.is_free.ensures ∙ c.if-not-is_free.true) refl
 
@@ -48,6 +47,6 @@ returns-clause-place c =
     let words = c.args.words.now in
     let site = c.in_ok-place.place.site in
     let read : place_field (names_of sys) (field words 1) (field words 2) (field words 3) ≡ Ok c.in_ok-place.place =
-    rw (sym c.word.ensures, sym c.word-2.ensures, sym c.word-name.ensures) (sym (c.in_ok-place.ensures.place (names_of sys) (c.find_type-found.ensures.index ∙ type_found sys c.word-name.result.now))) in
+    rw (sym c.word.ensures, sym c.word-2.ensures, sym c.word-3.ensures) (sym c.in_ok-place.ensures.place) in
     let inside : is_in_box sys.area site ≡ true = ap (λ a. is_in_box a site) (sym c.area.ensures.area) ∙ sym (holds_is c.area.result site c.holds.result c.holds.ensures) ∙ c.if-not-holds.false in
     rw (read, inside, sym c.is_free.ensures ∙ c.if-not-is_free.false) refl

@@ -1,13 +1,11 @@
-use Rattle.std.proofs.Common.{◌≡◌, ℕ, ◌<◌, ◌≤◌, List, length, drop, get_or, Bor}
-use Rattle.tile_io.specs.Lines.{words_of}
-use Rattle.tile_io.specs.Checks.{field}
+use Rattle.std.proofs.Common.{◌≢◌, ℕ, ◌<◌, ◌≤◌, get_or}
+use Rattle.tile_io.specs.Inner.AtHand.{IsCutUpTo}
 use Rattle.tile_io.proofs.cut_line.LineWords.cut.Given as goal
 
--- the words before the index are at hand, and those from it on are left
-abbrev pub invariant-loop-index : goal.invariant-loop-index
-invariant-loop-index l = record {
-  left : words_of l.rest ≡ drop l.index (words_of l.line);
-  size : length l.first ≡ 8;
-  within : l.index ≤ length (words_of l.line);
-  each : (k : ℕ) (d : Bor (List ℕ)) → k < l.index → (get_or l.first k d).now ≡ field (words_of l.line) k;
+-- the words before the start are noted, and no space stands from it on
+abbrev pub invariant-loop-at : goal.invariant-loop-at
+invariant-loop-at l = record {
+  order : l.start ≤ l.at;
+  cut : IsCutUpTo l.line l.start l.places.count l.places.starts l.places.ends;
+  inside : (k : ℕ) → l.start ≤ k → k < l.at → get_or l.line k 0 ≢ 32;
 }

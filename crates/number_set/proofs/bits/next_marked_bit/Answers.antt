@@ -1,0 +1,6 @@
+use Rattle.number_set.proofs.Nexts.{IsNextBit-marked}
+use Rattle.number_set.proofs.bits.next_marked_bit.Goals as goal
+
+pub returns-clause-next : goal.returns-clause-next
+returns-clause-next c =
+    IsNextBit-marked c.args.marks.now c.args.words.now c.args.n c.in_ok-word.word c.lowest_in_word.result c.requires.marks c.in_default.ensures.none c.in_ok-word.ensures.next c.lowest_in_word.ensures

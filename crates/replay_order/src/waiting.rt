@@ -1,0 +1,162 @@
+// The sites of a box that wait for their turn, by their numbers.
+ghost use Rattle.std.specs.Prelude.{ℕ, ◌≡◌, ◌↔◌, ◌<◌, ◌≤◌, slice_index, All, IsTrue, IfSome, IfNone, IfOk};
+ghost use Rattle.atam.specs.declared.limits.TheConstants.{MOST_TAU};
+ghost use Rattle.atam.specs.Sites.{InBox, IsBox, neighbor};
+ghost use Rattle.atam.specs.Placements.{HasDistinctSites};
+ghost use Rattle.assembly.specs.Cells.{cell_count, site_at};
+ghost use Rattle.atam.specs.TileSystem.{IsType};
+ghost use Rattle.atam.specs.Assembly.{Fits};
+ghost use Rattle.number_set.specs.Numbers.{IsIn};
+ghost use Rattle.replay_order.specs.Inner.Replays.{due_at, given_to, given_beside, Lowers, IsNumberOf, TakesLeast};
+
+use assembly::{Grid, site_index, site_of_index};
+use attach_rule::bond;
+use number_set::NumberSet;
+use std::alloc::Global;
+use std::marker::Model;
+use tile_system::{BoxArea, NoMemory, Place, Side, Site, System};
+
+// How much pull the tile at each site lacks to be held, and the sites that are ready. A site is
+// ready once, when its tile lacks nothing any more. Each call but `make` takes no memory.
+#[derive(Drop)]
+pub(crate) struct WaitingSites {
+    area: BoxArea,
+    lacks: Vec<u16>,
+    ready: NumberSet,
+}
+
+impl Model for WaitingSites {
+    ghost use Rattle.replay_order.specs.Inner.Replays.{Waiting, HasEachSite};
+
+    ghost Value = { Waiting };
+
+    ghost view = { λ w. record { area = w.area; lacks = w.lacks.items; ready = w.ready } };
+
+    ghost invariant = { λ w. HasEachSite w.area w.lacks.items w.ready };
+}
+
+impl WaitingSites {
+    // No site is ready: a seed lacks nothing from the beginning, and each other tile all.
+    pub(crate) fn make(
+        alloc: Global,
+        area: BoxArea,
+        tau: u32,
+        seeds: &[Place],
+    ) -> Result<WaitingSites, NoMemory>
+        requires limits { IsBox area }
+        requires small { tau ≤ MOST_TAU }
+        requires inside { All (λ p. InBox area p.site) seeds.now }
+        requires distinct { HasDistinctSites seeds.now }
+        ensures area { IfOk result (λ w. w.area ≡ area) }
+        ensures lacks { IfOk result (λ w. (i : ℕ) → i < cell_count area →
+            slice_index w.lacks i ≡ due_at seeds.now tau (site_at area i)) }
+        ensures empty { IfOk result (λ w. (i : ℕ) → ¬ IsIn w.ready i) }
+    {
+        let sites = area.width() * area.height();
+        let ready = NumberSet::make(alloc, sites)?;
+        let mut lacks = Vec::from_elem(alloc, tau as u16, sites as usize)?;
+        for seed in seeds {
+            lacks[site_index(&area, seed.site)] = 0;
+        }
+        Ok(WaitingSites { area, lacks, ready })
+    }
+
+    // Gives each tile beside a listed one the strength that it has with this.
+    #[inline(always)]
+    pub(crate) fn lower_beside(&mut self, sys: &System, grid: &Grid, place: Place)
+        requires inside { InBox self.old.area place.site }
+        requires kind { IsType sys.now place.tile }
+        requires fits { Fits sys.now grid.now.tiles }
+        ensures { Lowers self.old.area (given_beside sys.now grid.now.tiles place)
+            self.old self.new }
+    {
+        let number = site_index(&self.area, place.site);
+        self.lower(sys, grid, place, number, Side::North);
+        self.lower(sys, grid, place, number, Side::East);
+        self.lower(sys, grid, place, number, Side::South);
+        self.lower(sys, grid, place, number, Side::West);
+    }
+
+    // The same for the tile on one side of it, by the number of its site.
+    #[inline(always)]
+    fn lower(&mut self, sys: &System, grid: &Grid, place: Place, number: usize, side: Side)
+        requires inside { InBox self.old.area place.site }
+        requires within { number < cell_count self.old.area }
+        requires number { site_at self.old.area number ≡ place.site }
+        requires kind { IsType sys.now place.tile }
+        requires fits { Fits sys.now grid.now.tiles }
+        ensures { Lowers self.old.area (given_to sys.now grid.now.tiles place side)
+            self.old self.new }
+    {
+        let Some(beside) = number_beside(&self.area, place.site, number, side) else {
+            return;
+        };
+        let lack = self.lacks[beside];
+        if lack == 0 {
+            return;
+        }
+        let strength = bond(sys, grid, place.site, place.tile, side);
+        let left = lack.saturating_sub(strength as u16);
+        self.lacks[beside] = left;
+        if left == 0 {
+            self.ready.insert(beside);
+        }
+    }
+
+    // Takes the least ready site out.
+    #[inline(always)]
+    pub(crate) fn take_least(&mut self) -> Option<Site>
+        ensures area { self.new.area ≡ self.old.area }
+        ensures lacks { self.new.lacks ≡ self.old.lacks }
+        ensures least { IfSome result (TakesLeast self.old self.new) }
+        ensures none { IfNone result ((i : ℕ) → ¬ IsIn self.old.ready i) }
+    {
+        let number = self.ready.pop_least()?;
+        Some(site_of_index(&self.area, number))
+    }
+
+    // Whether the tile at the site with this number lacks something.
+    pub(crate) fn is_lacking(&self, number: usize) -> bool
+        requires { number < cell_count self.now.area }
+        ensures { IsTrue result ↔ (0 < slice_index self.now.lacks number) }
+    {
+        self.lacks[number] > 0
+    }
+}
+
+// The number of the site on one side of another, if it is in the box.
+#[inline(always)]
+fn number_beside(area: &BoxArea, site: Site, number: usize, side: Side) -> Option<usize>
+    requires limits { IsBox area.now }
+    requires inside { InBox area.now site }
+    requires within { number < cell_count area.now }
+    requires number { site_at area.now number ≡ site }
+    ensures { IsNumberOf area.now (neighbor site side) result }
+{
+    match side {
+        Side::North => {
+            if site.y == area.y1 {
+                return None;
+            }
+            Some(number + area.width() as usize)
+        }
+        Side::East => {
+            if site.x == area.x1 {
+                return None;
+            }
+            Some(number + 1)
+        }
+        Side::South => {
+            if site.y == area.y0 {
+                return None;
+            }
+            Some(number - area.width() as usize)
+        }
+        Side::West => {
+            if site.x == area.x0 {
+                return None;
+            }
+            Some(number - 1)
+        }
+    }
+}
