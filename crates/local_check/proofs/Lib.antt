@@ -3,3 +3,4 @@ pub mod Existence
 pub mod Sites
 pub mod Sides
 pub mod Judging
+pub mod PlaceFindings

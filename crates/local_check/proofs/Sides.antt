@@ -25,7 +25,9 @@ use Rattle.type_index.specs.Indexes.{TypeLists, IsIndexOf}
 use Rattle.local_check.specs.declared.side_set.SideSet.{SideSet}
 use Rattle.local_check.specs.SideSets.{has, has_at, AreSidesOf}
 use Rattle.attach_rule.specs.declared.bonding.Strengths.{Strengths}
+use Rattle.attach_rule.specs.declared.facing.FacingGlues.{FacingGlues}
 use Rattle.attach_rule.specs.Bonds.{AreBonds}
+use Rattle.attach_rule.specs.Facing.{FacesSite}
 use Rattle.local_check.specs.Judgement.{FindsInexact, FindsRival}
 use Rattle.local_check.specs.Inner.Sides.{bound_by, bound_sides, difference, complement, AreEarlierAt, AreOutputsAt, AreEarlierSides, AreOutputSides}
 use Rattle.atam.proofs.Opening.{bond-beside}
@@ -54,6 +56,10 @@ has-complement a North = refl
 has-complement a East = refl
 has-complement a South = refl
 has-complement a West = refl
+
+-- glues that are those that face a site face it
+pub faces_still : (sys : TileSystem) (tiles : List Place) (m : Site) (glues same : FacingGlues) → same ≡ glues → FacesSite sys tiles m glues → FacesSite sys tiles m same
+faces_still sys tiles m glues same is faces = subst (λ (g : FacingGlues). FacesSite sys tiles m g) (sym is) faces
 
 -- a site isn't beside itself
 pub apart : (m : Site) (d : Side) → m ≢ neighbor m d

@@ -2,6 +2,7 @@
 #![tactic(auto)]
 
 mod earlier;
+mod findings;
 mod judgement;
 mod laws;
 mod outputs;

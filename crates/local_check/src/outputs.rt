@@ -8,12 +8,13 @@ ghost use Rattle.type_index.specs.Indexes.{IsIndexOf};
 ghost use Rattle.local_check.specs.Judgement.{FindsRival};
 ghost use Rattle.local_check.specs.Inner.Sides.{AreEarlierSides, AreOutputSides};
 
+use crate::findings::Findings;
 use crate::side_set::SideSet;
 use assembly::{Grid, Sequence};
-use attach_rule::{facing_bonds, glues_facing};
+use attach_rule::glues_facing;
 use std::alloc::Global;
 use tile_system::{NoMemory, Placed, Site, System, TypeId};
-use type_index::{FacingCache, TypeIndex};
+use type_index::TypeIndex;
 
 // The output sides of each place, and the first place with a rival, with its first rival.
 #[derive(Drop)]
@@ -45,18 +46,15 @@ pub(crate) fn look_around(
 {
     let mut sides = Vec::with_capacity(alloc, seq.len())?;
     let mut rival = None;
-    let mut cache = FacingCache::make(alloc, sys)?;
+    let mut findings = Findings::make(alloc, sys)?;
     let seed_count = sys.seeds().len();
     for index in 0..seq.len() {
         let place = seq.get(index);
         let glues = glues_facing(sys, grid, place.site);
-        let bonds = facing_bonds(sys, &glues, place.tile);
-        let outputs = SideSet::bound_by(&bonds).without(earlier[index]);
-        sides.push(outputs)?;
+        let finding = findings.at(sys, types, &glues, place.tile, earlier[index]);
+        sides.push(finding.outputs)?;
         if index >= seed_count && rival.is_none() {
-            let kept = outputs.complement().glues_on(&glues);
-            let other = cache.found(sys, types, &kept).other_than(place.tile);
-            rival = at_site(place.site, other);
+            rival = at_site(place.site, finding.rival);
         }
     }
     Ok(Outputs { sides, rival })

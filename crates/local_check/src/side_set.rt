@@ -7,7 +7,7 @@ use attach_rule::{FacingGlues, Strengths};
 use tile_system::Side;
 
 // The sides of a tile that something holds of.
-#[derive(Clone, Copy)]
+#[derive(Clone, Copy, PartialEq, Eq)]
 pub(crate) struct SideSet {
     pub(crate) north: bool,
     pub(crate) east: bool,

@@ -1,6 +1,6 @@
 use Rattle.std.proofs.Common.{◌≡◌, ◌≤◌, length}
-use Rattle.type_index.specs.Findings.{AreFindings}
 use Rattle.local_check.specs.Judgement.{FindsRival}
+use Rattle.local_check.specs.Inner.PlaceFindings.{ArePlaceFindings}
 use Rattle.local_check.specs.Inner.Sides.{AreOutputsAt}
 use Rattle.local_check.proofs.outputs.look_around.Given as goal
 
@@ -10,6 +10,6 @@ invariant-loop-index l = record {
   within : l.index ≤ length l.seq;
   count : length l.sides.items ≡ l.index;
   each : AreOutputsAt l.sys l.seq l.sides.items;
-  known : AreFindings l.sys l.cache;
+  known : ArePlaceFindings l.sys l.findings;
   rival : FindsRival l.sys l.seq l.index l.rival;
 }

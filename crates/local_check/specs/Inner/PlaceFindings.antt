@@ -1,0 +1,29 @@
+-- What is found at a place, by its type, the glues that face it and the sides that interact with earlier places.
+use Rattle.std.specs.Prelude.{◌≡◌, List, length, Option, Some, None}
+use Rattle.std.specs.List.{slice_index_or}
+use Rattle.atam.specs.declared.site.Site.{Site}
+use Rattle.atam.specs.declared.place.TypeId.{TypeId}
+use Rattle.atam.specs.declared.place.Place.{Place}
+use Rattle.atam.specs.TileSystem.{TileSystem}
+use Rattle.attach_rule.specs.Facing.{FacesSite}
+use Rattle.type_index.specs.declared.cache as cache
+use Rattle.type_index.specs.HeldTypes.{FirstHeldBut}
+use Rattle.type_index.specs.Findings.{AreFindings}
+use Rattle.local_check.specs.declared.findings.Finding.{Finding}
+use Rattle.local_check.specs.Inner.Sides.{bound_sides, difference, complement, glues_on}
+
+-- The other sides that interact wherever these glues face a site, and the first other type that the glues on the rest of the sides hold.
+pub record IsFinding (sys : TileSystem) (t : TypeId) (f : Finding) : Type 0 where
+  pub outputs : (tiles : List Place) (m : Site) → FacesSite sys tiles m f.glues → f.outputs ≡ difference (bound_sides sys tiles m t) f.earlier
+  pub rival : FirstHeldBut sys (glues_on (complement f.outputs) f.glues) t f.rival
+
+-- what was found last for each type, and what was found for glues
+pub record FindingTable : Type 0 where
+  pub last : List (Option Finding)
+  pub cache : List cache.Finding.Finding
+
+-- each was found for its type
+pub record ArePlaceFindings (sys : TileSystem) (table : FindingTable) : Type 0 where
+  pub count : length table.last ≡ length sys.types
+  pub each : (t : TypeId) (f : Finding) → slice_index_or table.last t.0 None ≡ Some f → IsFinding sys t f
+  pub cache : AreFindings sys table.cache
