@@ -4,18 +4,23 @@ use std::test::Fail;
 use tilebench::Status;
 use worked_systems::SINGLE;
 
-// Where one call of the source fails there is no answer, and where one of the sink fails a front of it.
+// Where one call of the source fails there is no answer, and where one of the sink fails a front of
+// it. The calls behind the last one are never made.
 #[test]
 fn tells_the_fault_of_each_call(rt: HostRuntime) -> Result<(), Fail> {
     let whole = b"place 0 0 S\nclosed terminal\nunique yes\n";
-    for call in 0..57u32 {
+    for call in 0..58u32 {
         let failures = Failures {
             source: call,
             ..Failures::NONE
         };
         let ran = run(&rt, rt.alloc(), &["grow"], SINGLE, 1, failures)?;
-        assert_eq!(rt; ran.status, Status::ReadFault, "{call}");
-        assert_eq!(rt; ran.out.len(), 0, "{call}");
+        let (status, length) = if call < 57 {
+            (Status::ReadFault, 0)
+        } else {
+            (Status::Done, whole.len())
+        };
+        assert_eq!(rt; (ran.status, ran.out.len()), (status, length), "{call}");
     }
     for (call, _) in whole.iter().enumerate() {
         let failures = Failures {
@@ -26,6 +31,12 @@ fn tells_the_fault_of_each_call(rt: HostRuntime) -> Result<(), Fail> {
         assert_eq!(rt; ran.status, Status::WriteFault, "{call}");
         assert_eq!(rt; Some(ran.out.as_slice()), whole.get(..call), "{call}");
     }
+    let failures = Failures {
+        out: 39,
+        ..Failures::NONE
+    };
+    let ran = run(&rt, rt.alloc(), &["grow"], SINGLE, 1, failures)?;
+    assert_eq!(rt; (ran.status, ran.out.len()), (Status::Done, 39));
     Ok(())
 }
 

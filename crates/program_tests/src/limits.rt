@@ -64,6 +64,27 @@ fn refuses_too_many_items(rt: HostRuntime) -> Result<(), Fail> {
     Ok(())
 }
 
+// A scout that gives away one number after another, until it has one left.
+#[test]
+fn splits_to_the_last_number(rt: HostRuntime) -> Result<(), Fail> {
+    let alloc = rt.alloc();
+    let mut text = String::from_str(alloc, CHAIN)?;
+    let mut wanted = String::new(alloc);
+    for given in 0..64u32 {
+        text.push_str("split 0\n")?;
+        let line = match 63 - given {
+            0 => String::from_str(alloc, "refused 4\n")?,
+            number => format!(in alloc; "split {number}\n")?,
+        };
+        wanted.push_str(line.as_str())?;
+    }
+    wanted.push_str("place 0 0 S\n")?;
+    let ran = answered(&rt, alloc, &["schedule"], text.as_str())?;
+    assert_eq!(rt; ran.status, Status::No);
+    assert_eq!(rt; ran.out.as_slice(), wanted.as_bytes());
+    Ok(())
+}
+
 // An input of one byte more than the limit.
 #[test]
 fn refuses_a_long_input(rt: HostRuntime) -> Result<(), Fail> {
