@@ -150,16 +150,27 @@ impl SystemBuilder {
 
     /// Adds a glue that may be added.
     ///
-    /// This and the next five methods take what was checked before, for whoever builds a system
-    /// from a text.
+    /// This and the next seven methods take what was checked before, for whoever builds a system
+    /// from a text or a table.
     pub fn push_glue(&mut self, name: &[u8], strength: u32) -> Result<GlueId, NoMemory>
         requires { IsNewGlue self.old name.now strength }
         ensures id { IfOk result (λ glue. glue.0 ≡ length self.old.glues) }
         ensures ok { OnOk result (self.new ≡ with_glue self.old name.now strength) }
         ensures unchanged { OnErr result (self.new ≡ self.old) }
     {
-        let id = GlueId(self.glue_count());
         let name = name.to_vec(self.alloc)?;
+        let glue = self.take_glue(name, strength)?;
+        Ok(glue)
+    }
+
+    /// The same with a name that is handed over, and not copied.
+    pub fn take_glue(&mut self, name: Vec<u8>, strength: u32) -> Result<GlueId, NoMemory>
+        requires { IsNewGlue self.old name.items strength }
+        ensures id { IfOk result (λ glue. glue.0 ≡ length self.old.glues) }
+        ensures ok { OnOk result (self.new ≡ with_glue self.old name.items strength) }
+        ensures unchanged { OnErr result (self.new ≡ self.old) }
+    {
+        let id = GlueId(self.glue_count());
         self.glues.push(self.alloc, GlueEntry::new(name, strength))?;
         Ok(id)
     }
@@ -171,8 +182,23 @@ impl SystemBuilder {
         ensures ok { OnOk result (self.new ≡ with_type self.old name.now sides) }
         ensures unchanged { OnErr result (self.new ≡ self.old) }
     {
-        let id = TypeId(self.type_count());
         let name = name.to_vec(self.alloc)?;
+        let tile = self.take_type(name, sides)?;
+        Ok(tile)
+    }
+
+    /// The same with a name that is handed over, and not copied.
+    pub fn take_type(
+        &mut self,
+        name: Vec<u8>,
+        sides: [Option<GlueId>; 4],
+    ) -> Result<TypeId, NoMemory>
+        requires { IsNewType self.old name.items sides }
+        ensures id { IfOk result (λ tile. tile.0 ≡ length self.old.types) }
+        ensures ok { OnOk result (self.new ≡ with_type self.old name.items sides) }
+        ensures unchanged { OnErr result (self.new ≡ self.old) }
+    {
+        let id = TypeId(self.type_count());
         self.types.push(self.alloc, TypeEntry::new(name, sides))?;
         Ok(id)
     }

@@ -10,6 +10,9 @@ use machine_text::Machine;
 use std::alloc::Global;
 use tile_system::NoMemory;
 
+// Room for most names.
+const NAME_ROOM: usize = 16;
+
 /// The name of a kind.
 pub fn kind_name(alloc: Global, machine: &Machine, kind: Kind) -> Result<Vec<u8>, NoMemory>
     requires valid { IsMachine machine.now }
@@ -47,7 +50,7 @@ pub fn label_name(alloc: Global, machine: &Machine, label: Label) -> Result<Vec<
 fn prefixed(alloc: Global, letter: u8, text: &[u8]) -> Result<Vec<u8>, NoMemory>
     ensures { IfOk result (λ name. name.items ≡ letter ∷ codes ":" ++ text.now) }
 {
-    let mut name = Vec::new(alloc);
+    let mut name = Vec::with_capacity(alloc, NAME_ROOM)?;
     name.push(letter)?;
     name.push(b':')?;
     name.extend_from_slice(text)?;
