@@ -38,6 +38,7 @@ impl Chunk {
     }
 
     /// Adds a piece. What is held goes out first where the piece finds no room behind it.
+    #[inline(always)]
     pub fn put<K: Sink>(&mut self, sink: &mut K, piece: &[u8]) -> Result<(), Failed>
         ensures { PassesOn K.written K.faults sink.old sink.new self.old self.new result piece.now }
     {
@@ -45,6 +46,13 @@ impl Chunk {
             self.hold(piece);
             return Ok(());
         }
+        self.put_past(sink, piece)
+    }
+
+    // Sends out what is held, and adds a piece then.
+    fn put_past<K: Sink>(&mut self, sink: &mut K, piece: &[u8]) -> Result<(), Failed>
+        ensures { PassesOn K.written K.faults sink.old sink.new self.old self.new result piece.now }
+    {
         self.flush(sink)?;
         if piece.len() <= CHUNK_ROOM {
             self.hold(piece);
@@ -139,11 +147,17 @@ impl Chunk {
         Ok(())
     }
 
-    // Adds a word behind a space.
+    // Adds a word behind a space, with one test for room where both find it.
+    #[inline(always)]
     fn put_word<K: Sink>(&mut self, sink: &mut K, word: &[u8]) -> Result<(), Failed>
         ensures { PassesOn K.written K.faults sink.old sink.new self.old self.new result
             (32 ∷ word.now) }
     {
+        if word.len() < CHUNK_ROOM - self.len {
+            self.hold(b" ");
+            self.hold(word);
+            return Ok(());
+        }
         self.put(sink, b" ")?;
         self.put(sink, word)
     }
