@@ -7,6 +7,7 @@ ghost use Rattle.atam.specs.declared.site.Side.TheVariants.{North, East, South, 
 ghost use Rattle.atam.specs.Sites.{InBox, IsBox, neighbor};
 ghost use Rattle.atam.specs.Placements.{tile_at, HasDistinctSites, SamePlacements};
 ghost use Rattle.assembly.specs.Cells.{cell_count, site_at};
+ghost use Rattle.tile_system.specs.Neighbors.{StandBeside};
 ghost use Rattle.assembly.specs.Inner.GridCells.{is_tile, type_in};
 ghost use Rattle.assembly.specs.Inner.Filling.{filled_cell};
 
@@ -121,13 +122,30 @@ impl Grid {
         self.count = 0;
     }
 
-    // The type of the tile at the site with this number.
+    /// The type of the tile at the site with this number, in one look.
     #[inline(always)]
-    fn tile(&self, index: usize) -> Option<TypeId>
+    pub fn tile(&self, index: usize) -> Option<TypeId>
         requires { index < cell_count self.now.area }
         ensures { result ≡ tile_at self.now.tiles (site_at self.now.area index) }
     {
         type_in(self.cells[index])
+    }
+
+    /// The tiles beside a site of the box whose number is known: what `beside` tells, without the
+    /// site's number being worked out.
+    #[inline(always)]
+    pub fn beside_at(&self, site: Site, index: usize) -> Beside
+        requires inside { InBox self.now.area site }
+        requires within { index < cell_count self.now.area }
+        requires number { site_at self.now.area index ≡ site }
+        ensures { StandBeside self.now.tiles site result }
+    {
+        Beside {
+            north: self.north_of(site, index),
+            east: self.east_of(site, index),
+            south: self.south_of(site, index),
+            west: self.west_of(site, index),
+        }
     }
 
     // The tile north of the site with this number. It and the next three look at one cell.
@@ -205,13 +223,7 @@ impl Placed for Grid {
                 west: self.at(site.step(Side::West)),
             };
         }
-        let index = site_index(&self.area, site);
-        Beside {
-            north: self.north_of(site, index),
-            east: self.east_of(site, index),
-            south: self.south_of(site, index),
-            west: self.west_of(site, index),
-        }
+        self.beside_at(site, site_index(&self.area, site))
     }
 }
 

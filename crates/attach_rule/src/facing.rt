@@ -6,10 +6,11 @@ ghost use Rattle.atam.specs.Sites.{IsNearSite};
 ghost use Rattle.atam.specs.TileSystem.{IsType, side_glue};
 ghost use Rattle.atam.specs.Assembly.{Fits};
 ghost use Rattle.atam.specs.Assembly as model;
+ghost use Rattle.tile_system.specs.Neighbors.{StandBeside};
 ghost use Rattle.attach_rule.specs.Facing.{AreNone, FacesSite, facing_pull};
 
 use crate::attach::interaction;
-use tile_system::{GlueId, Placed, Side, Site, System, TypeId};
+use tile_system::{Beside, GlueId, Placed, Side, Site, System, TypeId};
 
 /// The glues that a tile at a site would meet: in each direction the one on the near side of the
 /// tile there.
@@ -33,7 +34,6 @@ impl FacingGlues {
 
 /// The glues that face the site.
 #[inline(always)]
-#[tactic(auto, using(crate::proofs::Held::kind_beside))]
 pub fn glues_facing<P: Placed>(sys: &System, placed: &P, site: Site) -> FacingGlues
     requires near { IsNearSite site }
     requires fits { Fits sys.now (P.placements placed.now) }
@@ -42,6 +42,20 @@ pub fn glues_facing<P: Placed>(sys: &System, placed: &P, site: Site) -> FacingGl
         facing_pull sys.now result t ≡ model.pull sys.now (P.placements placed.now) site t }
 {
     let beside = placed.beside(site);
+    glues_beside(sys, placed, site, &beside)
+}
+
+/// The glues that face the site, where the tiles beside it were looked up before.
+#[inline(always)]
+#[tactic(auto, using(crate::proofs::Held::kind_beside))]
+pub fn glues_beside<P: Placed>(sys: &System, placed: &P, site: Site, beside: &Beside) -> FacingGlues
+    requires near { IsNearSite site }
+    requires fits { Fits sys.now (P.placements placed.now) }
+    requires beside { StandBeside (P.placements placed.now) site beside.now }
+    ensures faces { FacesSite sys.now (P.placements placed.now) site result }
+    ensures pulls { (t : TypeId) →
+        facing_pull sys.now result t ≡ model.pull sys.now (P.placements placed.now) site t }
+{
     FacingGlues {
         north: glue_of(sys, beside.north, Side::South),
         east: glue_of(sys, beside.east, Side::West),

@@ -14,7 +14,7 @@ mod type_list;
 pub use attach::{bond, can_attach, first_type, pull};
 pub use bonding::{Strengths, bonds, facing_bonds};
 pub use candidate::candidates;
-pub use facing::{FacingGlues, facing_pull, glues_facing};
+pub use facing::{FacingGlues, facing_pull, glues_beside, glues_facing};
 pub use finder::{EachType, TypeFinder};
 pub use inside::{closed_in_box, least_open_inside, least_open_inside_by};
 pub use outside::{least_open_outside, least_open_outside_by};
