@@ -1,2 +1,3 @@
 pub mod Looked
 pub mod Listing
+pub mod Ordering

@@ -1,6 +1,6 @@
 -- Sites that are listed by their numbers.
-use Rattle.std.proofs.Common.{Bool, true, true≢false, not, is_some, ◌≡◌, ◌<◌, ◌≤◌, ◌+◌, ◌-◌, ◌*◌, ℕ, ◌-ℤ◌, ◌<ℤ◌, nat_abs, List, Option, Some, None, refl, sym, ◌∙◌, ap, subst, inl, inr, arith}
-use Rattle.std.proofs.lemmas.Bool.{cases_lt}
+use Rattle.std.proofs.Common.{◌⊎◌, Bool, true, true≢false, not, is_some, ◌≡◌, ◌<◌, ◌≤◌, ◌+◌, ◌-◌, ◌*◌, ℕ, ◌-ℤ◌, ◌<ℤ◌, nat_abs, List, Option, Some, None, refl, sym, ◌∙◌, ap, subst, inl, inr, arith}
+use Rattle.std.proofs.lemmas.Bool.{cases_eq, cases_lt}
 use Rattle.std.proofs.lemmas.Int.{ints}
 use Rattle.std.proofs.lemmas.Option.{none-some}
 use Rattle.std.proofs.Math.Nat.{le_trans}
@@ -22,7 +22,7 @@ use Rattle.tile_system.specs.declared.placed.Beside.{Beside}
 use Rattle.tile_system.specs.Neighbors.{StandBeside}
 use Rattle.assembly.specs.Cells.{cell_count, site_at}
 use Rattle.assembly.proofs.Cells.{at_cell, index_of, site_at-injective, site_at-inside}
-use Rattle.number_set.specs.Numbers.{Numbers, IsIn, Adds}
+use Rattle.number_set.specs.Numbers.{Numbers, IsIn, Adds, Removes}
 use Rattle.number_set.proofs.Counting.{count_below-adds}
 use Rattle.frontier_seat.specs.declared.work_list.Spot.{Spot}
 use Rattle.frontier_seat.specs.Inner.Listings.{AreEmptySites, ListsAround, ListsFrontier, ListsFrontierTo, ListsSide, IsSpot}
@@ -229,3 +229,10 @@ pub closed_none : (sys : TileSystem) (tiles : List Place) (numbers : Numbers) �
 closed_none sys tiles numbers none closed m t inside grows =
     let at = index_of sys.area m inside in
     none at.0 (closed at.0 t at.1 (subst (λ (s : Site). IsCandidate sys tiles s t) (sym at.2) grows))
+
+-- a site that was taken out is the only one that may be open and isn't listed
+pub closed_taken : (sys : TileSystem) (tiles : List Place) (old new : Numbers) (k : ℕ) → Removes old new k → IsClosedBut sys tiles (IsIn old) → IsClosedBut sys tiles (λ n. IsIn new n ⊎ (n ≡ k))
+closed_taken sys tiles old new k removes closed n t within grows = elim (cases_eq n k) [
+  | inl same ↦ inr same
+  | inr other ↦ inl ((removes n).1 (closed n t within grows, other))
+]

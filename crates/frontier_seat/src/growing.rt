@@ -59,7 +59,10 @@ impl Growing {
                 self.won += 1;
                 self.put(Place { site, tile })
             }
-            Claimed::Held(there) => self.put(Place { site, tile: there }),
+            Claimed::Held(there) => {
+                let _owned = self.seat.owned();
+                self.put(Place { site, tile: there })
+            }
         }
     }
 }

@@ -3,11 +3,14 @@
 #![tactic(auto)]
 
 mod chooser;
+mod claim_log;
 mod growing;
+mod in_order;
 mod picking;
 mod scout;
 mod work_list;
 
 pub use chooser::{Chooser, First, RngChooser, Wanderer};
+pub use claim_log::ClaimLog;
 pub use growing::Growing;
 pub use scout::Scout;

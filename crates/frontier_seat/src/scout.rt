@@ -1,5 +1,5 @@
 // A scout that claims until nothing attaches to what it has seen.
-ghost use Rattle.std.specs.Prelude.{◌≡◌, ◌⊎◌, ◌<◌, ◌≤◌, ◌+◌, ℕ, None, length, IfOk, IfErr};
+ghost use Rattle.std.specs.Prelude.{◌≡◌, ◌⊎◌, ◌<◌, ◌≤◌, ◌+◌, ◌-◌, ◌^◌, [], ℕ, None, length, MatchBool, IfOk, IfErr};
 ghost use Rattle.atam.specs.TileSystem.{IsValid};
 ghost use Rattle.atam.specs.Placements.{SamePlacements, tile_at};
 ghost use Rattle.atam.specs.Growth.{IsClosedInBox};
@@ -9,12 +9,14 @@ ghost use Rattle.site_table.specs.Laws.{IsFinal};
 ghost use Rattle.frontier_seat.specs.Growths.{IsGrowing, GrowsOn};
 ghost use Rattle.number_set.specs.Numbers.{IsIn};
 ghost use Rattle.frontier_seat.specs.Inner.Listings.{AreEmptySites, IsSpot};
-ghost use Rattle.frontier_seat.specs.Inner.Looks.{IsClosedBut, LooksAt};
+ghost use Rattle.frontier_seat.specs.Inner.Looks.{ClaimsAt, IsClosedBut, LooksAt};
+ghost use Rattle.frontier_seat.specs.Orders.{GrewInOrder};
 ghost use Rattle.frontier_seat.specs.Inner.Pickers.{IsPickerOf};
 
+use crate::in_order::look_in_order;
 use crate::picking::Picker;
 use crate::work_list::{Spot, WorkList};
-use crate::{Chooser, Growing};
+use crate::{Chooser, ClaimLog, Growing};
 use assembly::Grid;
 use site_table::{SiteSeat, SiteTable};
 use std::alloc::Global;
@@ -50,9 +52,10 @@ impl Model for Scout {
         × ((n : ℕ) → ¬ IsIn s.work.numbers n) };
 }
 
-// Looks at one empty site that is listed no longer, and claims it for a type that attaches.
+// Looks at one empty site that is listed no longer, and claims it for a type that attaches. It
+// tells whether there is one.
 #[inline(always)]
-fn look<C: Chooser, L: Ledger>(
+pub(crate) fn look<C: Chooser, L: Ledger>(
     sys: &System,
     table: &SiteTable,
     growing: &mut Growing,
@@ -61,7 +64,7 @@ fn look<C: Chooser, L: Ledger>(
     spot: Spot,
     work: &mut WorkList,
     steps: &mut Steps<L>,
-)
+) -> bool
     requires seat { IsSeatOf table.now growing.old.seat }
     requires system { table.now.sys ≡ sys.now }
     requires growing { IsGrowing sys.now growing.old }
@@ -74,16 +77,20 @@ fn look<C: Chooser, L: Ledger>(
     requires closed { IsClosedBut sys.now growing.old.grid.tiles
         (λ n. IsIn work.old.numbers n ⊎ (n ≡ spot.number)) }
     ensures looks { LooksAt sys.now growing.old growing.new work.old.numbers work.new.numbers }
+    ensures claims { MatchBool result (ClaimsAt sys.now spot.site growing.old growing.new)
+        (growing.new ≡ growing.old) }
     ensures picker { IsPickerOf sys.now picker.new }
     ensures area { work.new.area ≡ work.old.area }
     ensures cost { steps.new + length growing.old.grid.tiles
         ≡ steps.old + length growing.new.grid.tiles }
 {
     let _area = sys.area();
-    if let Some(tile) = picker.pick(sys, &growing.grid, spot.site, chooser) {
-        growing.claim(sys, table, spot.site, tile, steps);
-        work.list_around(&growing.grid, spot);
-    }
+    let Some(tile) = picker.pick(sys, &growing.grid, spot.site, chooser) else {
+        return false;
+    };
+    growing.claim(sys, table, spot.site, tile, steps);
+    work.list_around(&growing.grid, spot);
+    true
 }
 
 // Looks at the empty sites beside what was seen, and at those beside each tile that comes.
@@ -203,6 +210,43 @@ impl Scout {
         );
         let _area = sys.area();
         let _owned = self.growing.seat.owned();
+    }
+
+    /// The same for who owns all numbers and has seen the seeds alone, always at the least site at
+    /// which a type attaches, and each claim is logged. The order of the claims after the seeds is
+    /// then the canonical one (`law_least_first`).
+    pub fn sweep_in_order<C: Chooser, L: Ledger>(
+        &mut self,
+        sys: &System,
+        table: &SiteTable,
+        chooser: &mut C,
+        steps: &mut Steps<L>,
+        log: &mut ClaimLog,
+    )
+        requires seat { IsSeatOf table.now self.old.seat }
+        requires system { table.now.sys ≡ sys.now }
+        requires sole { self.old.seat.scout.owned ≡ 2 ^ 64 - 1 }
+        requires start { SamePlacements sys.now.seeds self.old.grid.tiles }
+        requires empty { log.old.numbers ≡ [] }
+        requires room { cell_count sys.now.area ≤ log.old.room }
+        ensures goes { GrowsOn self.old self.new }
+        ensures closed { IsClosedInBox sys.now self.new.grid.tiles }
+        ensures seen { SamePlacements self.new.seat.scout.seen self.new.grid.tiles }
+        ensures order { GrewInOrder sys.now self.new.grid.tiles log.new.numbers }
+        ensures cost { steps.new + length self.old.grid.tiles
+            ≡ steps.old + length self.new.grid.tiles }
+    {
+        look_in_order(
+            sys,
+            table,
+            &mut self.growing,
+            chooser,
+            &mut self.picker,
+            &mut self.work,
+            steps,
+            log,
+        );
+        let _area = sys.area();
     }
 
     /// The seat, and what it has seen.

@@ -85,6 +85,22 @@ impl WorkList {
         Some(Spot { site, number })
     }
 
+    // Takes the least site that is listed.
+    #[inline(always)]
+    pub(crate) fn take_least(&mut self) -> Option<Spot>
+        ensures area { self.new.area ≡ self.old.area }
+        ensures takes { IfSome result
+            (TakesSpot self.old.area self.old.numbers self.new.numbers) }
+        ensures least { IfSome result (λ spot. IsLeastOf self.old.numbers spot.number) }
+        ensures none { IfNone result ((n : ℕ) → ¬ IsIn self.old.numbers n) }
+        ensures same { IfNone result (self.new ≡ self.old) }
+    {
+        let number = self.numbers.least()?;
+        self.numbers.remove(number);
+        let site = site_of_index(&self.area, number);
+        Some(Spot { site, number })
+    }
+
     // Lists the site on one side, if it is in the box and no tile is there.
     #[inline(always)]
     fn list_side(&mut self, spot: Spot, side: Side, there: Option<TypeId>)

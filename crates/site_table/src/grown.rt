@@ -53,6 +53,7 @@ impl Grown {
 }
 
 // Adds the place of one word, if it is of a tile.
+#[inline(always)]
 fn take_word(area: &BoxArea, index: usize, word: u64, into: &mut Grid, won: &mut [u32; 64])
     requires limits { IsBox area.now }
     requires area { into.old.area ≡ area.now }

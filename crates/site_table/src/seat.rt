@@ -34,6 +34,7 @@ impl Model for SiteSeat {
 
 impl SiteSeat {
     /// The least number owned.
+    #[inline(always)]
     pub fn number(&self) -> u32
         ensures value { result ≡ least self.now.scout.owned }
         ensures below { result < 64 }

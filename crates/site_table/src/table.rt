@@ -77,6 +77,7 @@ impl SiteTable {
     /// Claims a site for a type, in one compare-exchange, which is not tried again. It is won
     /// exactly where the word is 0 at this step (`ClaimStep`), which is the core's event of a claim
     /// (`law_steps`).
+    #[inline(always)]
     pub fn claim<L: Ledger>(
         &self,
         seat: &mut SiteSeat,
@@ -191,6 +192,7 @@ impl SiteTable {
 }
 
 // The word of a tile that this number placed.
+#[inline(always)]
 fn code_of(tile: TypeId, number: u32) -> u64
     requires { number < 65536 }
     ensures { result ≡ code tile number }
@@ -199,6 +201,7 @@ fn code_of(tile: TypeId, number: u32) -> u64
 }
 
 // The type of a tile by its word.
+#[inline(always)]
 pub(crate) fn type_of(word: u64) -> TypeId
     requires { 0 < word % 4294967296 }
     ensures { result ≡ type_in word }

@@ -4,8 +4,8 @@ use Rattle.atam.specs.declared.area.BoxArea.{BoxArea}
 use Rattle.frontier_seat.specs.Inner.Listings.{ListsAround}
 use Rattle.frontier_seat.proofs.scout.look.Goals as goal
 
-pub returns-in-Some-clause-looks : goal.returns-in-Some-clause-looks
-returns-in-Some-clause-looks g c =
+pub returns-clause-looks : goal.returns-clause-looks
+returns-clause-looks g c =
     let around = subst (λ (a : BoxArea). ListsAround a c.claim.new.self.grid.tiles c.args.spot.site c.args.work.now.numbers c.list_around.new.self.numbers) c.requires.area c.list_around.ensures.lists in
     looked_at_some c.args.sys.now c.args.growing.now c.claim.new.self c.args.spot c.args.work.now.numbers c.list_around.new.self.numbers
     c.requires.spot c.requires.closed c.requires.gone c.requires.listed c.requires.empty c.claim.ensures.claim around
