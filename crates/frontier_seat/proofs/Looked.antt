@@ -1,12 +1,17 @@
 -- One look at a site, and the lists of sites.
-use Rattle.std.proofs.Common.{◌≡◌, ◌≢◌, ◌⊎◌, ◌<◌, ◌≤◌, ◌+◌, ◌-◌, ◌*◌, ◌^◌, ◌++◌, ℕ, List, [], ◌∷◌, length, length-append, Some, None, All, Contains, append-nil, append_assoc, get_or, pos, refl, sym, ◌∙◌, ap, subst, inl, inr, arith}
+use Rattle.std.proofs.Common.{◌≡◌, ◌≢◌, ◌⊎◌, ◌<◌, ◌≤◌, ◌+◌, ◌-◌, ◌*◌, ◌^◌, ◌++◌, ℕ, List, [], ◌∷◌, length, length-append, Some, None, All, Contains, append-nil, append_assoc, get_or, pos, ◌+ℤ◌, ◌-ℤ◌, refl, sym, ◌∙◌, ap, subst, inl, inr, arith}
 use Rattle.std.proofs.lemmas.List.Elements.{Contains-append_left, All-nil, All-cons, All-append, Contains-get_or, Contains-push, Contains-append_cases}
+use Rattle.std.proofs.lemmas.Int.{ints}
 use Rattle.std.proofs.lemmas.Option.{none-some}
 use Rattle.std.proofs.Math.Nat.{le_trans}
 use Rattle.atam.specs.declared.site.Site.{Site}
 use Rattle.atam.specs.declared.place.TypeId.{TypeId}
 use Rattle.atam.specs.declared.place.Place.{Place}
-use Rattle.atam.specs.Sites.{InBox}
+use Rattle.atam.specs.declared.site.Side.{Side}
+use Rattle.atam.specs.declared.site.Side.TheVariants.{North, East, South, West}
+use Rattle.atam.specs.Sites.{InBox, neighbor}
+use Rattle.tile_system.specs.declared.placed.Beside.{Beside}
+use Rattle.tile_system.specs.Neighbors.{StandBeside}
 use Rattle.atam.specs.Placements.{SamePlacements, HasDistinctSites, tile_at}
 use Rattle.atam.specs.TileSystem.{TileSystem, IsType}
 use Rattle.atam.specs.Growth.{IsCandidate, IsClosedInBox}
@@ -33,6 +38,26 @@ use Rattle.assembly.specs.Cells.{cell_count, site_at}
 use Rattle.assembly.proofs.Cells.{site_at-injective}
 use Rattle.frontier_seat.specs.declared.work_list.Spot.{Spot}
 use Rattle.frontier_seat.specs.Inner.Listings.{AreEmptySites, ListsAround, IsSpot}
+
+-- a site is not beside itself
+neighbor_differs : (m : Site) (d : Side) → m ≢ neighbor m d
+neighbor_differs m North same = let up : m.y ≡ m.y +ℤ pos 1 = ap (λ (s : Site). s.y) same in let never : ⊥ = omega (arith, ints, up) in never
+neighbor_differs m East same = let up : m.x ≡ m.x +ℤ pos 1 = ap (λ (s : Site). s.x) same in let never : ⊥ = omega (arith, ints, up) in never
+neighbor_differs m South same = let down : m.y ≡ m.y -ℤ pos 1 = ap (λ (s : Site). s.y) same in let never : ⊥ = omega (arith, ints, down) in never
+neighbor_differs m West same = let down : m.x ≡ m.x -ℤ pos 1 = ap (λ (s : Site). s.x) same in let never : ⊥ = omega (arith, ints, down) in never
+
+-- so a claim leaves what stands beside its site
+pub still_beside : (sys : TileSystem) (old new : Growing) (m : Site) (beside : Beside) → ClaimsAt sys m old new → StandBeside old.grid.tiles m beside → StandBeside new.grid.tiles m beside
+still_beside sys old new m beside claim stand =
+    let same : (d : Side) → tile_at old.grid.tiles (neighbor m d) ≡ tile_at new.grid.tiles (neighbor m d) = λ d.
+    sym (claim.tiles (neighbor m d) ∙ tile_at-push_other old.grid.tiles (place m claim.tile) (neighbor m d) (neighbor_differs m d))
+    in
+    record {
+      north = stand.north ∙ same North;
+      east = stand.east ∙ same East;
+      south = stand.south ∙ same South;
+      west = stand.west ∙ same West;
+    }
 
 -- the tiles of a grid over a box are few
 pub few_tiles : (sys : TileSystem) (g : Growing) → IsGrowing sys g → length g.grid.tiles ≤ cell_count sys.area

@@ -3,14 +3,15 @@ ghost use Rattle.std.specs.Prelude.{◌≡◌, ◌≤◌, length, None, IfOk};
 ghost use Rattle.atam.specs.Sites.{IsNearSite};
 ghost use Rattle.atam.specs.Placements.{tile_at};
 ghost use Rattle.atam.specs.Assembly.{Fits};
+ghost use Rattle.tile_system.specs.Neighbors.{StandBeside};
 ghost use Rattle.frontier_seat.specs.Inner.Looks.{IsOpenType};
 ghost use Rattle.frontier_seat.specs.Inner.Pickers.{IsPickerOf};
 
 use crate::Chooser;
 use assembly::Grid;
-use attach_rule::{TypeList, glues_facing};
+use attach_rule::{TypeList, glues_beside};
 use std::alloc::Global;
-use tile_system::{NoMemory, Site, System, TypeId};
+use tile_system::{Beside, NoMemory, Site, System, TypeId};
 use type_index::{FacingCache, TypeIndex};
 
 // An index of types, what was found by it before, and room for all types.
@@ -40,16 +41,18 @@ impl Picker {
         sys: &System,
         grid: &Grid,
         site: Site,
+        beside: &Beside,
         chooser: &mut C,
     ) -> Option<TypeId>
         requires picker { IsPickerOf sys.now self.old }
         requires near { IsNearSite site }
         requires empty { tile_at grid.now.tiles site ≡ None }
+        requires beside { StandBeside grid.now.tiles site beside.now }
         requires fits { Fits sys.now grid.now.tiles }
         ensures open { IsOpenType sys.now grid.now.tiles site result }
         ensures picker { IsPickerOf sys.now self.new }
     {
-        let glues = glues_facing(sys, grid, site);
+        let glues = glues_beside(sys, grid, site, beside);
         let found = self.cache.found(sys, &self.index, &glues);
         if found.count > 2 {
             return self.pick_listed(sys, grid, site, chooser);

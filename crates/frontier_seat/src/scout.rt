@@ -85,11 +85,12 @@ pub(crate) fn look<C: Chooser, L: Ledger>(
         ≡ steps.old + length growing.new.grid.tiles }
 {
     let _area = sys.area();
-    let Some(tile) = picker.pick(sys, &growing.grid, spot.site, chooser) else {
+    let beside = growing.grid.beside_at(spot.site, spot.number);
+    let Some(tile) = picker.pick(sys, &growing.grid, spot.site, &beside, chooser) else {
         return false;
     };
     growing.claim(sys, table, spot.site, tile, steps);
-    work.list_around(&growing.grid, spot);
+    work.list_around(&growing.grid, spot, &beside);
     true
 }
 

@@ -3,6 +3,7 @@ ghost use Rattle.std.specs.Prelude.{◌≡◌, ◌<◌, ◌+◌, ◌*◌, ℕ, I
 ghost use Rattle.atam.specs.Sites.{IsBox, IsNearSite, neighbor, width_of, height_of};
 ghost use Rattle.atam.specs.Placements.{tile_at};
 ghost use Rattle.assembly.specs.Cells.{cell_count};
+ghost use Rattle.tile_system.specs.Neighbors.{StandBeside};
 ghost use Rattle.number_set.specs.Numbers.{IsIn, IsLeastOf};
 ghost use Rattle.frontier_seat.specs.Inner.Listings.{AreEmptySites, ListsAround, ListsFrontier, ListsFrontierTo, ListsSide, IsSpot, IsSpotBeside, TakesSpot};
 
@@ -10,7 +11,7 @@ use assembly::{Grid, site_of_index};
 use number_set::NumberSet;
 use std::alloc::Global;
 use std::marker::Model;
-use tile_system::{BoxArea, NoMemory, Placed, Side, Site, TypeId};
+use tile_system::{Beside, BoxArea, NoMemory, Placed, Side, Site, TypeId};
 
 // A site of a box, and its number there.
 #[derive(Clone, Copy)]
@@ -117,16 +118,16 @@ impl WorkList {
         }
     }
 
-    // Lists the empty sites of the box beside a site.
+    // Lists the empty sites of the box beside a site, by what stands there.
     #[inline(always)]
-    pub(crate) fn list_around(&mut self, grid: &Grid, spot: Spot)
+    pub(crate) fn list_around(&mut self, grid: &Grid, spot: Spot, beside: &Beside)
         requires near { IsNearSite spot.site }
         requires spot { IsSpot self.old.area spot }
+        requires beside { StandBeside grid.now.tiles spot.site beside.now }
         ensures area { self.new.area ≡ self.old.area }
         ensures lists { ListsAround self.old.area grid.now.tiles spot.site
             self.old.numbers self.new.numbers }
     {
-        let beside = grid.beside(spot.site);
         self.list_side(spot, Side::North, beside.north);
         self.list_side(spot, Side::East, beside.east);
         self.list_side(spot, Side::South, beside.south);
@@ -149,7 +150,8 @@ impl WorkList {
         if grid.at(spot.site).is_none() {
             return;
         }
-        self.list_around(grid, spot);
+        let beside = grid.beside(spot.site);
+        self.list_around(grid, spot, &beside);
     }
 
     // Lists the empty sites of the box beside the tiles of one row.

@@ -9,13 +9,13 @@ use Rattle.frontier_seat.proofs.work_list.WorkList.list_around.Goals as goal
 pub returns-clause-lists : goal.returns-clause-lists
 returns-clause-lists c =
     let m = c.args.spot.site in
-    let beside = c.beside-beside.result in
+    let beside = c.args.beside.now in
     let a1 = c.list_side.ensures.area in
     let a2 = c.list_side-2.ensures.area ∙ a1 in
     let a3 = c.list_side-3.ensures.area ∙ a2 in
     lists_around c.args.self.now.area c.args.grid.now.tiles m beside
     c.args.self.now.numbers c.list_side.new.self.numbers c.list_side-2.new.self.numbers c.list_side-3.new.self.numbers c.list_side-4.new.self.numbers
-    c.beside-beside.ensures c.list_side.ensures.lists
+    c.requires.beside c.list_side.ensures.lists
     (subst (λ (a : BoxArea). ListsSide a (neighbor m East) beside.east c.list_side.new.self.numbers c.list_side-2.new.self.numbers) a1 c.list_side-2.ensures.lists)
     (subst (λ (a : BoxArea). ListsSide a (neighbor m South) beside.south c.list_side-2.new.self.numbers c.list_side-3.new.self.numbers) a2 c.list_side-3.ensures.lists)
     (subst (λ (a : BoxArea). ListsSide a (neighbor m West) beside.west c.list_side-3.new.self.numbers c.list_side-4.new.self.numbers) a3 c.list_side-4.ensures.lists)
