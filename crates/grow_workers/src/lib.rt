@@ -3,6 +3,8 @@
 
 mod alone;
 mod growth;
+mod in_order;
 mod parts;
 
 pub use growth::{grow, grow_on};
+pub use in_order::grow_in_order;
