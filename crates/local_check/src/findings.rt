@@ -11,8 +11,8 @@ use std::marker::Model;
 use tile_system::{NoMemory, System, TypeId};
 use type_index::{FacingCache, TypeIndex};
 
-// A place that these glues face, where tiles stood beside these sides before: the sides that interact
-// with those tiles, their pull, the other sides that interact, and the first rival.
+// A place that these glues face, where tiles stood beside these sides before: the sides that
+// interact with those tiles, their pull, the other sides that interact, and the first rival.
 #[derive(Clone, Copy)]
 pub(crate) struct Finding {
     pub(crate) glues: FacingGlues,

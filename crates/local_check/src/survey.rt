@@ -19,8 +19,8 @@ use tile_system::{NoMemory, Place, Placed, Site, System, TypeId};
 use type_index::TypeIndex;
 
 // The sides of each place that interact with the seeds or with an earlier place, its output sides,
-// the first place that isn't held by exactly the temperature, with what holds it, and the first with
-// a rival, with its first rival.
+// the first place that isn't held by exactly the temperature, with what holds it, and the first
+// with a rival, with its first rival.
 #[derive(Drop)]
 pub(crate) struct Survey {
     pub(crate) earlier: Vec<SideSet>,
