@@ -1,7 +1,7 @@
 -- What holds a rival, by the sides that aren't output sides, and what a search finds with one place more.
-use Rattle.std.proofs.Common.{◌≡◌, ◌≢◌, ◌<◌, ◌≤◌, ◌+◌, ℕ, Bool, true, false, true≢false, not, ◌&&◌, ◌||◌, if◌then◌else◌, List, length, Option, Some, None, is_some, slice_get, refl, sym, ◌∙◌, ap, subst, inl, inr, arith}
+use Rattle.std.proofs.Common.{◌≡◌, ◌≢◌, ◌<◌, ◌≤◌, ◌+◌, ℕ, Bool, true, false, not, ◌&&◌, ◌||◌, if◌then◌else◌, List, length, take, Option, Some, None, slice_get, refl, sym, ◌∙◌, ap, subst, inl, inr, arith}
 use Rattle.std.specs.List.{list_any}
-use Rattle.std.specs.Option.{option_map}
+use Rattle.std.specs.Option.{option_map, option_or}
 use Rattle.std.proofs.lemmas.Int.{ints}
 use Rattle.std.proofs.lemmas.Bool.{cases_Bool, cases_lt}
 use Rattle.std.proofs.lemmas.Option.{same_Some, none-some, slice_get_within}
@@ -19,7 +19,8 @@ use Rattle.atam.specs.Growth.{IsLegal}
 use Rattle.atam.specs.Determinism.{is_output, without_outputs, IsExact, IsRival, HasExactInputs, HasNoRivals}
 use Rattle.atam.proofs.Boxes.{same_site_tells, same_site-refl}
 use Rattle.atam.proofs.Bonds.{bond-none, interaction-none}
-use Rattle.atam.proofs.Placements.{tile_at-filter, tile_at-filtered}
+use Rattle.std.proofs.Math.Seq.{take-length}
+use Rattle.atam.proofs.Placements.{Extends, Extends-take, tile_at-filter, tile_at-filtered}
 use Rattle.atam.proofs.Sequences.{IsLegal-distinct}
 use Rattle.atam.proofs.Opening.{bond-beside}
 use Rattle.atam.proofs.Tiles.{SameTiles, SameTiles-from}
@@ -29,7 +30,7 @@ use Rattle.attach_rule.specs.declared.facing.FacingGlues.{FacingGlues}
 use Rattle.attach_rule.specs.Facing.{FacesSite, facing_pull}
 use Rattle.type_index.specs.HeldTypes.{IsHeld, FirstHeldBut}
 use Rattle.type_index.specs.Others.{IsFirstBut}
-use Rattle.local_check.specs.Inner.Sides.{glues_on}
+use Rattle.local_check.specs.Inner.Sides.{bond_if, glues_on}
 use Rattle.local_check.specs.Judgement.{AllExactBelow, NoRivalBelow, IsLeastRival, FindsInexact, FindsRival}
 use Rattle.local_check.proofs.Sides.{apart}
 
@@ -70,9 +71,6 @@ or_false : (b : Bool) → (b || false) ≡ b
 or_false true = refl
 or_false false = refl
 
-abbrev bond_if : Bool → ℕ → ℕ
-bond_if on strength = if on then strength else 0
-
 -- a side that isn't kept meets no glue
 facing_on : (sys : TileSystem) (own : Option GlueId) (glue : Option GlueId) (on : Bool) → interaction sys own (if on then glue else None) ≡ bond_if on (interaction sys own glue)
 facing_on sys own glue true = refl
@@ -110,18 +108,15 @@ pub seed_rival : (sys : TileSystem) (s : List Place) (n : ℕ) (found : Option (
 seed_rival sys s n None seed finds = λ i p t later below there. let never : ⊥ = omega (arith, seed, later, below) in absurd never
 seed_rival sys s n (Some first) seed finds = finds
 
-pub none_found : (sys : TileSystem) (s : List Place) (n : ℕ) (found : Option (Site × TypeId)) → is_some found ≡ false → FindsRival sys s n found → NoRivalBelow sys s n
-none_found sys s n None none finds = finds
-none_found sys s n (Some first) none finds = absurd (true≢false none)
-
--- what was found stays found
-pub still_rival : (sys : TileSystem) (s : List Place) (n : ℕ) (found : Option (Site × TypeId)) → is_some found ≡ true → FindsRival sys s n found → FindsRival sys s (n + 1) found
-still_rival sys s n None some finds = absurd (true≢false (sym some))
-still_rival sys s n (Some first) some finds = finds
-
 module _ (sys : TileSystem) (s tiles : List Place) (distinct : HasDistinctSites sys.seeds) (legal : IsLegal sys s) (same : SamePlacements s tiles) where
   pub one_map : SameTiles s tiles
   one_map = SameTiles-from s tiles (IsLegal-distinct sys s distinct legal) same
+
+  -- what stands in a beginning stands there
+  pub part_of_tiles : (i : ℕ) (part : List Place) → i ≤ length s → SameTiles (take i s) part → Extends part tiles
+  part_of_tiles i part within same_part m t found =
+      let In : List Place → Type 0 = λ l. tile_at l m ≡ Some t in
+      sym (one_map m) ∙ subst In (take-length s) (Extends-take s i (length s) within m t (same_part m ∙ found))
 
   module _ (i : ℕ) (p : Place) (there : slice_get s i ≡ Some p) where
     keeps : Site → Bool
@@ -237,11 +232,12 @@ module _ (sys : TileSystem) (s tiles : List Place) (distinct : HasDistinctSites 
         least = λ u rival. first.least u (rival_held u rival) rival.other;
       }
 
-      -- so a search finds it with one place more
-      pub rival_more : (other : Option TypeId) → length sys.seeds ≤ i → NoRivalBelow sys s i → FirstHeldBut sys (glues_on sides glues) p.tile other →
-          FindsRival sys s (i + 1) (option_map (λ t. (p.site, t)) other)
-      rival_more None later none first = no_rival_more sys s i p there none (no_rival first)
-      rival_more (Some t) later none first = record {
+      -- so a search finds it with one place more, if it found none before
+      pub rival_more : (found : Option (Site × TypeId)) (other : Option TypeId) → length sys.seeds ≤ i → FindsRival sys s i found → FirstHeldBut sys (glues_on sides glues) p.tile other →
+          FindsRival sys s (i + 1) (option_or found (option_map (λ t. (p.site, t)) other))
+      rival_more (Some found) other later finds first = finds
+      rival_more None None later none first = no_rival_more sys s i p there none (no_rival first)
+      rival_more None (Some t) later none first = record {
         index = i;
         place = p;
         later = later;

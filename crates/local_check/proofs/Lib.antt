@@ -4,3 +4,4 @@ pub mod Sites
 pub mod Sides
 pub mod Judging
 pub mod PlaceFindings
+pub mod Standing

@@ -29,7 +29,7 @@ use Rattle.attach_rule.specs.declared.facing.FacingGlues.{FacingGlues}
 use Rattle.attach_rule.specs.Bonds.{AreBonds}
 use Rattle.attach_rule.specs.Facing.{FacesSite}
 use Rattle.local_check.specs.Judgement.{FindsInexact, FindsRival}
-use Rattle.local_check.specs.Inner.Sides.{bound_by, bound_sides, difference, complement, AreEarlierAt, AreOutputsAt, AreEarlierSides, AreOutputSides}
+use Rattle.local_check.specs.Inner.Sides.{bond_if, sum_on, pull_on, bound_by, bound_sides, difference, complement, AreEarlierAt, AreOutputsAt, AreEarlierSides, AreOutputSides}
 use Rattle.atam.proofs.Opening.{bond-beside}
 use Rattle.atam.proofs.Tiles.{SameTiles}
 use Rattle.local_check.proofs.Sites.{slice_get-some, distinct-take}
@@ -39,6 +39,12 @@ has-bound sys tiles m t North = refl
 has-bound sys tiles m t East = refl
 has-bound sys tiles m t South = refl
 has-bound sys tiles m t West = refl
+
+-- the sum of strengths is the pull, by some sides alone
+pub sum_on-bonds : (sys : TileSystem) (tiles : List Place) (m : Site) (t : TypeId) (bonds : Strengths) (sides : SideSet) → AreBonds sys tiles m t bonds →
+    sum_on sides bonds ≡ pull_on sys tiles m t sides
+sum_on-bonds sys tiles m t bonds sides are =
+    λ k. bond_if sides.north (are.north k) + bond_if sides.east (are.east k) + bond_if sides.south (are.south k) + bond_if sides.west (are.west k)
 
 -- the sides with a strength are those that interact
 pub bound_by-bonds : (sys : TileSystem) (tiles : List Place) (m : Site) (t : TypeId) (bonds : Strengths) → AreBonds sys tiles m t bonds → bound_by bonds ≡ bound_sides sys tiles m t

@@ -11,12 +11,14 @@ use std::marker::Model;
 use tile_system::{NoMemory, System, TypeId};
 use type_index::{FacingCache, TypeIndex};
 
-// The output sides and the first rival of a place that these glues face, where these sides interact
-// with earlier places.
+// A place that these glues face, where tiles stood beside these sides before: the sides that
+// interact with those tiles, their pull, the other sides that interact, and the first rival.
 #[derive(Clone, Copy)]
 pub(crate) struct Finding {
     pub(crate) glues: FacingGlues,
+    pub(crate) before: SideSet,
     pub(crate) earlier: SideSet,
+    pub(crate) sum: u32,
     pub(crate) outputs: SideSet,
     pub(crate) rival: Option<TypeId>,
 }
@@ -54,22 +56,22 @@ impl Findings {
         types: &TypeIndex,
         glues: &FacingGlues,
         tile: TypeId,
-        earlier: SideSet,
+        before: SideSet,
     ) -> Finding
         requires known { ArePlaceFindings sys.now self.old }
         requires index { IsIndexOf sys.now types.now }
         requires kind { IsType sys.now tile }
         ensures finding { IsFinding sys.now tile result }
         ensures glues { result.glues ≡ glues.now }
-        ensures earlier { result.earlier ≡ earlier }
+        ensures before { result.before ≡ before }
         ensures known { ArePlaceFindings sys.now self.new }
     {
-        if let Some(finding) = self.last[tile.0 as usize] {
-            if finding.glues == *glues && finding.earlier == earlier {
-                return finding;
+        if let Some(finding) = &self.last[tile.0 as usize] {
+            if finding.before == before && finding.glues == *glues {
+                return *finding;
             }
         }
-        self.find(sys, types, glues, tile, earlier)
+        self.find(sys, types, glues, tile, before)
     }
 
     // Finds it anew.
@@ -79,23 +81,26 @@ impl Findings {
         types: &TypeIndex,
         glues: &FacingGlues,
         tile: TypeId,
-        earlier: SideSet,
+        before: SideSet,
     ) -> Finding
         requires known { ArePlaceFindings sys.now self.old }
         requires index { IsIndexOf sys.now types.now }
         requires kind { IsType sys.now tile }
         ensures finding { IsFinding sys.now tile result }
         ensures glues { result.glues ≡ glues.now }
-        ensures earlier { result.earlier ≡ earlier }
+        ensures before { result.before ≡ before }
         ensures known { ArePlaceFindings sys.now self.new }
     {
         let bonds = facing_bonds(sys, glues, tile);
-        let outputs = SideSet::bound_by(&bonds).without(earlier);
+        let bound = SideSet::bound_by(&bonds);
+        let outputs = bound.without(before);
         let kept = outputs.complement().glues_on(glues);
         let rival = self.cache.found(sys, types, &kept).other_than(tile);
         let finding = Finding {
             glues: *glues,
-            earlier,
+            before,
+            earlier: bound.within(before),
+            sum: before.sum_on(&bonds),
             outputs,
             rival,
         };

@@ -9,8 +9,8 @@ use assembly::Sequence;
 use tile_system::System;
 
 /// The verdict on a legal sequence with its sides: the first condition that fails, at the first
-/// place of the sequence where it fails, or at the least open site. It takes no memory. What fails at
-/// a place was found with the sides, so its time grows with the number of sites of the box.
+/// place of the sequence where it fails, or at the least open site. It takes no memory. What fails
+/// at a place was found with the sides, so its time grows with the number of sites of the box.
 pub fn judge(sys: &System, seq: &Sequence, sides: &SideSets) -> Verdict
     requires legal { IsLegal sys.now seq.now }
     requires fits { Fits sys.now seq.now }

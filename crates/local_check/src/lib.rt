@@ -1,13 +1,12 @@
 //! Whether a legal sequence is locally deterministic.
 #![tactic(auto)]
 
-mod earlier;
 mod findings;
 mod judgement;
 mod laws;
-mod outputs;
 mod side_set;
 mod side_table;
+mod survey;
 mod verdict;
 
 pub use judgement::judge;

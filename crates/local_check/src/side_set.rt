@@ -1,10 +1,12 @@
 // A set of sides.
-ghost use Rattle.std.specs.Prelude.{◌≡◌};
+ghost use Rattle.std.specs.Prelude.{◌≡◌, ◌≤◌};
+ghost use Rattle.atam.specs.declared.limits.TheConstants.{MOST_STRENGTH};
+ghost use Rattle.attach_rule.specs.Bonds.{AreStrengths};
 ghost use Rattle.local_check.specs.SideSets.{has};
-ghost use Rattle.local_check.specs.Inner.Sides.{bound_by, difference, complement, glues_on};
+ghost use Rattle.local_check.specs.Inner.Sides.{bound_by, standing, intersection, difference, complement, bond_if, sum_on, glues_on};
 
 use attach_rule::{FacingGlues, Strengths};
-use tile_system::Side;
+use tile_system::{Beside, Side};
 
 // The sides of a tile that something holds of.
 #[derive(Clone, Copy, PartialEq, Eq)]
@@ -37,6 +39,19 @@ impl SideSet {
         }
     }
 
+    // The sides beside which there is a tile.
+    #[inline(always)]
+    pub(crate) fn standing(beside: &Beside) -> SideSet
+        ensures { result ≡ standing beside.now }
+    {
+        SideSet {
+            north: beside.north.is_some(),
+            east: beside.east.is_some(),
+            south: beside.south.is_some(),
+            west: beside.west.is_some(),
+        }
+    }
+
     #[inline(always)]
     pub(crate) fn has(self, side: Side) -> bool
         ensures { result ≡ has self side }
@@ -62,6 +77,19 @@ impl SideSet {
         }
     }
 
+    // The sides that the other set has too.
+    #[inline(always)]
+    pub(crate) fn within(self, other: SideSet) -> SideSet
+        ensures { result ≡ intersection self other }
+    {
+        SideSet {
+            north: self.north && other.north,
+            east: self.east && other.east,
+            south: self.south && other.south,
+            west: self.west && other.west,
+        }
+    }
+
     // The sides that the other set doesn't have.
     #[inline(always)]
     pub(crate) fn without(self, other: SideSet) -> SideSet
@@ -73,6 +101,17 @@ impl SideSet {
             south: self.south && !other.south,
             west: self.west && !other.west,
         }
+    }
+
+    // The sum of the strengths of these sides alone.
+    pub(crate) fn sum_on(self, bonds: &Strengths) -> u32
+        requires { AreStrengths bonds.now }
+        ensures { result ≡ sum_on self bonds.now }
+    {
+        bond_if(self.north, bonds.north)
+            + bond_if(self.east, bonds.east)
+            + bond_if(self.south, bonds.south)
+            + bond_if(self.west, bonds.west)
     }
 
     // The glues that face these sides alone.
@@ -87,4 +126,13 @@ impl SideSet {
             west: if self.west { glues.west } else { None },
         }
     }
+}
+
+// The strength, if the side counts.
+fn bond_if(counts: bool, strength: u32) -> u32
+    requires { strength ≤ MOST_STRENGTH }
+    ensures value { result ≡ bond_if counts strength }
+    ensures bound { result ≤ MOST_STRENGTH }
+{
+    if counts { strength } else { 0 }
 }

@@ -5,10 +5,9 @@ ghost use Rattle.atam.specs.Assembly.{Fits};
 ghost use Rattle.atam.specs.Growth.{IsLegal};
 ghost use Rattle.local_check.specs.SideSets.{has, input_at, output_at, AreSidesOf};
 
-use crate::earlier::{Earlier, look_back};
-use crate::outputs::{Outputs, look_around};
 use crate::side_set::SideSet;
-use assembly::{Grid, Sequence, put_seeds};
+use crate::survey::{Survey, put_places, survey_places};
+use assembly::{Grid, Sequence};
 use std::alloc::Global;
 use std::marker::Model;
 use tile_system::{Beside, NoMemory, Placed, Side, Site, System, TypeId};
@@ -109,27 +108,23 @@ impl Placed for SideSets {
     }
 }
 
-/// The sides of the places of a legal sequence, with the first place that isn't held exactly and the
-/// first rival, in memory for a grid over the box, for the sequence and for an index of the types. Its
-/// time grows with the number of places and with the number of sites of the box.
+/// The sides of the places of a legal sequence, with the first place that isn't held exactly and
+/// the first rival, in memory for two grids over the box, for the sequence and for an index of the
+/// types. Its time grows with the number of places and with the number of sites of the box.
 pub fn inputs(alloc: Global, sys: &System, seq: &Sequence) -> Result<SideSets, NoMemory>
     requires legal { IsLegal sys.now seq.now }
     requires fits { Fits sys.now seq.now }
     ensures { IfOk result (AreSidesOf sys.now seq.now) }
 {
     let mut grid = Grid::make(alloc, sys.area())?;
-    put_seeds(sys, &mut grid);
-    let earlier = look_back(alloc, sys, seq, &mut grid)?;
+    put_places(sys, seq, &mut grid);
     let index = TypeIndex::build(alloc, sys)?;
-    let outputs = look_around(alloc, sys, seq, &grid, &earlier.sides, &index)?;
-    let Earlier {
-        sides: earlier,
+    let Survey {
+        earlier,
+        outputs,
         inexact,
-    } = earlier;
-    let Outputs {
-        sides: outputs,
         rival,
-    } = outputs;
+    } = survey_places(alloc, sys, seq, &grid, &index)?;
     Ok(SideSets {
         grid,
         seed_count: sys.seeds().len(),

@@ -1,5 +1,5 @@
 -- Sides that interact with the tiles beside them, and the glues on some sides.
-use Rattle.std.specs.Prelude.{◌≡◌, ℕ, not, ◌&&◌, nat_lt, if◌then◌else◌, List, length, slice_get, take, max, Some, None}
+use Rattle.std.specs.Prelude.{◌≡◌, ℕ, ◌+◌, Bool, is_some, not, ◌&&◌, nat_lt, if◌then◌else◌, List, length, slice_get, take, max, Some, None}
 use Rattle.atam.specs.declared.site.Side.{Side}
 use Rattle.atam.specs.declared.site.Side.TheVariants.{North, East, South, West}
 use Rattle.atam.specs.declared.site.Site.{Site}
@@ -8,6 +8,7 @@ use Rattle.atam.specs.declared.place.Place.{Place}
 use Rattle.atam.specs.TileSystem.{TileSystem}
 use Rattle.atam.specs.Assembly.{bond}
 use Rattle.atam.specs.Determinism.{is_output}
+use Rattle.tile_system.specs.declared.placed.Beside.{Beside}
 use Rattle.attach_rule.specs.declared.bonding.Strengths.{Strengths}
 use Rattle.attach_rule.specs.declared.facing.FacingGlues.{FacingGlues}
 use Rattle.local_check.specs.declared.side_set.SideSet.{SideSet}
@@ -26,12 +27,33 @@ bound_sides sys tiles m t = record {
 abbrev pub bound_by : Strengths → SideSet
 bound_by bonds = record { north = nat_lt 0 bonds.north; east = nat_lt 0 bonds.east; south = nat_lt 0 bonds.south; west = nat_lt 0 bonds.west }
 
+-- the sides beside which there is a tile
+abbrev pub standing : Beside → SideSet
+standing beside = record { north = is_some beside.north; east = is_some beside.east; south = is_some beside.south; west = is_some beside.west }
+
+-- the sides that both sets have
+abbrev pub intersection : SideSet → SideSet → SideSet
+intersection a b = record { north = a.north && b.north; east = a.east && b.east; south = a.south && b.south; west = a.west && b.west }
+
 -- the sides of the one set that the other doesn't have, and those that a set doesn't have
 abbrev pub difference : SideSet → SideSet → SideSet
 difference a b = record { north = a.north && not b.north; east = a.east && not b.east; south = a.south && not b.south; west = a.west && not b.west }
 
 abbrev pub complement : SideSet → SideSet
 complement a = record { north = not a.north; east = not a.east; south = not a.south; west = not a.west }
+
+abbrev pub bond_if : Bool → ℕ → ℕ
+bond_if on strength = if on then strength else 0
+
+-- the sum of the strengths of these sides alone
+abbrev pub sum_on : SideSet → Strengths → ℕ
+sum_on sides bonds = bond_if sides.north bonds.north + bond_if sides.east bonds.east + bond_if sides.south bonds.south + bond_if sides.west bonds.west
+
+-- the pull on a type by these sides alone
+abbrev pub pull_on : TileSystem → List Place → Site → TypeId → SideSet → ℕ
+pull_on sys tiles m t sides =
+    bond_if sides.north (bond sys tiles m t North) + bond_if sides.east (bond sys tiles m t East)
+    + bond_if sides.south (bond sys tiles m t South) + bond_if sides.west (bond sys tiles m t West)
 
 -- the glues that face these sides alone
 abbrev pub glues_on : SideSet → FacingGlues → FacingGlues

@@ -4,9 +4,9 @@ use Rattle.local_check.proofs.side_table.inputs.Goals as goal
 
 pub returns : goal.returns
 returns c =
-    let earlier = c.in_ok-earlier.earlier in
-    let outputs = c.in_ok-outputs.outputs in
-    table c.args.sys.now c.args.seq.now c.look_back.new.grid.tiles earlier.sides.items outputs.sides.items
-    c.area.ensures.valid.distinct_seeds c.requires.legal c.in_ok-earlier.ensures.sides c.in_ok-outputs.ensures.sides c.in_ok-earlier.ensures.placements
+    let found = c.in_ok-earlier.field-0 in
+    let are = c.in_ok-earlier.ensures in
+    table c.args.sys.now c.args.seq.now c.put_places.new.grid.tiles found.earlier.items found.outputs.items
+    c.area.ensures.valid.distinct_seeds c.requires.legal are.earlier are.outputs c.put_places.ensures
     (length c.seeds.result.now) (ap length c.seeds.ensures.seeds) c.in_ok-index.index c.in_ok-index.ensures
-    earlier.inexact c.in_ok-earlier.ensures.inexact outputs.rival c.in_ok-outputs.ensures.rival
+    found.inexact are.inexact found.rival are.rival
