@@ -40,8 +40,3 @@ returns-clause-known c =
       });
       cache = c.found.ensures.known;
     }
-
-pub found-requires-clause-known : goal.found-requires-clause-known
-found-requires-clause-known c =
-    let Known : FindingTable → Type 0 = λ table. ArePlaceFindings c.args.sys.now table in
-    (subst Known (sym c.self.view_is) c.requires.known).cache
