@@ -148,9 +148,11 @@ fn are_same_at(
         first: entry(&plain, 0),
         second: entry(&plain, 1),
     };
-    Ok(have_same(&plain, &listed)
-        && cache.found_at(sys, index, grid, site) == found
-        && has_same_others(sys, index, grid, site, &plain))
+    Ok(
+        have_same(&plain, &listed)
+            && cache.found_at(sys, index, grid, site) == found
+            && has_same_others(sys, index, grid, site, &plain),
+    )
 }
 
 // Whether the index finds for each type the first other one.
@@ -189,8 +191,10 @@ fn are_same(alloc: Global, sys: &System, grid: &Grid) -> Result<bool, NoMemory>
             return Ok(false);
         }
     }
-    Ok(index.least_open(sys, grid) == least_open(sys, grid)
-        && index.least_open_outside(sys, grid) == least_open_outside(sys, grid))
+    Ok(
+        index.least_open(sys, grid) == least_open(sys, grid)
+            && index.least_open_outside(sys, grid) == least_open_outside(sys, grid),
+    )
 }
 
 // The first number, below a bound, whose system or assembly the index takes otherwise.
