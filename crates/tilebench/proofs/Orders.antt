@@ -3,7 +3,13 @@ use Rattle.std.proofs.Common.{◌∙◌, ◌++◌, [], ℕ, List, None, refl, sy
 use Rattle.atam.specs.declared.place.Place.{Place}
 use Rattle.atam.specs.Placements.{HasDistinctSites}
 use Rattle.atam.specs.TileSystem.{TileSystem, IsValid}
+use Rattle.atam.specs.Assembly.{Fits}
+use Rattle.atam.specs.Growth.{IsProducible}
+use Rattle.atam.specs.Canonical.{IsCanonical}
+use Rattle.atam.proofs.Canon.{canonical_part, canonical_IsLegal, producible_exactly}
+use Rattle.atam.proofs.Opening.{Fits-part}
 use Rattle.atam.proofs.Sequences.{IsLegal-distinct}
+use Rattle.replay_order.specs.ReplayAnswers.{IsWholeOrder}
 use Rattle.seq_text.specs.GrowthLines.{place_lines}
 use Rattle.tilebench.specs.declared.commands.replay.Reordering.{Reordering}
 use Rattle.tilebench.specs.Commands.Replay.{IsAssemblyOf, IsReordering, IsReplayAnswer, IsSystemThenPlacements, is_whole, reordering_text}
@@ -32,3 +38,16 @@ replay_answer input sys places tiles reordering read assembly reordered = record
       placements_back sys valid order None None (reordering_text sys reordering)
       (record { fits = whole.fits; open_site = tt; told = tt }) distinct (ap (reordering_text sys) is ∙ sym (append-nil (lines ++ []) ∙ append-nil lines));
 }
+
+-- a canonical sequence of a producible assembly is all of it
+pub canonical_whole : (sys : TileSystem) (tiles s : List Place) → HasDistinctSites sys.seeds → HasDistinctSites tiles → Fits sys tiles →
+    IsProducible sys tiles → IsCanonical sys tiles s → IsWholeOrder sys tiles s
+canonical_whole sys tiles s seeds_distinct distinct fits producible canonical =
+    let part = canonical_part sys tiles s distinct fits.types seeds_distinct canonical in
+    record {
+      canonical = canonical;
+      legal = canonical_IsLegal sys tiles s distinct fits.types seeds_distinct canonical;
+      same = record { part = part; whole = (producible_exactly sys tiles s distinct fits.types seeds_distinct canonical).0 producible };
+      fits = Fits-part sys s tiles part fits;
+      producible = producible;
+    }

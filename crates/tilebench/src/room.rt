@@ -1,14 +1,16 @@
 // What a command is to the top call: it answers an input, and its answer has a text.
-ghost use Rattle.std.specs.Prelude.{◌≡◌, ◌≤◌, ℕ, Bool, List, length, IfOk};
+ghost use Rattle.std.specs.Prelude.{◌≡◌, ◌≤◌, ℕ, Bool, List, length, IfOk, IfSome};
 ghost use Rattle.tile_io.specs.declared.fault.TextFault.{TextFault};
 ghost use Rattle.tile_io.specs.declared.limits.TheConstants.{MOST_INPUT};
 ghost use Rattle.tile_io.specs.Prints.{Prints};
+ghost use Rattle.atam.specs.Canonical.{IsCanonical};
 ghost use Rattle.atam.specs.TileSystem.{TileSystem};
 ghost use Rattle.site_table.specs.Seats.{GrownValue};
 ghost use Rattle.grow_workers.specs.Workers.{IsGrowth};
 ghost use Rattle.tilebench.specs.Inner.Gives.{GivesReply, Replies};
 
 use crate::stop::Stop;
+use assembly::Sequence;
 use site_table::Grown;
 use std::alloc::Global;
 use tile_io::{Failed, Sink};
@@ -67,17 +69,22 @@ pub trait GrowthRoom {
     /// What it tells of a growth by so many workers: whether it is a yes, and the text.
     ghost tells: { ℕ → TileSystem → GrownValue → Bool → List ℕ → Type 0 };
 
-    /// What it tells of a growth, or want of memory.
+    /// Whether it asks for the canonical order of what has grown.
+    fn wants_order(&self) -> bool;
+
+    /// What it tells of a growth, whose canonical order may be known, or want of memory.
     fn answer(
         &self,
         alloc: Global,
         sys: System,
         workers: u32,
         grown: &Grown,
+        order: Option<Sequence>,
     ) -> Result<Self::Answer, NoMemory>
         requires some { 1 ≤ workers }
         requires few { workers ≤ 16 }
         requires grew { IsGrowth sys workers grown.now }
+        requires order { IfSome order (IsCanonical sys grown.now.grid.tiles) }
         ensures { IfOk result (Replies Self.Answer.yes Self.Answer.text Self.Answer.printable
             (tells workers sys grown.now)) };
 }

@@ -7,11 +7,11 @@ ghost use Rattle.tilebench.specs.Inner.Runs.{EndsCommand};
 ghost use Rattle.tilebench.specs.Inputs.{AnswersInput, FailsInput, FailsWithin, HoldsInput, IsReadable, alone};
 
 use crate::input::read_alone;
+use crate::order::grow_ordered;
 use crate::room::{GrowthRoom, Room};
 use crate::status::Ran;
 use crate::stop::Stop;
 use crate::telling::tell;
-use grow_workers::grow;
 use site_table::Grown;
 use std::alloc::Global;
 use std::thread::Threads;
@@ -134,7 +134,8 @@ fn growth_answer<R: Threads + Sync, C: GrowthRoom, G: Gate>(
         (FailsWithin alone input.now) result }
 {
     let sys = read_alone(alloc, input)?;
-    let grown = grow(rt, alloc, &sys, workers, choice, gate)?;
-    let reply = room.answer(alloc, sys, workers, &grown)?;
+    let wants_order = room.wants_order();
+    let (grown, order) = grow_ordered(rt, alloc, &sys, workers, choice, wants_order, gate)?;
+    let reply = room.answer(alloc, sys, workers, &grown, order)?;
     Ok((reply, Some(grown)))
 }

@@ -1,12 +1,13 @@
 // `grow`: what a system grows into within its box.
-ghost use Rattle.std.specs.Prelude.{◌≡◌, IfOk};
+ghost use Rattle.std.specs.Prelude.{◌≡◌, IfOk, IfSome};
 ghost use Rattle.atam.specs.Assembly.{Fits};
+ghost use Rattle.atam.specs.Canonical.{IsCanonical};
 ghost use Rattle.atam.specs.Growth.{IsClosedInBox, IsProducible, IsLeastOpenOutside};
 ghost use Rattle.local_check.specs.declared.verdict.Verdict.{Verdict};
 ghost use Rattle.tilebench.specs.Commands.Grow.{IsGrowthText, growth_text, is_unique};
 ghost use Rattle.tilebench.specs.Inner.Rooms.{GrowsTo, HasTypes, outcome_of};
 
-use crate::order::canonical_order;
+use crate::order::order_of;
 use crate::room::{GrowthRoom, Reply};
 use assembly::{Grid, Sequence};
 use local_check::{Verdict, inputs, judge};
@@ -26,14 +27,19 @@ impl GrowthRoom for Grow {
 
     ghost tells = { λ workers. IsGrowthText };
 
+    fn wants_order(&self) -> bool {
+        true
+    }
+
     fn answer(
         &self,
         alloc: Global,
         sys: System,
         _workers: u32,
         grown: &Grown,
+        order: Option<Sequence>,
     ) -> Result<Growth, NoMemory> {
-        growth_of(alloc, sys, grown.grid())
+        growth_of(alloc, sys, grown.grid(), order)
     }
 }
 
@@ -72,16 +78,22 @@ pub fn is_unique(verdict: Verdict) -> bool
     matches!(verdict, Verdict::Yes)
 }
 
-/// What a system grew into, by the grid of a full growth.
-pub fn growth_of(alloc: Global, sys: System, grid: &Grid) -> Result<Growth, NoMemory>
+/// What a system grew into, by the grid of a full growth, whose canonical order may be known.
+pub fn growth_of(
+    alloc: Global,
+    sys: System,
+    grid: &Grid,
+    order: Option<Sequence>,
+) -> Result<Growth, NoMemory>
     requires area { grid.now.area ≡ sys.area }
     requires producible { IsProducible sys grid.now.tiles }
     requires closed { IsClosedInBox sys grid.now.tiles }
+    requires order { IfSome order (IsCanonical sys grid.now.tiles) }
     ensures { IfOk result (GrowsTo sys grid.now.tiles) }
 {
     let _box = grid.area();
     let outside = open_outside(alloc, &sys, grid)?;
-    let order = canonical_order(alloc, &sys, grid)?;
+    let order = order_of(alloc, &sys, grid, order)?;
     let sides = inputs(alloc, &sys, &order)?;
     let verdict = judge(&sys, &order, &sides);
     Ok(Growth {

@@ -42,7 +42,7 @@ pub fn answer<R: Threads + Sync, G: Gate>(
     let counter = counter_of(number);
     let sys = system_of(alloc, counter)?;
     let grown = grow(rt, alloc, &sys, WORKERS, number, gate)?;
-    let growth = growth_of(alloc, sys, grown.grid())?;
+    let growth = growth_of(alloc, sys, grown.grid(), None)?;
     let loaded = Loaded {
         number,
         counter,

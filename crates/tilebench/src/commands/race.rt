@@ -5,6 +5,7 @@ ghost use Rattle.tilebench.specs.Commands.Race.{AreWins, IsRaceText, race_text, 
 ghost use Rattle.tilebench.specs.Inner.Races.{won_together};
 
 use crate::room::{GrowthRoom, Reply};
+use assembly::Sequence;
 use itoa::Buffer;
 use site_table::Grown;
 use std::alloc::Global;
@@ -20,12 +21,17 @@ impl GrowthRoom for Race {
 
     ghost tells = { IsRaceText };
 
+    fn wants_order(&self) -> bool {
+        false
+    }
+
     fn answer(
         &self,
         alloc: Global,
         sys: System,
         workers: u32,
         grown: &Grown,
+        _order: Option<Sequence>,
     ) -> Result<Raced, NoMemory> {
         let _area = grown.grid().area();
         let seeds = sys.seeds().len() as u32;

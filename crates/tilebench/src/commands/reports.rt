@@ -7,6 +7,7 @@ ghost use Rattle.tilebench.specs.Inner.Rooms.{Reports};
 use crate::commands::grow::{Growth, growth_of, is_unique};
 use crate::commands::race::{Win, wins_of};
 use crate::room::{GrowthRoom, Reply};
+use assembly::Sequence;
 use report::report_text;
 use site_table::Grown;
 use std::alloc::Global;
@@ -22,15 +23,20 @@ impl GrowthRoom for Report {
 
     ghost tells = { IsReportText };
 
+    fn wants_order(&self) -> bool {
+        true
+    }
+
     fn answer(
         &self,
         alloc: Global,
         sys: System,
         workers: u32,
         grown: &Grown,
+        order: Option<Sequence>,
     ) -> Result<Reported, NoMemory> {
         let wins = wins_of(alloc, workers, grown)?;
-        let growth = growth_of(alloc, sys, grown.grid())?;
+        let growth = growth_of(alloc, sys, grown.grid(), order)?;
         report_of(alloc, &growth, grown.grid().count(), &wins)
     }
 }

@@ -5,8 +5,8 @@ use Rattle.tilebench.proofs.commands.grow.growth_of.Goals as goal
 pub open_outside-requires : goal.open_outside-requires
 open_outside-requires c = producible_fits c.args.sys c.area-box.result c.args.grid.now.tiles (c.area-box.ensures.area ∙ c.requires.area) c.area-box.ensures.inside c.requires.producible
 
-pub canonical_order-requires-clause-fits : goal.canonical_order-requires-clause-fits
-canonical_order-requires-clause-fits c =
+pub order_of-requires-clause-fits : goal.order_of-requires-clause-fits
+order_of-requires-clause-fits c =
     producible_fits c.args.sys c.area-box.result c.args.grid.now.tiles (c.area-box.ensures.area ∙ c.requires.area) c.area-box.ensures.inside c.requires.producible
 
 pub returns : goal.returns
