@@ -8,6 +8,7 @@ verdict is a no, it is judged by what must hold of it.
 import heapq
 import os
 import re
+import select
 import signal
 import sys
 import threading
@@ -860,29 +861,25 @@ class Program:
     def __init__(self, path, patience=10):
         self.path, self.patience, self.environment = path, patience, dict(os.environ)
         self.given, self.out, self.err = (os.memfd_create(it) for it in ("given", "out", "err"))
-        signal.signal(signal.SIGALRM, self.stop)
         signal.signal(signal.SIGPIPE, signal.SIG_IGN)
-
-    def stop(self, *_):
-        raise Hang
 
     def spawned(self, words, streams):
         """Runs it with these words and streams, and waits for it."""
         moves = [(os.POSIX_SPAWN_DUP2, stream, at) for at, stream in enumerate(streams)]
         process = os.posix_spawn(self.path, [self.path, *words], self.environment, file_actions=moves, setsigdef=[signal.SIGPIPE])
+        watch, is_done = os.pidfd_open(process), False
         for _ in range(30):
-            try:
-                signal.setitimer(signal.ITIMER_REAL, self.patience)
-                status = os.waitpid(process, 0)[1]
-                signal.setitimer(signal.ITIMER_REAL, 0)
-                return os.waitstatus_to_exitcode(status)
-            except Hang:
-                # (on a machine that has much else to do it may have to wait for its turn)
-                if seconds_of(process) > self.patience:
-                    break
-        os.kill(process, signal.SIGKILL)
-        os.waitpid(process, 0)
-        raise Hang
+            is_done = bool(select.select([watch], [], [], self.patience)[0])
+            # (on a machine that has much else to do it may have to wait for its turn)
+            if is_done or seconds_of(process) > self.patience:
+                break
+        os.close(watch)
+        if not is_done:
+            os.kill(process, signal.SIGKILL)
+        status = os.waitpid(process, 0)[1]
+        if not is_done:
+            raise Hang
+        return os.waitstatus_to_exitcode(status)
 
     def ask_in_pieces(self, words, pieces):
         """What comes where the input comes through a pipe, piece by piece."""
