@@ -45,17 +45,22 @@ def system_lines(tau, glues, tiles, box, seed):
 # ---- systems
 
 
+def system_of(rng, tau, glues, sides, kinds, lengths):
+    """A system of these kinds, each with any of these sides, in a box with sides of these lengths."""
+    tiles = [(it, *rng.choices(sides, k=4)) for it in kinds]
+    width, height = rng.choice(lengths), rng.choice(lengths)
+    x, y = box_around(rng, width, height)
+    seed = rng.randrange(x, x + width), rng.randrange(y, y + height), rng.choice(kinds)
+    return system_lines(tau, glues, tiles, (x, y, x + width - 1, y + height - 1), seed)
+
+
 def loose_system(rng, side=9):
     """A few glues on a few tiles, without a plan: rivals, mismatches, bonds that are too strong or too weak."""
     tau = rng.choice((1, 1, 2, 2, 2, 3, 4, 7, 250, 1000)) if rng.random() < 0.5 else 2
     glues = [(it, rng.choice((0, 1, 1, 1, 2, 2, 3, tau % 251, 250))) for it in names(rng, rng.randrange(0, 6))]
     sides = [it for it, _ in glues] + [b"-"] * rng.randrange(1, 4)
     kinds = names(rng, rng.randrange(1, 9))
-    tiles = [(it, *rng.choices(sides, k=4)) for it in kinds]
-    width, height = rng.randrange(1, side), rng.randrange(1, side)
-    x, y = box_around(rng, width, height)
-    seed = rng.randrange(x, x + width), rng.randrange(y, y + height), rng.choice(kinds)
-    return system_lines(tau, glues, tiles, (x, y, x + width - 1, y + height - 1), seed)
+    return system_of(rng, tau, glues, sides, kinds, range(1, side))
 
 
 def shape(rng, many, width, height):
@@ -127,11 +132,7 @@ def rivals_system(rng, side=24):
     glues = [(it, rng.choice((1, tau, tau, 2))) for it in names(rng, rng.randrange(1, 4))]
     sides = [it for it, _ in glues] * 3 + [b"-"]
     kinds = names(rng, rng.randrange(2, 12))
-    tiles = [(it, *rng.choices(sides, k=4)) for it in kinds]
-    width, height = rng.randrange(2, side), rng.randrange(2, side)
-    x, y = box_around(rng, width, height)
-    seed = rng.randrange(x, x + width), rng.randrange(y, y + height), rng.choice(kinds)
-    return system_lines(tau, glues, tiles, (x, y, x + width - 1, y + height - 1), seed)
+    return system_of(rng, tau, glues, sides, kinds, range(2, side))
 
 
 def counter_system(rng, side=9):
