@@ -74,7 +74,7 @@ fn take_word(area: &BoxArea, index: usize, word: u64, into: &mut Grid, won: &mut
     }
     let site = site_of_index(area, index);
     let tile = type_of(word);
-    into.put(Place { site, tile });
+    into.put_at(Place { site, tile }, index);
     let number = (word >> 32) as usize;
     if number < 64 {
         won[number] += 1;
