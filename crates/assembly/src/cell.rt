@@ -1,9 +1,9 @@
 // The number of a site in its box.
-ghost use Rattle.std.specs.Prelude.{◌≡◌, ◌<◌};
-ghost use Rattle.atam.specs.Sites.{InBox, IsBox};
-ghost use Rattle.assembly.specs.Cells.{cell_count, site_at};
+ghost use Rattle.std.specs.Prelude.{◌≡◌, ◌<◌, ◌+◌, ◌-◌};
+ghost use Rattle.atam.specs.Sites.{InBox, IsBox, neighbor};
+ghost use Rattle.assembly.specs.Cells.{IsNumberOf, cell_count, site_at};
 
-use atam::{BoxArea, Site};
+use atam::{BoxArea, Side, Site};
 
 /// The number of a site of the box, by rows from the least corner, in a table of the box's sites.
 #[inline(always)]
@@ -28,4 +28,41 @@ pub fn site_of_index(area: &BoxArea, index: usize) -> Site
 {
     let width = area.width() as usize;
     area.site((index % width) as u32, (index / width) as u32)
+}
+
+/// The number of the site on one side of one whose number is known, if it is in the box.
+#[inline(always)]
+pub fn number_beside(area: &BoxArea, site: Site, number: usize, side: Side) -> Option<usize>
+    requires limits { IsBox area.now }
+    requires inside { InBox area.now site }
+    requires within { number < cell_count area.now }
+    requires number { site_at area.now number ≡ site }
+    ensures { IsNumberOf area.now (neighbor site side) result }
+{
+    match side {
+        Side::North => {
+            if site.y == area.y1 {
+                return None;
+            }
+            Some(number + area.width() as usize)
+        }
+        Side::East => {
+            if site.x == area.x1 {
+                return None;
+            }
+            Some(number + 1)
+        }
+        Side::South => {
+            if site.y == area.y0 {
+                return None;
+            }
+            Some(number - area.width() as usize)
+        }
+        Side::West => {
+            if site.x == area.x0 {
+                return None;
+            }
+            Some(number - 1)
+        }
+    }
 }

@@ -7,7 +7,7 @@ mod laws;
 mod seeding;
 mod sequence;
 
-pub use cell::{site_index, site_of_index};
+pub use cell::{number_beside, site_index, site_of_index};
 pub use grid::Grid;
 pub use laws::law_numbers;
 pub use seeding::put_seeds;

@@ -1,15 +1,15 @@
 // The sites of a box that wait for their turn, by their numbers.
 ghost use Rattle.std.specs.Prelude.{ℕ, ◌≡◌, ◌↔◌, ◌<◌, ◌≤◌, slice_index, All, IsTrue, IfSome, IfNone, IfOk};
 ghost use Rattle.atam.specs.declared.limits.TheConstants.{MOST_TAU};
-ghost use Rattle.atam.specs.Sites.{InBox, IsBox, neighbor};
+ghost use Rattle.atam.specs.Sites.{InBox, IsBox};
 ghost use Rattle.atam.specs.Placements.{HasDistinctSites};
 ghost use Rattle.assembly.specs.Cells.{cell_count, site_at};
 ghost use Rattle.atam.specs.TileSystem.{IsType};
 ghost use Rattle.atam.specs.Assembly.{Fits};
 ghost use Rattle.number_set.specs.Numbers.{IsIn};
-ghost use Rattle.replay_order.specs.Inner.Replays.{due_at, given_to, given_beside, Lowers, IsNumberOf, TakesLeast};
+ghost use Rattle.replay_order.specs.Inner.Replays.{due_at, given_to, given_beside, Lowers, TakesLeast};
 
-use assembly::{Grid, site_index, site_of_index};
+use assembly::{Grid, number_beside, site_index, site_of_index};
 use attach_rule::bond;
 use number_set::NumberSet;
 use std::alloc::Global;
@@ -121,42 +121,5 @@ impl WaitingSites {
         ensures { IsTrue result ↔ (0 < slice_index self.now.lacks number) }
     {
         self.lacks[number] > 0
-    }
-}
-
-// The number of the site on one side of another, if it is in the box.
-#[inline(always)]
-fn number_beside(area: &BoxArea, site: Site, number: usize, side: Side) -> Option<usize>
-    requires limits { IsBox area.now }
-    requires inside { InBox area.now site }
-    requires within { number < cell_count area.now }
-    requires number { site_at area.now number ≡ site }
-    ensures { IsNumberOf area.now (neighbor site side) result }
-{
-    match side {
-        Side::North => {
-            if site.y == area.y1 {
-                return None;
-            }
-            Some(number + area.width() as usize)
-        }
-        Side::East => {
-            if site.x == area.x1 {
-                return None;
-            }
-            Some(number + 1)
-        }
-        Side::South => {
-            if site.y == area.y0 {
-                return None;
-            }
-            Some(number - area.width() as usize)
-        }
-        Side::West => {
-            if site.x == area.x0 {
-                return None;
-            }
-            Some(number - 1)
-        }
     }
 }

@@ -1,5 +1,5 @@
 -- The sites where a tile is ready to follow, what the other tiles lack for that, and the sites that are left.
-use Rattle.std.specs.Prelude.{◌≡◌, ◌≢◌, ◌⊎◌, ◌↔◌, ◌<◌, ◌≤◌, ◌+◌, ◌-◌, ℕ, List, Option, Some, None, MatchOption, length, slice_index, if◌then◌else◌}
+use Rattle.std.specs.Prelude.{◌≡◌, ◌≢◌, ◌⊎◌, ◌↔◌, ◌<◌, ◌≤◌, ◌+◌, ◌-◌, ℕ, List, Option, Some, None, length, slice_index, if◌then◌else◌}
 use Rattle.std.specs.Option.{option_map_or}
 use Rattle.atam.specs.declared.site.Side.{Side}
 use Rattle.atam.specs.declared.site.Side.TheVariants.{North, East, South, West}
@@ -67,14 +67,6 @@ given_to sys tiles p d m = if same_site (neighbor p.site d) m then bond sys tile
 -- and so each site beside it
 abbrev pub given_beside : TileSystem → List Place → Place → Site → ℕ
 given_beside sys tiles p m = given_to sys tiles p North m + given_to sys tiles p East m + given_to sys tiles p South m + given_to sys tiles p West m
-
--- the number of a site; none exactly where it isn't in the box
-pub record IsSiteNumber (area : BoxArea) (m : Site) (number : ℕ) : Type 0 where
-  pub within : number < cell_count area
-  pub site : site_at area number ≡ m
-
-abbrev pub IsNumberOf : BoxArea → Site → Option ℕ → Type 0
-IsNumberOf area m found = MatchOption found (¬ InBox area m) (IsSiteNumber area m)
 
 -- the least ready site is taken out
 pub record TakesLeast (old new : Waiting) (m : Site) : Type 0 where

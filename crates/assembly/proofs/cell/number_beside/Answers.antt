@@ -4,10 +4,9 @@ use Rattle.atam.specs.declared.site.Side.TheVariants.{North, East, South, West}
 use Rattle.atam.specs.declared.site.Site.{Site}
 use Rattle.atam.specs.declared.area.BoxArea.{BoxArea}
 use Rattle.atam.specs.Sites.{neighbor}
-use Rattle.assembly.specs.Cells.{cell_count, site_at}
+use Rattle.assembly.specs.Cells.{IsNumberOf, IsSiteNumber, cell_count, site_at}
 use Rattle.assembly.proofs.Cells.{cell_count-most, north_cell, east_cell, south_cell, west_cell, row_left}
-use Rattle.replay_order.specs.Inner.Replays.{IsSiteNumber, IsNumberOf}
-use Rattle.replay_order.proofs.waiting.number_beside.Goals as goal
+use Rattle.assembly.proofs.cell.number_beside.Goals as goal
 
 -- the number on a side
 numbered : (area : BoxArea) (m : Site) (side d : Side) (number given : ℕ) → side ≡ d → given ≡ number → (site_at area number ≡ neighbor m d) × (number < cell_count area) →
