@@ -6,7 +6,6 @@ use Rattle.std.proofs.lemmas.Bool.{eqb-true, ne_eqb, le-leb, leb-true, and_parts
 use Rattle.std.proofs.lemmas.List.{take-append-drop, drop_more, take_all, get_or-take}
 use Rattle.std.proofs.lemmas.List.Elements.{All-cons, All-from_recursion}
 use Rattle.std.proofs.lemmas.List.Sums.{fold_more}
-use Rattle.std.specs.List.{list_all}
 use Rattle.tile_io.specs.declared.fault.Cause.TheVariants.{BadNumber}
 use Rattle.tile_io.specs.Lines.{words_of}
 use Rattle.tile_io.specs.Checks.{◌>>=◌, require, is_digit, are_digits, digits_value, without_minus, starts_with_minus, number_in, number_value, in_range, coordinate, check_line, field, last_of}

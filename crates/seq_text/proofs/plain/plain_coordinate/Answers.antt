@@ -1,6 +1,6 @@
-use Rattle.std.proofs.Common.{rules, ◌≡◌, IfSome, ℕ, ◌+◌, ◌-◌, ◌*◌, ◌<◌, ◌≤◌, ◌^◌, length, List, [], ◌∷◌, ◌++◌, slice_index_or, w8, w32, w64, ℤ, pos, ◌+ℤ◌, ◌-ℤ◌, neg_ℤ, to_z, of_z, sym, subst, arith}
+use Rattle.std.proofs.Common.{◌≡◌, ℕ, ◌<◌, ◌^◌, List, w32, ℤ, pos, ◌-ℤ◌, neg_ℤ, to_z, of_z, sym, subst, arith}
 use Rattle.std.proofs.lemmas.Int.{ints}
-use Rattle.seq_text.specs.Inner.Plain.{IsPlainPlace, StartsWithCoordinate, StartsWithDigits}
+use Rattle.seq_text.specs.Inner.Plain.{StartsWithCoordinate}
 use Rattle.seq_text.proofs.PlainLines.{plain_number, minus_number}
 use Rattle.seq_text.proofs.plain.plain_coordinate.Goals as goal
 

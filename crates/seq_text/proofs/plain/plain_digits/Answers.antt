@@ -1,4 +1,4 @@
-use Rattle.std.proofs.Common.{◌≡◌, ◌≤◌, ◌<◌, ◌^◌, ◌+◌, ◌-◌, ◌*◌, ℕ, true, length, get_or, refl, sym, ap, ◌∙◌, arith, below_more}
+use Rattle.std.proofs.Common.{◌≡◌, ◌≤◌, ◌<◌, ◌^◌, ◌+◌, ◌*◌, true, length, get_or, sym, ap, ◌∙◌, arith, below_more}
 use Rattle.tile_io.specs.Checks.{is_digit}
 use Rattle.tile_io.proofs.Digits.{small_more}
 use Rattle.seq_text.proofs.PlainLines.{digit_bounds, value_none, value_more, small_digits, digits_before}
