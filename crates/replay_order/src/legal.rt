@@ -6,7 +6,7 @@ ghost use Rattle.atam.specs.Growth.{IsLegal};
 ghost use Rattle.replay_order.specs.Legalities.{IsLegalityAnswer, legal_part};
 
 use assembly::{Grid, Sequence, put_seeds};
-use attach_rule::pull;
+use attach_rule::bonds;
 use tile_system::{Placed, System};
 
 /// Whether a sequence is legal, and else what breaks legality first.
@@ -42,7 +42,7 @@ pub fn check_legal(sys: &System, seq: &Sequence, scratch: &mut Grid) -> Legality
         if scratch.at(place.site).is_some() {
             return Legality::SiteTaken { index };
         }
-        let pull = pull(sys, scratch, place.site, place.tile);
+        let pull = bonds(sys, scratch, place.site, place.tile).sum();
         if pull < tau {
             return Legality::TooWeak { index, pull };
         }

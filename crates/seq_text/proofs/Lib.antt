@@ -4,3 +4,4 @@ pub mod Growths
 pub mod HeldLines
 pub mod Printed
 pub mod Scratch
+pub mod PlainLines

@@ -7,6 +7,7 @@ mod kind;
 mod laws;
 mod legality;
 mod places;
+mod plain;
 mod reader;
 mod schedule;
 mod seen;

@@ -1,17 +1,21 @@
 // A growth is read from its text.
-ghost use Rattle.std.specs.Prelude.{◌≡◌, ◌≤◌, ◌<◌, ◌^◌, ◌++◌, ◌∷◌, [], List, true, false, Some, length, is_some, IfOk, OnOk, OnErr};
+ghost use Rattle.std.specs.Prelude.{◌≡◌, ◌≤◌, ◌<◌, ◌^◌, ◌++◌, ◌∷◌, [], List, true, false, Some, length, is_some, IfOk, IfSome, OnOk, OnErr};
 ghost use Rattle.atam.specs.Sites.{InBox};
 ghost use Rattle.atam.specs.Assembly.{Fits};
 ghost use Rattle.atam.specs.Placements.{HasDistinctSites};
 ghost use Rattle.tile_io.specs.NextLine.{IsMark};
+ghost use Rattle.tile_io.specs.Lines.{words_of};
 ghost use Rattle.tile_io.specs.Formats.{ReadsOrStops};
 ghost use Rattle.tile_io.specs.LineReader.{TakesItem};
 ghost use Rattle.atam.specs.TileSystem.{IsType};
 ghost use Rattle.tile_text.specs.Fields.{place_field};
 ghost use Rattle.seq_text.specs.GrowthText.{GrowthItem, sequence_format, grid_format, ReadsSequence, ReadsGrid, names_of, place_fields, place_in, may_stand};
+ghost use Rattle.seq_text.specs.Inner.Kinds.{may_stand_after};
+ghost use Rattle.seq_text.specs.Inner.Plain.{IsPlaceLine};
 ghost use Rattle.seq_text.specs.Inner.SoFar.{HasScratch};
 
 use crate::kind::LineKind;
+use crate::plain::plain_place;
 use assembly::{Grid, Sequence};
 use atam::MOST_TYPES;
 use std::alloc::Global;
@@ -132,6 +136,15 @@ impl<'a> LineReader for GrowthReader<'a> {
         }
     }
 
+    // A `place` line in its plain form that passes its checks. Each other line is left.
+    fn take_plain(&mut self, line: &[u8]) -> Option<Result<bool, LineStop>> {
+        let place = self.read_plain(line)?;
+        match self.hold(place) {
+            Ok(()) => Some(Ok(false)),
+            Err(NoMemory) => Some(Err(LineStop::NoMemory)),
+        }
+    }
+
     fn is_complete(&self) -> bool {
         true
     }
@@ -180,6 +193,33 @@ impl<'a> GrowthReader<'a> {
             return Err(Cause::DoubleSite);
         }
         Ok(place)
+    }
+
+    // The place of a `place` line in its plain form, where the line passes its checks.
+    #[inline(always)]
+    fn read_plain(&self, line: &[u8]) -> Option<Place>
+        requires { HasScratch self.now.system.now self.now.places self.now.scratch }
+        ensures follows { IfSome result (λ _.
+            may_stand_after LineKind.Place self.now.last ≡ true) }
+        ensures place { IfSome result (IsPlaceLine (is_some self.now.scratch)
+            self.now.system.now self.now.places (words_of line.now)) }
+        ensures inside { IfSome result (λ p. InBox self.now.system.now.area p.site) }
+        ensures small { IfSome result (λ p. p.tile.0 < MOST_TYPES) }
+        ensures free { IfSome result (λ p.
+            may_stand (is_some self.now.scratch) self.now.places p.site ≡ true) }
+    {
+        if !LineKind::Place.may_stand(self.last) {
+            return None;
+        }
+        let (site, name) = plain_place(line)?;
+        let tile = self.system.find_type(name)?;
+        if !self.system.area().holds(site) {
+            return None;
+        }
+        if !self.is_free(site) {
+            return None;
+        }
+        Some(Place { site, tile })
     }
 
     // Whether a tile may be placed at a site after those that were read.

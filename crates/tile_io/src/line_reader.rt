@@ -1,5 +1,5 @@
 // The kept lines of a text, one after another.
-ghost use Rattle.std.specs.Prelude.{◌≡◌, ◌≤◌, List, [], true, length, find, bytes_eq, option_map};
+ghost use Rattle.std.specs.Prelude.{◌≡◌, ◌≤◌, List, [], true, length, find, bytes_eq, option_map, IfSome, IfNone};
 ghost use Rattle.tile_io.specs.Lines.{words_of, lines_from, mark_after};
 ghost use Rattle.tile_io.specs.NextLine.{IsMark};
 ghost use Rattle.tile_io.specs.Formats.{ReadsOrStops};
@@ -9,7 +9,7 @@ ghost use Rattle.tile_io.specs.Inner.Headers.{first_cause};
 
 use crate::cut_line::LineWords;
 use crate::fault::{Cause, TextFault, TextStop};
-use crate::limits::MOST_INPUT;
+use crate::limits::{LONGEST_LINE, MOST_INPUT};
 use crate::mark::Mark;
 use crate::reading::{end_number, next_line};
 
@@ -83,6 +83,22 @@ pub trait LineReader {
             ((row (context self.old) kind).fields items words.now) result }
         ensures context { context self.new ≡ context self.old };
 
+    /// Takes a line in a form that the reader knows without cutting it into words, and tells
+    /// whether it is the text's own end line. `None` leaves the line to `take_line`, as each line
+    /// where the reader knows no such form.
+    fn take_plain(&mut self, line: &[u8]) -> Option<Result<bool, LineStop>>
+        requires { (items : List Item) × holds self.old items }
+        ensures taken { IfSome result (λ done. (items : List Item) → holds self.old items →
+            TakesItem (table (context self.old)).is_end (holds self.new) items
+            (check_line (table (context self.old)).keywords items (words_of line.now)) done) }
+        ensures left { IfNone result ((items : List Item) → holds self.old items →
+            holds self.new items) }
+        ensures context { context self.new ≡ context self.old }
+    {
+        let _ = line;
+        None
+    }
+
     /// Whether the input may end here.
     fn is_complete(&self) -> bool
         ensures { (items : List Item) → holds self.now items →
@@ -113,6 +129,22 @@ pub trait LineReader {
         }
         self.take_fields(kind, words)
     }
+
+    /// Takes a line by its bytes, and tells whether it is the text's own end line.
+    final fn take_bytes(&mut self, line: &[u8]) -> Result<bool, LineStop>
+        requires short { length line.now ≤ LONGEST_LINE }
+        requires held { (items : List Item) × holds self.old items }
+        ensures taken { (items : List Item) → holds self.old items →
+            TakesItem (table (context self.old)).is_end (holds self.new) items
+            (check_line (table (context self.old)).keywords items (words_of line.now)) result }
+        ensures context { context self.new ≡ context self.old }
+    {
+        if let Some(done) = self.take_plain(line) {
+            return done;
+        }
+        let words = LineWords::cut(line);
+        self.take_line(&words)
+    }
 }
 
 /// Reads the lines of a text, up to its own end line or the end of the input.
@@ -142,8 +174,7 @@ pub fn read_text<R: LineReader>(reader: &mut R, text: &[u8], from: Mark) -> Resu
                 }));
             }
             Ok(Some(line)) => {
-                let words = LineWords::cut(&text[line.start..line.end]);
-                match reader.take_line(&words) {
+                match reader.take_bytes(&text[line.start..line.end]) {
                     Ok(true) => return Ok(line.next),
                     Ok(false) => {
                         mark = line.next;

@@ -22,17 +22,17 @@ returns-then-is_some-clause-legal c =
     in
     (λ e. absurd (cc e), λ legal. absurd (taken_illegal c.args.sys.now c.args.seq.now c.loop-index.index taken legal))
 
-pub pull-pull-requires-clause-kind : goal.pull-pull-requires-clause-kind
-pull-pull-requires-clause-kind c =
+pub bonds-requires-clause-kind : goal.bonds-requires-clause-kind
+bonds-requires-clause-kind c =
     All-slice_get (λ p. IsType c.args.sys.now p.tile) c.args.seq.now c.loop-index.index c.get-place.result c.requires.fits.types c.get-place.ensures
 
-pub pull-pull-requires-clause-near : goal.pull-pull-requires-clause-near
-pull-pull-requires-clause-near c =
+pub bonds-requires-clause-near : goal.bonds-requires-clause-near
+bonds-requires-clause-near c =
     near_inside c.args.sys.now.area c.get-place.result.site c.tau-tau.ensures.valid.box
     (All-slice_get (λ p. InBox c.args.sys.now.area p.site) c.args.seq.now c.loop-index.index c.get-place.result c.requires.fits.sites c.get-place.ensures)
 
-pub pull-pull-requires-clause-fits : goal.pull-pull-requires-clause-fits
-pull-pull-requires-clause-fits c =
+pub bonds-requires-clause-fits : goal.bonds-requires-clause-fits
+bonds-requires-clause-fits c =
     Fits-part c.args.sys.now c.loop-index.scratch.tiles c.args.seq.now
     (λ q contains. part_take c.args.seq.now c.loop-index.index q (c.loop-index.invariant.placed.whole q contains)) c.requires.fits
 
@@ -40,7 +40,7 @@ pub returns-then-pull-tau-clause-answer : goal.returns-then-pull-tau-clause-answ
 returns-then-pull-tau-clause-answer c =
     first_weak c.args.sys.now c.args.seq.now c.loop-index.scratch.tiles c.loop-index.index c.get-place.result c.loop-index.invariant.seeded c.get-place.ensures
     c.loop-index.invariant.legal c.loop-index.invariant.placed c.tau-tau.ensures.valid.distinct_seeds c.at.ensures.distinct
-    c.at.result c.at.ensures.tile (sym c.is_some.ensures ∙ c.if-is_some.false) c.pull-pull.result c.pull-pull.ensures.value
+    c.at.result c.at.ensures.tile (sym c.is_some.ensures ∙ c.if-is_some.false) c.sum-pull.result (c.sum-pull.ensures.sum ∙ c.bonds.ensures.pull)
     (omega (arith, c.if-pull-tau.true, c.tau-tau.ensures.tau))
 
 pub returns-then-pull-tau-clause-legal : goal.returns-then-pull-tau-clause-legal
@@ -48,10 +48,10 @@ returns-then-pull-tau-clause-legal c =
     let is_weak =
     first_weak c.args.sys.now c.args.seq.now c.loop-index.scratch.tiles c.loop-index.index c.get-place.result c.loop-index.invariant.seeded c.get-place.ensures
     c.loop-index.invariant.legal c.loop-index.invariant.placed c.tau-tau.ensures.valid.distinct_seeds c.at.ensures.distinct
-    c.at.result c.at.ensures.tile (sym c.is_some.ensures ∙ c.if-is_some.false) c.pull-pull.result c.pull-pull.ensures.value
+    c.at.result c.at.ensures.tile (sym c.is_some.ensures ∙ c.if-is_some.false) c.sum-pull.result (c.sum-pull.ensures.sum ∙ c.bonds.ensures.pull)
     (omega (arith, c.if-pull-tau.true, c.tau-tau.ensures.tau))
     in
-    (λ e. absurd (cc e), λ legal. absurd (weak_illegal c.args.sys.now c.args.seq.now c.loop-index.index c.pull-pull.result is_weak legal))
+    (λ e. absurd (cc e), λ legal. absurd (weak_illegal c.args.sys.now c.args.seq.now c.loop-index.index c.sum-pull.result is_weak legal))
 
 pub put-requires-clause-inside : goal.put-requires-clause-inside
 put-requires-clause-inside c =
@@ -73,7 +73,7 @@ loop-index-preserved c =
       legal =
           legal_more c.args.sys.now c.args.seq.now c.loop-index.scratch.tiles c.loop-index.index c.get-place.result c.loop-index.invariant.seeded c.get-place.ensures
           c.loop-index.invariant.legal c.loop-index.invariant.placed c.tau-tau.ensures.valid.distinct_seeds c.at.ensures.distinct
-          c.at.result c.at.ensures.tile (sym c.is_some.ensures ∙ c.if-is_some.false) c.pull-pull.result c.pull-pull.ensures.value kind
+          c.at.result c.at.ensures.tile (sym c.is_some.ensures ∙ c.if-is_some.false) c.sum-pull.result (c.sum-pull.ensures.sum ∙ c.bonds.ensures.pull) kind
           (omega (arith, c.if-pull-tau.false, c.tau-tau.ensures.tau));
       placed =
           SamePlacements-more c.args.seq.now c.loop-index.index c.get-place.result c.loop-index.scratch.tiles c.put.new.self.tiles c.get-place.ensures

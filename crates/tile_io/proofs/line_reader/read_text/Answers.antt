@@ -49,9 +49,9 @@ returns-in-Ok-true-clause-read g c =
     let mark = c.lines.mark in
     let line = c.in-Ok-Some.line in
     let before = c.lines.invariant in
-    let Holds = g.R.LineReader.holds c.take_line.new.self in
+    let Holds = g.R.LineReader.holds c.take_bytes.new.self in
     let next = MatchOption-at_some (AreSkipped (lines_from text mark)) (IsNextLine text mark) line c.in-Ok-Some.field-0-is c.in-Ok-Some.ensures in
-    let took = takes_here table before.context Holds before.items c.cut-words.ensures (c.in-Ok-true.is ∙ ap (λ b. Ok b) c.in-Ok-true.field-0-test) (c.take_line.ensures.taken before.items before.held) in
+    let took = takes_here table before.context Holds before.items refl (c.in-Ok-true.is ∙ ap (λ b. Ok b) c.in-Ok-true.field-0-test) (c.take_bytes.ensures.taken before.items before.held) in
     end_step (table (g.R.LineReader.context c.args.reader.now)) text c.args.from mark before.items line before.progress next Holds took
 
 pub lines-smaller : goal.lines-smaller
@@ -72,11 +72,11 @@ lines-preserved g c =
     let mark = c.lines.mark in
     let line = c.in-Ok-Some.line in
     let before = c.lines.invariant in
-    let Holds = g.R.LineReader.holds c.take_line.new.self in
+    let Holds = g.R.LineReader.holds c.take_bytes.new.self in
     let next = MatchOption-at_some (AreSkipped (lines_from text mark)) (IsNextLine text mark) line c.in-Ok-Some.field-0-is c.in-Ok-Some.ensures in
-    let took = takes_here table before.context Holds before.items c.cut-words.ensures (c.in-Ok-false.is ∙ ap (λ b. Ok b) c.in-Ok-false.field-0-test) (c.take_line.ensures.taken before.items before.held) in
+    let took = takes_here table before.context Holds before.items refl (c.in-Ok-false.is ∙ ap (λ b. Ok b) c.in-Ok-false.field-0-test) (c.take_bytes.ensures.taken before.items before.held) in
     record {
-      context = c.take_line.ensures.context ∙ before.context;
+      context = c.take_bytes.ensures.context ∙ before.context;
       items = before.items ++ took.0 ∷ [];
       held = took.3;
       progress = item_step (table (g.R.LineReader.context c.args.reader.now)) text c.args.from mark before.items line before.progress next Holds took;
@@ -91,10 +91,10 @@ returns-in-Err-Fault-clause-read g c =
     let mark = c.lines.mark in
     let line = c.in-Ok-Some.line in
     let before = c.lines.invariant in
-    let Holds = g.R.LineReader.holds c.take_line.new.self in
+    let Holds = g.R.LineReader.holds c.take_bytes.new.self in
     let next = MatchOption-at_some (AreSkipped (lines_from text mark)) (IsNextLine text mark) line c.in-Ok-Some.field-0-is c.in-Ok-Some.ensures in
-    let took = takes_here table before.context Holds before.items c.cut-words.ensures (c.in-Err-Fault.is ∙ ap (λ s. Err s) c.in-Err-Fault.field-0-is) (c.take_line.ensures.taken before.items before.held) in
+    let took = takes_here table before.context Holds before.items refl (c.in-Err-Fault.is ∙ ap (λ s. Err s) c.in-Err-Fault.field-0-is) (c.take_bytes.ensures.taken before.items before.held) in
     let fault = fault_step (table (g.R.LineReader.context c.args.reader.now)) text c.args.from mark before.items line before.progress next Holds c.lines.missing c.in-Err-Fault.cause before.missing took in
-    let told = c.first_cause-cause.ensures ∙ ap (λ b. first_cause b c.lines.missing c.in-Err-Fault.cause) (c.has_header.ensures ∙ ap (λ x. (table x).has_header) (c.take_line.ensures.context ∙ before.context)) in
+    let told = c.first_cause-cause.ensures ∙ ap (λ b. first_cause b c.lines.missing c.in-Err-Fault.cause) (c.has_header.ensures ∙ ap (λ x. (table x).has_header) (c.take_bytes.ensures.context ∙ before.context)) in
     let Told : Cause → Type 0 = λ cause. Fault (table_format (table (g.R.LineReader.context c.args.reader.now))) text c.args.from line.number cause in
     subst Told (sym told) fault

@@ -1,0 +1,178 @@
+-- A `place` line in its plain form reads as its place.
+use Rattle.std.proofs.Common.{◌≡◌, ℕ, zero, suc, ◌+◌, ◌-◌, ◌*◌, ◌^◌, ◌≤◌, ◌<◌, ◌==◌, Bool, true, false, cond, List, [], ◌∷◌, ◌++◌, length, take, drop, get_or, codes, pos, Option, Some, None, Ok, refl, sym, ap, subst, ◌∙◌, arith, length-take-le, length-drop}
+use Rattle.std.specs.Prelude.{ℤ, neg_ℤ, int_le, nat_le, find, bytes_eq, option_map}
+use Rattle.std.proofs.Math.Nat.{pow-le-pow_right}
+use Rattle.std.proofs.lemmas.Bool.{eqb-true, ne_eqb, le-leb, leb-true, and_parts}
+use Rattle.std.proofs.lemmas.List.{take-append-drop, drop_more, take_all, get_or-take}
+use Rattle.std.proofs.lemmas.List.Elements.{All-cons, All-from_recursion}
+use Rattle.std.proofs.lemmas.List.Sums.{fold_more}
+use Rattle.tile_io.specs.declared.fault.Cause.TheVariants.{BadNumber}
+use Rattle.tile_io.specs.Lines.{words_of}
+use Rattle.tile_io.specs.Checks.{◌>>=◌, require, is_digit, are_digits, digits_value, without_minus, starts_with_minus, number_in, number_value, in_range, coordinate, check_line, field, last_of}
+use Rattle.tile_io.specs.declared.limits.TheConstants.{LEAST_COORDINATE, GREATEST_COORDINATE}
+use Rattle.tile_io.proofs.Checking.{bind_ok, require_ok}
+use Rattle.tile_io.proofs.Cuts.{is_space, is_newline}
+use Rattle.tile_io.proofs.Digits.{digits_parts, digits_each, digit_at, number_of_digits}
+use Rattle.tile_io.proofs.Spelled.{IsWord, words_of-join}
+use Rattle.tile_io.proofs.WordsSpelled.{word_from}
+use Rattle.atam.specs.declared.site.Site.{Site}
+use Rattle.atam.specs.TileSystem.{is_name}
+use Rattle.atam.specs.declared.place.TypeId.{TypeId}
+use Rattle.atam.specs.declared.place.Place.{Place}
+use Rattle.atam.specs.TileSystem.{TileSystem}
+use Rattle.tile_system.specs.Names.{type_named}
+use Rattle.assembly.specs.Grids.{TileGrid}
+use Rattle.tile_io.proofs.Rows.{check_line_by}
+use Rattle.tile_text.specs.Fields.{site_field, place_field}
+use Rattle.tile_text.specs.SystemText.{is_in_box}
+use Rattle.seq_text.specs.declared.kind.LineKind.{LineKind}
+use Rattle.seq_text.specs.declared.kind.LineKind.TheVariants as kinds
+use Rattle.seq_text.specs.GrowthText.{GrowthItem, growth_table, place_row, place_fields, place_in, places_of, names_of, may_stand, follows_place}
+use Rattle.seq_text.specs.GrowthText.GrowthItem.{PlaceLine, ClosedLine, UniqueLine}
+use Rattle.seq_text.specs.Inner.Kinds.{kind_of, may_stand_after}
+use Rattle.seq_text.specs.Inner.SoFar.{HoldsLines}
+use Rattle.seq_text.proofs.Fields.{place_of_found}
+use Rattle.seq_text.proofs.Growths.{row_named}
+use Rattle.tile_text.proofs.SystemSpelled.{keyword_word, name_word}
+use Rattle.seq_text.specs.Inner.Plain.{StartsWithDigits, StartsWithCoordinate, IsPlainPlace, IsPlaceLine}
+
+-- what a digit is
+pub digit_bounds : (b : ℕ) → is_digit b ≡ true → (48 ≤ b) × (b ≤ 57)
+digit_bounds b e = let p = and_parts (nat_le 48 b) (nat_le b 57) e in (leb-true 48 b p.0, leb-true b 57 p.1)
+
+-- one digit more
+pub value_more : (bytes : List ℕ) (i size : ℕ) → i < length bytes → digits_value (take i bytes) ≡ size → digits_value (take (i + 1) bytes) ≡ 10 * size + (get_or bytes i 0 - 48)
+unfolding digits_value
+value_more bytes i size within value = fold_more (λ n digit. 10 * n + (digit - 48)) 0 bytes i 0 within ∙ ap (λ n. 10 * n + (get_or bytes i 0 - 48)) value
+
+pub value_none : (bytes : List ℕ) → digits_value (take 0 bytes) ≡ 0
+unfolding digits_value
+value_none bytes = refl
+
+-- a number of so few digits is small
+pub small_digits : (size i : ℕ) → size < 10 ^ i → i ≤ 6 → size < 10 ^ 6
+small_digits size i small few = let most : 10 ^ i ≤ 10 ^ 6 = pow-le-pow_right (omega arith) few in omega (arith, small, most)
+
+-- the digits in front of a space
+pub digits_before : (bytes : List ℕ) (i size : ℕ) → 0 < i → i ≤ 6 → i < length bytes → get_or bytes i 0 ≡ 32 → ((k : ℕ) → k < i → is_digit (get_or bytes k 0) ≡ true) →
+    digits_value (take i bytes) ≡ size → size < 10 ^ i → StartsWithDigits bytes size (take (length bytes - (i + 1)) (drop (i + 1) bytes))
+digits_before bytes i size some few within space digits value small =
+    let word = take i bytes in
+    let rest = drop (i + 1) bytes in
+    let size_is : length word ≡ i = length-take-le i bytes (omega (arith, within)) in
+    let back : drop i bytes ≡ 32 ∷ rest = drop_more bytes i 0 within ∙ ap (λ b. b ∷ rest) space in
+    let front : bytes ≡ word ++ 32 ∷ rest = sym (take-append-drop i bytes) ∙ ap (λ l. word ++ l) back in
+    let Starts : List ℕ → Type 0 = λ l. StartsWithDigits bytes size l in
+    subst Starts (sym (take_all (length bytes - (i + 1)) rest (omega (arith, length-drop (i + 1) bytes)))) (record {
+      word = word;
+      cut = front;
+      digits = digits_each word (omega (arith, size_is, some)) (omega (arith, size_is, few)) (λ k less. let before : k < i = omega (arith, less, size_is) in ap is_digit (get_or-take i bytes k 0 before) ∙ digits k before);
+      value = value;
+      small = small_digits size i small few;
+    })
+
+in_bounds : (word : List ℕ) (z : ℤ) → are_digits (without_minus word) ≡ true → number_value word ≡ z → int_le LEAST_COORDINATE z ≡ true → int_le z GREATEST_COORDINATE ≡ true → coordinate word ≡ Ok z
+in_bounds word z digits value low high = sym (number_of_digits _ _ word digits) ∙ ap (in_range LEAST_COORDINATE GREATEST_COORDINATE) value ∙ rw (low, high) refl
+
+unsigned : (word : List ℕ) → are_digits word ≡ true → starts_with_minus word ≡ false
+unsigned word digits =
+    let p = digits_parts word digits in
+    let some : 1 ≤ length word = p.0 in
+    let first = digit_at word p.2 0 (omega (arith, some)) in
+    let low : 48 ≤ get_or word 0 0 = first.0 in
+    ne_eqb (get_or word 0 0) 45 (λ e. omega (arith, low, e))
+
+-- a number of few digits is a coordinate
+pub plain_number : (bytes rest : List ℕ) (size : ℕ) → StartsWithDigits bytes size rest → StartsWithCoordinate bytes (pos size) rest
+plain_number bytes rest size h =
+    let no_minus = unsigned h.word h.digits in
+    let small : size < 10 ^ 6 = h.small in
+    let digits : are_digits (without_minus h.word) ≡ true = rw no_minus h.digits in
+    let value : number_value h.word ≡ pos size = rw no_minus (ap (λ n. pos n) h.value) in
+    record { word = h.word; cut = h.cut; reads = in_bounds h.word (pos size) digits value refl (le-leb size 1000000 (omega (arith, small))) }
+
+minus_low : (size : ℕ) → size < 10 ^ 6 → int_le LEAST_COORDINATE (neg_ℤ (pos size)) ≡ true
+minus_low zero small = refl
+minus_low (suc n) small = le-leb n 999999 (omega (arith, small))
+
+minus_high : (size : ℕ) → int_le (neg_ℤ (pos size)) GREATEST_COORDINATE ≡ true
+minus_high zero = refl
+minus_high (suc n) = refl
+
+-- so is its opposite
+pub minus_number : (digits rest : List ℕ) (size : ℕ) → StartsWithDigits digits size rest → StartsWithCoordinate (45 ∷ digits) (neg_ℤ (pos size)) rest
+minus_number digits rest size h = record {
+  word = 45 ∷ h.word;
+  cut = ap (λ l. 45 ∷ l) h.cut;
+  reads = in_bounds (45 ∷ h.word) (neg_ℤ (pos size)) h.digits (ap (λ n. neg_ℤ (pos n)) h.value) (minus_low size h.small) (minus_high size);
+}
+
+digits_word : (word : List ℕ) → are_digits word ≡ true → IsWord word
+digits_word word e = let p = digits_parts word e in word_from is_digit word refl refl (let some : 1 ≤ length word = p.0 in omega (arith, some)) p.2
+
+number_word_by : (b : ℕ) (bs : List ℕ) (minus : Bool) → (b == 45) ≡ minus → are_digits (cond minus bs (b ∷ bs)) ≡ true → IsWord (b ∷ bs)
+number_word_by b bs true e digits =
+    let h = digits_word bs digits in
+    let Word : ℕ → Type 0 = λ a. IsWord (a ∷ bs) in
+    subst Word (sym (eqb-true b 45 e)) (record {
+      some = omega arith;
+      no_space = All-cons (λ c. is_space c ≡ false) 45 bs refl h.no_space;
+      no_newline = All-cons (λ c. is_newline c ≡ false) 45 bs refl h.no_newline;
+    })
+number_word_by b bs false e digits = digits_word (b ∷ bs) digits
+
+number_digits : (least most : ℤ) (word : List ℕ) (z : ℤ) → number_in least most word ≡ Ok z → are_digits (without_minus word) ≡ true
+unfolding number_in
+number_digits least most word z e =
+    let one = bind_ok (require (are_digits (without_minus word)) BadNumber) (λ _. in_range least most (number_value word)) z e in
+    require_ok (are_digits (without_minus word)) BadNumber one.0 one.1
+
+-- a number field that reads is one word
+number_word : (least most : ℤ) (word : List ℕ) (z : ℤ) → number_in least most word ≡ Ok z → IsWord word
+number_word least most [] z e = let none = number_digits least most [] z e in absurd (cc none)
+number_word least most (b ∷ bs) z e = number_word_by b bs (b == 45) refl (number_digits least most (b ∷ bs) z e)
+
+module _ (line : List ℕ) (m : Site) (name : List ℕ) (plain : IsPlainPlace line m name) where
+  -- its words
+  pub plain_words : is_name name ≡ true → words_of line ≡ codes "place" ∷ plain.column ∷ plain.row ∷ name ∷ []
+  plain_words named =
+      let words = codes "place" ∷ plain.column ∷ plain.row ∷ name ∷ [] in
+      let each = All-from_recursion IsWord words (keyword_word (codes "place") (omega arith) refl, (number_word _ _ plain.column m.x plain.x, (number_word _ _ plain.row m.y plain.y, (name_word name named, tt)))) in
+      ap words_of plain.spelled ∙ words_of-join words each
+
+  -- and its site
+  pub plain_site : site_field plain.column plain.row ≡ Ok m
+  unfolding site_field
+  plain_site = rw (plain.x, plain.y) refl
+
+-- the checks of a `place` line in its plain form
+pub plain_line : (distinct : Bool) (sys : TileSystem) (earlier : List Place) (line : List ℕ) (m : Site) (name : List ℕ) (t : TypeId) → IsPlainPlace line m name → is_name name ≡ true → type_named sys.types name ≡ Some t.0 →
+    is_in_box sys.area m ≡ true → may_stand distinct earlier m ≡ true → IsPlaceLine distinct sys earlier (words_of line) (record { site = m; tile = t })
+unfolding place_in
+plain_line distinct sys earlier line m name t plain named found inside free =
+    let p : Place = record { site = m; tile = t } in
+    let Reads : List (List ℕ) → Type 0 = λ words. IsPlaceLine distinct sys earlier words p in
+    let read : place_field (names_of sys) plain.column plain.row name ≡ Ok p =
+    place_of_found sys plain.column plain.row name t named found ∙ ap (λ s. s >>= (λ n. Ok (record { site = n; tile = t }))) (plain_site line m name plain) in
+    subst Reads (sym (plain_words line m name plain named)) (record { count = refl; keyword = refl; reads = rw (read, inside, free) refl })
+
+place_follows : (last : Option GrowthItem) → may_stand_after kinds.Place (option_map kind_of last) ≡ true → follows_place last ≡ true
+place_follows None e = refl
+place_follows (Some (PlaceLine p)) e = refl
+place_follows (Some ClosedLine) e = absurd (cc e)
+place_follows (Some UniqueLine) e = absurd (cc e)
+
+module _ (distinct : Bool) (sys : TileSystem) (places : List Place) (scratch : Option TileGrid) (last : Option LineKind) (items : List GrowthItem) (held : HoldsLines sys places scratch last items) where
+  -- a `place` line that passes its checks is taken as its place
+  pub place_taken : (words : List (List ℕ)) (p : Place) → IsPlaceLine distinct sys places words p → may_stand_after kinds.Place last ≡ true → check_line (growth_table distinct sys).keywords items words ≡ Ok (PlaceLine p)
+  unfolding place_fields growth_table
+  place_taken words p line stands =
+      let Stands : Option LineKind → Type 0 = λ l. may_stand_after kinds.Place l ≡ true in
+      let keywords = (growth_table distinct sys).keywords in
+      let row = place_row distinct sys in
+      let Found : List ℕ → Type 0 = λ word. Some row ≡ find (λ r. bytes_eq word r.word) keywords in
+      let found : Some row ≡ find (λ r. bytes_eq (field words 0) r.word) keywords = subst Found (sym line.keyword) (row_named distinct sys (codes "place")) in
+      let some : 0 < length words = omega (arith, line.count) in
+      let count : (length words == 4) ≡ true = rw line.count refl in
+      let read : place_in distinct sys (places_of items) words ≡ Ok p = ap (λ l. place_in distinct sys l words) (sym held.places_are) ∙ line.reads in
+      check_line_by keywords row items words some found count (place_follows (last_of items) (subst Stands held.kind stands)) refl ∙ rw read refl

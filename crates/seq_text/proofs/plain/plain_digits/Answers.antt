@@ -1,0 +1,47 @@
+use Rattle.std.proofs.Common.{◌≡◌, ◌≤◌, ◌<◌, ◌^◌, ◌+◌, ◌*◌, true, length, get_or, sym, ap, ◌∙◌, arith, below_more}
+use Rattle.tile_io.specs.Checks.{is_digit}
+use Rattle.tile_io.proofs.Digits.{small_more}
+use Rattle.seq_text.proofs.PlainLines.{digit_bounds, value_none, value_more, small_digits, digits_before}
+use Rattle.seq_text.proofs.plain.plain_digits.Goals as goal
+
+pub loop-index-init : goal.loop-index-init
+loop-index-init c = record { within = omega arith; few = omega arith; digits = λ k less. absurd (omega (arith, less)); value = value_none c.args.bytes.now; small = omega arith }
+
+pub returns-then-index-gt0 : goal.returns-then-index-gt0
+returns-then-index-gt0 c =
+    let i = c.loop-index.index in
+    let before = c.loop-index.invariant in
+    let some : 0 < c.loop-index.index = omega (arith, c.if-index-gt0.true) in
+    let few : c.loop-index.index ≤ 6 = omega (arith, c.loop-index-test.true, c.min-index-end.ensures) in
+    let within : c.loop-index.index < length c.args.bytes.now = omega (arith, c.loop-index-test.true, c.min-index-end.ensures) in
+    digits_before c.args.bytes.now i c.loop-index.size some few within c.if-byte-eq32.true before.digits before.value before.small
+
+pub overflow_mul-size : goal.overflow_mul-size
+overflow_mul-size c =
+    let few : c.loop-index.index ≤ 6 = omega (arith, c.loop-index-test.true, c.min-index-end.ensures) in
+    let small : c.loop-index.size < 10 ^ 6 = small_digits c.loop-index.size c.loop-index.index c.loop-index.invariant.small few in
+    omega (arith, small)
+
+pub overflow_add-size : goal.overflow_add-size
+overflow_add-size c =
+    let few : c.loop-index.index ≤ 6 = omega (arith, c.loop-index-test.true, c.min-index-end.ensures) in
+    let small : c.loop-index.size < 10 ^ 6 = small_digits c.loop-index.size c.loop-index.index c.loop-index.invariant.small few in
+    let digit : is_digit (get_or c.args.bytes.now c.loop-index.index 0) ≡ true = sym c.is_digit.ensures ∙ c.if-not-is_digit.false in
+    let most : get_or c.args.bytes.now c.loop-index.index 0 ≤ 57 = (digit_bounds _ digit).1 in
+    omega (arith, small, most, c.from.ensures)
+
+pub loop-index-preserved : goal.loop-index-preserved
+loop-index-preserved c =
+    let i = c.loop-index.index in
+    let before = c.loop-index.invariant in
+    let few : c.loop-index.index ≤ 6 = omega (arith, c.loop-index-test.true, c.min-index-end.ensures) in
+    let within : c.loop-index.index < length c.args.bytes.now = omega (arith, c.loop-index-test.true, c.min-index-end.ensures) in
+    let digit : is_digit (get_or c.args.bytes.now c.loop-index.index 0) ≡ true = sym c.is_digit.ensures ∙ c.if-not-is_digit.false in
+    let most : get_or c.args.bytes.now c.loop-index.index 0 ≤ 57 = (digit_bounds _ digit).1 in
+    record {
+      within = omega (arith, within);
+      few = omega (arith, few);
+      digits = below_more _ _ before.digits digit;
+      value = value_more c.args.bytes.now i c.loop-index.size within before.value ∙ ap (λ d. 10 * c.loop-index.size + d) (sym c.from.ensures);
+      small = small_more c.loop-index.size i c.from.result before.small (omega (arith, most, c.from.ensures));
+    }
