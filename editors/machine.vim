@@ -14,6 +14,8 @@ syntax match machineNumber /\%(^ *\%(machine\|cells\|rows\|head\) \+\)\@<=-\?\d\
 " The name that a line declares, and the move of a rule.
 syntax match machineName /\%(^ *\%(state\|symbol\) \+\)\@<=[A-Za-z0-9_]\{1,8}\ze *$/
 syntax match machineMove /\%(^ *rule \+\S\+ \+\S\+ \+\S\+ \+\S\+ \+\)\@<=[LRS]\ze *$/
+" A remark behind words, where none may stand.
+syntax match machineError /\%(^ *[^ #].*\)\@<=#.*$/
 syntax match machineRemark /^ *#.*$/ contains=machineTodo
 syntax keyword machineTodo TODO FIXME contained
 

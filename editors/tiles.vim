@@ -11,13 +11,15 @@ syntax match tilesError /^ *[^ #]\S*/
 syntax match tilesError /[\t\r]/
 syntax match tilesKeyword /^ *\zs\%(tiles\|tau\|glue\|tile\|box\|seed\|end\)\ze\%( \|$\)/
 syntax match tilesKeyword /^ *\zs\%(place\|look\|claim\|split\|join\)\ze\%( \|$\)/
-syntax match tilesAnswer /^ *\zs\%(closed\|unique\|legal\|stuck\|saw\|won\|held\|joined\|refused\)\ze\%( \|$\)/
+syntax match tilesAnswer /^ *\zs\%(closed\|unique\|legal\|stuck\|saw\|won\|total\|held\|joined\|refused\)\ze\%( \|$\)/
 syntax match tilesNumber /\%(^\| \)\zs-\?\d\{1,10}\ze\%( \|$\)/
 syntax match tilesNone / \zs-\ze\%( \|$\)/
 syntax match tilesYes /\<\%(yes\|terminal\)\>/
 syntax match tilesNo /\<\%(no\|clipped\)\>/
 " The name that a line declares.
 syntax match tilesName /\%(^ *\%(glue\|tile\) \+\)\@<=[A-Za-z0-9_:.]\{1,40}\ze\%( \|$\)/
+" A remark behind words, where none may stand.
+syntax match tilesError /\%(^ *[^ #].*\)\@<=#.*$/
 syntax match tilesRemark /^ *#.*$/ contains=tilesTodo
 syntax keyword tilesTodo TODO FIXME contained
 
