@@ -9,7 +9,7 @@ ghost use Rattle.frontier_seat.specs.Inner.Pickers.{IsPickerOf};
 
 use crate::Chooser;
 use assembly::Grid;
-use attach_rule::{TypeList, glues_beside};
+use attach_rule::TypeList;
 use std::alloc::Global;
 use tile_system::{Beside, NoMemory, Site, System, TypeId};
 use type_index::{FacingCache, TypeIndex};
@@ -52,8 +52,9 @@ impl Picker {
         ensures open { IsOpenType sys.now grid.now.tiles site result }
         ensures picker { IsPickerOf sys.now self.new }
     {
-        let glues = glues_beside(sys, grid, site, beside);
-        let found = self.cache.found(sys, &self.index, &glues);
+        let found = self
+            .cache
+            .found_beside(sys, &self.index, grid, site, beside);
         if found.count > 2 {
             return self.pick_listed(sys, grid, site, chooser);
         }

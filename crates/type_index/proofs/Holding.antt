@@ -1,5 +1,5 @@
 -- Types that are held, as lists and as the first ones.
-use Rattle.std.proofs.Common.{◌≡◌, ◌≤◌, ◌<◌, ◌++◌, ◌∙◌, ℕ, refl, sym, ap, subst, inl, inr, arith, List, [], ◌∷◌, Option, None, Contains, zero-le}
+use Rattle.std.proofs.Common.{◌≡◌, ◌≤◌, ◌<◌, ◌++◌, ◌∙◌, ℕ, get_or, refl, sym, ap, subst, inl, inr, arith, List, [], ◌∷◌, Option, None, Contains, zero-le}
 use Rattle.std.proofs.lemmas.Bool.{cases_lt}
 use Rattle.std.proofs.lemmas.List.{length-append}
 use Rattle.std.proofs.lemmas.List.Elements.{All-nil, All-push, Contains-append_left, Contains-append_right}
@@ -9,12 +9,18 @@ use Rattle.atam.specs.declared.site.Side.TheVariants.{North, East, South, West}
 use Rattle.atam.specs.declared.place.GlueId.{GlueId}
 use Rattle.atam.specs.declared.place.TypeId.{TypeId}
 use Rattle.atam.specs.TileSystem.{TileSystem, side_glue}
+use Rattle.atam.specs.declared.place.Place.{Place}
+use Rattle.atam.specs.declared.site.Site.{Site}
+use Rattle.atam.specs.Placements.{tile_at}
 use Rattle.atam.specs.Assembly.{interaction}
+use Rattle.atam.specs.Growth.{IsCandidate}
 use Rattle.atam.proofs.Bonds.{interaction-none}
 use Rattle.attach_rule.specs.declared.facing.FacingGlues.{FacingGlues}
+use Rattle.attach_rule.specs.Facing.{FacesSite, facing_pull}
+use Rattle.attach_rule.proofs.Held.{facing_pull-pull, grows_held}
 use Rattle.type_index.specs.declared.found.Found.{Found}
 use Rattle.type_index.specs.HeldTypes.{IsHeld, IsNextHeld, AreHeldBefore, AreHeld}
-use Rattle.type_index.specs.Findings.{SumsUpHeld}
+use Rattle.type_index.specs.Findings.{SumsUpCandidates, SumsUpHeld}
 
 module _ (sys : TileSystem) (glues : FacingGlues) where
   pub held_none : (n : ℕ) (types : List TypeId) → n ≡ 0 → types ≡ [] → AreHeldBefore sys glues n types
@@ -63,3 +69,20 @@ unfaced sys glues found some_tau north east south west count first second = reco
   };
   sum = record { count = count; first = first; second = second };
 }
+
+-- what the glues that face an empty site hold attaches there
+pub candidates_held : (sys : TileSystem) (tiles : List Place) (m : Site) (glues : FacingGlues) (found : Found) → FacesSite sys tiles m glues → tile_at tiles m ≡ None → SumsUpHeld sys glues found → SumsUpCandidates sys tiles m found
+candidates_held sys tiles m glues found faces empty held =
+    let grows : (t : TypeId) → IsHeld sys glues t → IsCandidate sys tiles m t = λ t is. grows_held sys tiles m glues faces t (facing_pull sys glues t) refl is.kind empty is.held in
+    let is_held : (t : TypeId) → IsCandidate sys tiles m t → IsHeld sys glues t = λ t is.
+    record { kind = is.kind; held = subst (λ (n : ℕ). sys.tau ≤ n) (sym (facing_pull-pull sys tiles m glues t faces)) is.attaches.held }
+    in
+    record {
+      types = held.types;
+      are = record {
+        sorted = held.are.sorted;
+        each = λ k d within. grows (get_or held.types k d) (held.are.each k d within);
+        complete = λ t is. held.are.complete t (is_held t is);
+      };
+      sum = held.sum;
+    }

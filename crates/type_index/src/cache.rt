@@ -1,15 +1,19 @@
 // What was found for glues that came before.
-ghost use Rattle.std.specs.Prelude.{◌≡◌, ◌<◌, IfOk, IfSome};
+ghost use Rattle.std.specs.Prelude.{◌≡◌, ◌<◌, None, IfOk, IfSome};
 ghost use Rattle.atam.specs.Sites.{IsNearSite};
+ghost use Rattle.atam.specs.Placements.{tile_at};
+ghost use Rattle.tile_system.specs.Neighbors.{StandBeside};
 ghost use Rattle.atam.specs.Assembly.{Fits};
+ghost use Rattle.attach_rule.specs.declared.facing.FacingGlues.{FacingGlues};
 ghost use Rattle.type_index.specs.Indexes.{IsIndexOf};
 ghost use Rattle.type_index.specs.Findings.{AreFindings, IsKeyOf, SumsUpHeld, SumsUpCandidates, code_of};
 
+use crate::codes::key_beside;
 use crate::{Found, TypeIndex};
 use attach_rule::{FacingGlues, glues_facing};
 use std::alloc::Global;
 use std::marker::Model;
-use tile_system::{GlueId, NoMemory, Placed, Site, System};
+use tile_system::{Beside, GlueId, NoMemory, Placed, Site, System};
 
 const SLOTS: usize = 8192;
 
@@ -72,6 +76,54 @@ impl FacingCache {
         if placed.at(site).is_some() {
             return Found::NONE;
         }
+        let beside = placed.beside(site);
+        self.found_beside(sys, index, placed, site, &beside)
+    }
+
+    /// The same at an empty site, where the tiles beside it were looked up before.
+    #[inline(always)]
+    pub fn found_beside<P: Placed>(
+        &mut self,
+        sys: &System,
+        index: &TypeIndex,
+        placed: &P,
+        site: Site,
+        beside: &Beside,
+    ) -> Found
+        requires known { AreFindings sys.now self.old }
+        requires index { IsIndexOf sys.now index.now }
+        requires near { IsNearSite site }
+        requires fits { Fits sys.now (P.placements placed.now) }
+        requires empty { tile_at (P.placements placed.now) site ≡ None }
+        requires beside { StandBeside (P.placements placed.now) site beside.now }
+        ensures found { SumsUpCandidates sys.now (P.placements placed.now) site result }
+        ensures known { AreFindings sys.now self.new }
+    {
+        let key = key_beside(sys, placed, site, beside);
+        if let Some(found) = self.recall(sys, key) {
+            return found;
+        }
+        self.find_at(sys, index, placed, site)
+    }
+
+    // Looks up what was not found before at an empty site. It looks up the tiles beside it once
+    // more, so that the caller holds no more than their key.
+    #[inline(never)]
+    fn find_at<P: Placed>(
+        &mut self,
+        sys: &System,
+        index: &TypeIndex,
+        placed: &P,
+        site: Site,
+    ) -> Found
+        requires known { AreFindings sys.now self.old }
+        requires index { IsIndexOf sys.now index.now }
+        requires near { IsNearSite site }
+        requires fits { Fits sys.now (P.placements placed.now) }
+        requires empty { tile_at (P.placements placed.now) site ≡ None }
+        ensures found { SumsUpCandidates sys.now (P.placements placed.now) site result }
+        ensures known { AreFindings sys.now self.new }
+    {
         let glues = glues_facing(sys, placed, site);
         self.found(sys, index, &glues)
     }
@@ -87,11 +139,25 @@ impl FacingCache {
         let Some(key) = key_of(glues) else {
             return sum_up_apart(sys, index, *glues);
         };
-        let finding = &self.findings[slot_of(key)];
-        if finding.key == key {
-            return finding.found;
+        if let Some(found) = self.recall(sys, key) {
+            return found;
         }
         self.find_anew(sys, index, *glues, key)
+    }
+
+    // What was found for glues with this key, if it is still kept.
+    #[inline(always)]
+    fn recall(&self, sys: &System, key: u64) -> Option<Found>
+        requires { AreFindings sys.now self.now }
+        ensures { IfSome result (λ found. (glues : FacingGlues) → IsKeyOf glues key
+            → SumsUpHeld sys.now glues found) }
+    {
+        let _known_of = sys;
+        let finding = &self.findings[slot_of(key)];
+        if finding.key == key {
+            return Some(finding.found);
+        }
+        None
     }
 
     // Looks up what was not found before, and keeps it. It takes the glues by value, so that the

@@ -1,10 +1,14 @@
 // Keys of the glues that face a site, from the tiles beside it.
 ghost use Rattle.std.specs.Prelude.{◌≡◌, ◌<◌, IfSome, option_and_then};
+ghost use Rattle.atam.specs.Sites.{IsNearSite};
 ghost use Rattle.atam.specs.TileSystem.{IsType, IsValid, side_glue};
+ghost use Rattle.atam.specs.Assembly.{Fits};
+ghost use Rattle.tile_system.specs.Neighbors.{StandBeside};
+ghost use Rattle.attach_rule.specs.Facing.{FacesSite};
 ghost use Rattle.attach_rule.specs.declared.facing.FacingGlues.{FacingGlues};
 ghost use Rattle.type_index.specs.Findings.{IsKeyOf, code_of};
 
-use tile_system::{Side, System, TypeId};
+use tile_system::{Beside, Placed, Side, Site, System, TypeId};
 
 // The base in which a key has the codes of the glues as its digits.
 const BASE: u64 = 65536;
@@ -39,4 +43,23 @@ pub fn key_of_codes(north: u32, east: u32, south: u32, west: u32) -> u64
 {
     let upper = u64::from(south) + BASE * u64::from(west);
     u64::from(north) + BASE * (u64::from(east) + BASE * upper)
+}
+
+// The key of the glues that face a site, where the tiles beside it were looked up before.
+#[inline(always)]
+#[tactic(auto, using(attach_rule::proofs::Held::kind_beside))]
+pub(crate) fn key_beside<P: Placed>(sys: &System, placed: &P, site: Site, beside: &Beside) -> u64
+    requires near { IsNearSite site }
+    requires fits { Fits sys.now (P.placements placed.now) }
+    requires beside { StandBeside (P.placements placed.now) site beside.now }
+    ensures { (glues : FacingGlues) → FacesSite sys.now (P.placements placed.now) site glues
+        → IsKeyOf glues result }
+{
+    let _valid = sys.tau();
+    key_of_codes(
+        side_code(sys, beside.north, Side::South),
+        side_code(sys, beside.east, Side::West),
+        side_code(sys, beside.south, Side::North),
+        side_code(sys, beside.west, Side::East),
+    )
 }
