@@ -1,5 +1,5 @@
 -- Input and output sides, by bonds.
-use Rattle.std.proofs.Common.{◌≡◌, ◌≢◌, ◌⊎◌, ◌<◌, ◌≤◌, ◌+◌, ◌++◌, ℕ, zero, suc, Bool, true, false, not, ◌&&◌, nat_lt, nat_le, max, List, [], ◌∷◌, length, length-append, take, Option, Some, None, slice_get, refl, sym, ◌∙◌, ap, subst, inl, inr, arith}
+use Rattle.std.proofs.Common.{◌≡◌, ◌≢◌, ◌⊎◌, ◌<◌, ◌≤◌, ◌+◌, ◌++◌, ℕ, zero, suc, Bool, true, false, not, ◌&&◌, nat_lt, nat_le, max, List, [], ◌∷◌, length, length-append, take, Option, Some, None, slice_get, is_some, refl, sym, ◌∙◌, ap, subst, inl, inr, arith}
 use Rattle.std.proofs.lemmas.Int.{ints}
 use Rattle.std.proofs.lemmas.Bool.{cases_lt}
 use Rattle.std.proofs.lemmas.Bool.Decides.{nat_tests}
@@ -29,7 +29,7 @@ use Rattle.attach_rule.specs.declared.facing.FacingGlues.{FacingGlues}
 use Rattle.attach_rule.specs.Bonds.{AreBonds}
 use Rattle.attach_rule.specs.Facing.{FacesSite}
 use Rattle.local_check.specs.Judgement.{FindsInexact, FindsRival}
-use Rattle.local_check.specs.Inner.Sides.{bond_if, sum_on, pull_on, bound_by, bound_sides, difference, complement, AreEarlierAt, AreOutputsAt, AreEarlierSides, AreOutputSides}
+use Rattle.local_check.specs.Inner.Sides.{bond_if, sum_on, pull_on, bound_by, bound_sides, difference, complement, sides_beside, AreBeforeAt, AreEarlierAt, AreOutputsAt, AreEarlierSides, AreOutputSides}
 use Rattle.atam.proofs.Opening.{bond-beside}
 use Rattle.atam.proofs.Tiles.{SameTiles}
 use Rattle.local_check.proofs.Sites.{slice_get-some, distinct-take}
@@ -189,6 +189,14 @@ bound_sides-same sys a b m t same =
     let at : (d : Side) → bond sys a m t d ≡ bond sys b m t d = λ d. bond-beside sys a b m t d (same (neighbor m d)) in
     λ k. record { north = nat_lt 0 (at North k); east = nat_lt 0 (at East k); south = nat_lt 0 (at South k); west = nat_lt 0 (at West k) }
 
+pub sides_beside-same : (a b : List Place) (m : Site) → SameTiles a b → sides_beside a m ≡ sides_beside b m
+sides_beside-same a b m same = λ k. record {
+  north = is_some (same (neighbor m North) k);
+  east = is_some (same (neighbor m East) k);
+  south = is_some (same (neighbor m South) k);
+  west = is_some (same (neighbor m West) k);
+}
+
 -- an element of a list with one more element, by its index
 push_at : {A : Type 0} (s : List A) (x : A) (k : ℕ) (y : A) → slice_get (s ++ x ∷ []) k ≡ Some y → (slice_get s k ≡ Some y) ⊎ ((x ≡ y) × (k ≡ length s))
 push_at [] x zero y e = inr (same_Some x y e, refl)
@@ -207,6 +215,15 @@ module _ (sys : TileSystem) (s : List Place) (sets : List SideSet) (p : Place) (
         let At : ℕ → Type 0 = λ j. slice_get s j ≡ Some q in
         let one : p ≡ q = same_Some p q (sym there ∙ subst At new.1 at_k) in
         sym new.0 ∙ last ∙ (λ i. bound_sides sys (take (max (length sys.seeds) (sym new.1 i)) s) (one i).site (one i).tile)
+  ]
+
+  pub before_more : AreBeforeAt sys s sets → x ≡ sides_beside (take (max (length sys.seeds) (length sets)) s) p.site → AreBeforeAt sys s (sets ++ x ∷ [])
+  before_more each last k q sides at_k found = elim (push_at sets x k sides found) [
+    | inl old ↦ each k q sides at_k old
+    | inr new ↦
+        let At : ℕ → Type 0 = λ j. slice_get s j ≡ Some q in
+        let one : p ≡ q = same_Some p q (sym there ∙ subst At new.1 at_k) in
+        sym new.0 ∙ last ∙ (λ i. sides_beside (take (max (length sys.seeds) (sym new.1 i)) s) (one i).site)
   ]
 
 pub outputs_more : (sys : TileSystem) (s : List Place) (sets : List SideSet) (x : SideSet) → AreOutputsAt sys s sets →

@@ -54,7 +54,7 @@ impl Findings {
         &mut self,
         sys: &System,
         types: &TypeIndex,
-        glues: &FacingGlues,
+        glues: FacingGlues,
         tile: TypeId,
         before: SideSet,
     ) -> Finding
@@ -62,24 +62,25 @@ impl Findings {
         requires index { IsIndexOf sys.now types.now }
         requires kind { IsType sys.now tile }
         ensures finding { IsFinding sys.now tile result }
-        ensures glues { result.glues ≡ glues.now }
+        ensures glues { result.glues ≡ glues }
         ensures before { result.before ≡ before }
         ensures known { ArePlaceFindings sys.now self.new }
     {
         if let Some(finding) = &self.last[tile.0 as usize] {
-            if finding.before == before && finding.glues == *glues {
+            if finding.before == before && finding.glues == glues {
                 return *finding;
             }
         }
         self.find(sys, types, glues, tile, before)
     }
 
-    // Finds it anew.
+    // Finds it anew. It takes the glues by value, so that the caller can hold them in registers.
+    #[inline(never)]
     fn find(
         &mut self,
         sys: &System,
         types: &TypeIndex,
-        glues: &FacingGlues,
+        glues: FacingGlues,
         tile: TypeId,
         before: SideSet,
     ) -> Finding
@@ -87,17 +88,17 @@ impl Findings {
         requires index { IsIndexOf sys.now types.now }
         requires kind { IsType sys.now tile }
         ensures finding { IsFinding sys.now tile result }
-        ensures glues { result.glues ≡ glues.now }
+        ensures glues { result.glues ≡ glues }
         ensures before { result.before ≡ before }
         ensures known { ArePlaceFindings sys.now self.new }
     {
-        let bonds = facing_bonds(sys, glues, tile);
+        let bonds = facing_bonds(sys, &glues, tile);
         let bound = SideSet::bound_by(&bonds);
         let outputs = bound.without(before);
-        let kept = outputs.complement().glues_on(glues);
+        let kept = outputs.complement().glues_on(&glues);
         let rival = self.cache.found(sys, types, &kept).other_than(tile);
         let finding = Finding {
-            glues: *glues,
+            glues,
             before,
             earlier: bound.within(before),
             sum: before.sum_on(&bonds),

@@ -109,7 +109,7 @@ impl Placed for SideSets {
 }
 
 /// The sides of the places of a legal sequence, with the first place that isn't held exactly and
-/// the first rival, in memory for two grids over the box, for the sequence and for an index of the
+/// the first rival, in memory for a grid over the box, for the sequence and for an index of the
 /// types. Its time grows with the number of places and with the number of sites of the box.
 pub fn inputs(alloc: Global, sys: &System, seq: &Sequence) -> Result<SideSets, NoMemory>
     requires legal { IsLegal sys.now seq.now }
@@ -117,21 +117,20 @@ pub fn inputs(alloc: Global, sys: &System, seq: &Sequence) -> Result<SideSets, N
     ensures { IfOk result (AreSidesOf sys.now seq.now) }
 {
     let mut grid = Grid::make(alloc, sys.area())?;
-    put_places(sys, seq, &mut grid);
+    let before = put_places(alloc, sys, seq, &mut grid)?;
     let index = TypeIndex::build(alloc, sys)?;
     let Survey {
         earlier,
         outputs,
-        inexact,
-        rival,
-    } = survey_places(alloc, sys, seq, &grid, &index)?;
+        breaches,
+    } = survey_places(alloc, sys, seq, &grid, &before, &index)?;
     Ok(SideSets {
         grid,
         seed_count: sys.seeds().len(),
         earlier,
         outputs,
         index,
-        inexact,
-        rival,
+        inexact: breaches.inexact,
+        rival: breaches.rival,
     })
 }

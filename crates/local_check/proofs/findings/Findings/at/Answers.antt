@@ -12,4 +12,4 @@ returns-then-eq-2-clause-finding c =
     (sym (get_or_read c.self.inside.last.items _ _ (omega (arith, known.count, c.requires.kind)) c.index.ensures None) ∙ c.in-Some.is)
 
 pub returns-then-eq-2-clause-glues : goal.returns-then-eq-2-clause-glues
-returns-then-eq-2-clause-glues c = same_glues _ (λ x y same. search rules) c.in-Some.finding.glues c.args.glues.now c.if-eq-2.ensures
+returns-then-eq-2-clause-glues c = same_glues _ (λ x y same. search rules) c.in-Some.finding.glues c.args.glues c.if-eq-2.ensures

@@ -20,7 +20,7 @@ pub returns-clause-known : goal.returns-clause-known
 returns-clause-known c =
     let Known : FindingTable → Type 0 = λ table. ArePlaceFindings c.args.sys.now table in
     let sys = c.args.sys.now in
-    let glues = c.args.glues.now in
+    let glues = c.args.glues in
     let Held : FacingGlues → Type 0 = λ kept. FirstHeldBut sys kept c.args.tile c.other_than-rival.result in
     let kept : c.glues_on-kept.result ≡ glues_on (complement c.without-outputs.result) glues =
     c.glues_on-kept.ensures ∙ ap (λ sides. glues_on sides glues) c.complement.ensures
