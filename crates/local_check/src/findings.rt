@@ -1,5 +1,5 @@
 // What was found at places whose tiles and surroundings came before.
-ghost use Rattle.std.specs.Prelude.{◌≡◌, IfOk};
+ghost use Rattle.std.specs.Prelude.{◌≡◌, IfOk, IfSome, slice_get};
 ghost use Rattle.atam.specs.TileSystem.{IsType};
 ghost use Rattle.type_index.specs.Indexes.{IsIndexOf};
 ghost use Rattle.local_check.specs.Inner.PlaceFindings.{IsFinding, ArePlaceFindings};
@@ -23,10 +23,27 @@ pub(crate) struct Finding {
     pub(crate) rival: Option<TypeId>,
 }
 
+impl Finding {
+    // Where no glue faces the site.
+    const NONE: Finding = Finding {
+        glues: FacingGlues {
+            north: None,
+            east: None,
+            south: None,
+            west: None,
+        },
+        before: SideSet::NONE,
+        earlier: SideSet::NONE,
+        sum: 0,
+        outputs: SideSet::NONE,
+        rival: None,
+    };
+}
+
 // For each type what was found last at a place of it, so that it need not be looked up again.
 #[derive(Drop)]
 pub(crate) struct Findings {
-    last: Vec<Option<Finding>>,
+    last: Vec<Finding>,
     cache: FacingCache,
 }
 
@@ -42,8 +59,9 @@ impl Findings {
     pub(crate) fn make(alloc: Global, sys: &System) -> Result<Findings, NoMemory>
         ensures { IfOk result (ArePlaceFindings sys.now) }
     {
+        let _valid = sys.tau();
         Ok(Findings {
-            last: Vec::from_elem(alloc, None, sys.type_count() as usize)?,
+            last: Vec::from_elem(alloc, Finding::NONE, sys.type_count() as usize)?,
             cache: FacingCache::make(alloc, sys)?,
         })
     }
@@ -66,15 +84,16 @@ impl Findings {
         ensures before { result.before ≡ before }
         ensures known { ArePlaceFindings sys.now self.new }
     {
-        if let Some(finding) = &self.last[tile.0 as usize] {
-            if finding.before == before && finding.glues == glues {
-                return *finding;
-            }
+        let last = &self.last[tile.0 as usize];
+        if last.before == before && last.glues == glues {
+            return *last;
         }
-        self.find(sys, types, glues, tile, before)
+        self.find(sys, types, glues, tile, before);
+        self.last[tile.0 as usize]
     }
 
-    // Finds it anew. It takes the glues by value, so that the caller can hold them in registers.
+    // Finds it anew, and keeps it. It takes the glues by value, so that the caller can hold them in
+    // registers.
     #[inline(never)]
     fn find(
         &mut self,
@@ -83,13 +102,12 @@ impl Findings {
         glues: FacingGlues,
         tile: TypeId,
         before: SideSet,
-    ) -> Finding
+    )
         requires known { ArePlaceFindings sys.now self.old }
         requires index { IsIndexOf sys.now types.now }
         requires kind { IsType sys.now tile }
-        ensures finding { IsFinding sys.now tile result }
-        ensures glues { result.glues ≡ glues }
-        ensures before { result.before ≡ before }
+        ensures glues { IfSome (slice_get self.new.last tile.0) (λ f. f.glues ≡ glues) }
+        ensures before { IfSome (slice_get self.new.last tile.0) (λ f. f.before ≡ before) }
         ensures known { ArePlaceFindings sys.now self.new }
     {
         let bonds = facing_bonds(sys, &glues, tile);
@@ -97,7 +115,7 @@ impl Findings {
         let outputs = bound.without(before);
         let kept = outputs.complement().glues_on(&glues);
         let rival = self.cache.found(sys, types, &kept).other_than(tile);
-        let finding = Finding {
+        self.last[tile.0 as usize] = Finding {
             glues,
             before,
             earlier: bound.within(before),
@@ -105,7 +123,5 @@ impl Findings {
             outputs,
             rival,
         };
-        self.last[tile.0 as usize] = Some(finding);
-        finding
     }
 }

@@ -123,7 +123,7 @@ pub fn inputs(alloc: Global, sys: &System, seq: &Sequence) -> Result<SideSets, N
         earlier,
         outputs,
         breaches,
-    } = survey_places(alloc, sys, seq, &grid, &before, &index)?;
+    } = survey_places(alloc, sys, seq, &grid, before, &index)?;
     Ok(SideSets {
         grid,
         seed_count: sys.seeds().len(),

@@ -1,6 +1,5 @@
 -- What is found at a place, by its type, the glues that face it and the sides beside which a tile stood before.
-use Rattle.std.specs.Prelude.{◌≡◌, List, length, Option, Some, None}
-use Rattle.std.specs.List.{slice_index_or}
+use Rattle.std.specs.Prelude.{◌≡◌, List, length, Some, slice_get}
 use Rattle.atam.specs.declared.site.Site.{Site}
 use Rattle.atam.specs.declared.place.TypeId.{TypeId}
 use Rattle.atam.specs.declared.place.Place.{Place}
@@ -22,11 +21,11 @@ pub record IsFinding (sys : TileSystem) (t : TypeId) (f : Finding) : Type 0 wher
 
 -- what was found last for each type, and what was found for glues
 pub record FindingTable : Type 0 where
-  pub last : List (Option Finding)
+  pub last : List Finding
   pub cache : List cache.Finding.Finding
 
 -- each was found for its type
 pub record ArePlaceFindings (sys : TileSystem) (table : FindingTable) : Type 0 where
   pub count : length table.last ≡ length sys.types
-  pub each : (t : TypeId) (f : Finding) → slice_index_or table.last t.0 None ≡ Some f → IsFinding sys t f
+  pub each : (t : TypeId) (f : Finding) → slice_get table.last t.0 ≡ Some f → IsFinding sys t f
   pub cache : AreFindings sys table.cache

@@ -1,5 +1,5 @@
 -- Sides that interact with the tiles beside them, and the glues on some sides.
-use Rattle.std.specs.Prelude.{◌≡◌, ℕ, ◌+◌, Bool, is_some, not, ◌&&◌, nat_lt, if◌then◌else◌, List, length, slice_get, take, max, Some, None}
+use Rattle.std.specs.Prelude.{◌≡◌, ℕ, ◌<◌, ◌≤◌, ◌+◌, Bool, is_some, not, ◌&&◌, nat_lt, if◌then◌else◌, List, length, slice_get, take, max, Some, None}
 use Rattle.atam.specs.declared.site.Side.{Side}
 use Rattle.atam.specs.declared.site.Side.TheVariants.{North, East, South, West}
 use Rattle.atam.specs.declared.site.Site.{Site}
@@ -88,6 +88,15 @@ AreEarlierAt sys s sets = (k : ℕ) (p : Place) (sides : SideSet) → slice_get 
 -- each set has the output sides of the place
 abbrev pub AreOutputsAt : TileSystem → List Place → List SideSet → Type 0
 AreOutputsAt sys s sets = (k : ℕ) (sides : SideSet) → slice_get sets k ≡ Some sides → (d : Side) → has sides d ≡ is_output sys s k d
+
+-- the one of the places before an index, the other of those from it on
+abbrev pub AreEarlierBelow : TileSystem → List Place → ℕ → List SideSet → Type 0
+AreEarlierBelow sys s n sets = (k : ℕ) (p : Place) (sides : SideSet) → k < n → slice_get s k ≡ Some p → slice_get sets k ≡ Some sides →
+    sides ≡ bound_sides sys (take (max (length sys.seeds) k) s) p.site p.tile
+
+abbrev pub AreBeforeFrom : TileSystem → List Place → ℕ → List SideSet → Type 0
+AreBeforeFrom sys s n sets = (k : ℕ) (p : Place) (sides : SideSet) → n ≤ k → slice_get s k ≡ Some p → slice_get sets k ≡ Some sides →
+    sides ≡ sides_beside (take (max (length sys.seeds) k) s) p.site
 
 -- one set for each place
 pub record AreSidesBefore (sys : TileSystem) (s : List Place) (sets : List SideSet) : Type 0 where

@@ -1,5 +1,7 @@
-use Rattle.std.proofs.Common.{◌≡◌, ◌<◌, ◌≤◌, ◌+◌, ◌∙◌, ℕ, List, length, take, max, not, slice_get, Option, Some, arith, refl, sym, ap, subst}
-use Rattle.std.proofs.lemmas.Option.{get_or_from_slice_get}
+use Rattle.std.proofs.Common.{◌≡◌, ◌<◌, ◌≤◌, ◌+◌, ◌∙◌, ℕ, List, length, take, set, max, not, slice_get, Option, Some, arith, rules, refl, sym, ap, subst}
+use Rattle.std.proofs.Math.Nat.{le_refl}
+use Rattle.std.proofs.lemmas.List.{length-set}
+use Rattle.std.proofs.lemmas.Option.{slice_get_read, slice_get_within}
 use Rattle.atam.specs.declared.place.Place.{Place}
 use Rattle.atam.specs.declared.place.TypeId.{TypeId}
 use Rattle.atam.specs.declared.area.BoxArea.{BoxArea}
@@ -18,9 +20,8 @@ use Rattle.tile_system.specs.Neighbors.{StandBeside}
 use Rattle.local_check.specs.declared.side_set.SideSet.{SideSet}
 use Rattle.local_check.specs.SideSets.{has}
 use Rattle.local_check.specs.Judgement.{FindsInexact, FindsRival}
-use Rattle.local_check.specs.Inner.Sides.{AreEarlierAt, AreOutputsAt, bound_sides, intersection, difference, complement, pull_on, standing}
-use Rattle.local_check.proofs.Sides.{bound_sides-same, earlier_more, outputs_more, output_here, has-complement, faces_still, length-push}
-use Rattle.local_check.proofs.Sites.{slice_get-some}
+use Rattle.local_check.specs.Inner.Sides.{AreEarlierBelow, AreBeforeFrom, AreOutputsAt, bound_sides, intersection, difference, complement, pull_on, standing}
+use Rattle.local_check.proofs.Sides.{bound_sides-same, earlier_set, before_set, outputs_more, output_here, has-complement, faces_still, length-push}
 use Rattle.local_check.proofs.Standing.{earlier_standing, outputs_standing, pull_standing}
 use Rattle.local_check.proofs.Judging.{one_map, part_of_tiles, seed_inexact, seed_rival, rival_more}
 use Rattle.local_check.proofs.survey.survey_places.Goals as goal
@@ -65,9 +66,12 @@ loop-index-preserved c =
     let stand : StandBeside part p.site beside = record { north = refl; east = refl; south = refl; west = refl } in
     let faces = faces_still sys whole p.site c.glues_inside-glues.result found.glues c.at-finding.ensures.glues c.glues_inside-glues.ensures in
     let finding = c.at-finding.ensures.finding in
-    let set = slice_get-some c.args.before.now i (omega (arith, within, c.requires.before.count)) in
-    let read : found.before ≡ set.0 = c.at-finding.ensures.before ∙ get_or_from_slice_get c.args.before.now i set.0 _ set.1 in
-    let before : found.before ≡ standing beside = read ∙ c.requires.before.each i p set.0 c.get-place.ensures set.1 in
+    let within_sets : i < length earlier_sets = omega (arith, within, c.loop-index.invariant.count) in
+    let stood = c.index.result.now in
+    let read : slice_get earlier_sets i ≡ Some stood = slice_get_read earlier_sets (length earlier_sets) i stood refl within_sets c.index.ensures in
+    let before : found.before ≡ standing beside =
+    c.at-finding.ensures.before ∙ c.loop-index.invariant.before i p stood (le_refl i) c.get-place.ensures read
+    in
     let earlier_is : found.earlier ≡ bound_sides sys part p.site p.tile =
     finding.earlier whole p.site faces
     ∙ ap (λ sides. intersection (bound_sides sys whole p.site p.tile) sides) before
@@ -89,22 +93,23 @@ loop-index-preserved c =
     (sym (bound_sides-same sys s whole p.site p.tile (one_map sys s whole distinct legal c.requires.placements)))
     outputs_are
     in
-    let At : ℕ → Type 0 = λ j. slice_get s j ≡ Some p in
-    let there : At (length earlier_sets) = subst At (sym c.loop-index.invariant.earlier_count) c.get-place.ensures in
-    let Earlier : List SideSet → Type 0 = λ l. AreEarlierAt sys s l in
+    let Sets : List SideSet → Type 0 = λ l. (length l ≡ length s) × AreEarlierBelow sys s (i + 1) l × AreBeforeFrom sys s (i + 1) l in
+    let sets : Sets (set earlier_sets i found.earlier) = (
+      length-set earlier_sets i found.earlier ∙ c.loop-index.invariant.count,
+      earlier_set sys s earlier_sets i p found.earlier c.get-place.ensures within_sets c.loop-index.invariant.earlier earlier_is,
+      before_set sys s earlier_sets i p found.earlier c.get-place.ensures within_sets c.loop-index.invariant.before,
+    ) in
     let Outputs : List SideSet → Type 0 = λ l. AreOutputsAt sys s l in
     let Inexact : Option (Site × ℕ) → Type 0 = λ first. FindsInexact sys s (i + 1) first in
     let Rival : Option (Site × TypeId) → Type 0 = λ first. FindsRival sys s (i + 1) first in
     record {
       within = omega (arith, within);
-      earlier_count = ap length c.in_ok-push.ensures.items ∙ length-push earlier_sets found.earlier ∙ ap (λ j. j + 1) c.loop-index.invariant.earlier_count;
-      earlier =
-          subst Earlier (sym c.in_ok-push.ensures.items)
-          (earlier_more sys s earlier_sets p found.earlier there c.loop-index.invariant.earlier
-          (earlier_is ∙ ap (λ j. bound_sides sys (take (max n j) s) p.site p.tile) (sym c.loop-index.invariant.earlier_count)));
-      output_count = ap length c.in_ok-push-2.ensures.items ∙ length-push output_sets found.outputs ∙ ap (λ j. j + 1) c.loop-index.invariant.output_count;
+      count = sets.0;
+      earlier = sets.1;
+      before = sets.2;
+      output_count = ap length c.in_ok-push.ensures.items ∙ length-push output_sets found.outputs ∙ ap (λ j. j + 1) c.loop-index.invariant.output_count;
       outputs =
-          subst Outputs (sym c.in_ok-push-2.ensures.items)
+          subst Outputs (sym c.in_ok-push.ensures.items)
           (outputs_more sys s output_sets found.outputs c.loop-index.invariant.outputs (λ d. here d ∙ ap (λ j. is_output sys s j d) (sym c.loop-index.invariant.output_count)));
       known = c.at-finding.ensures.known;
       inexact = elim c.if-index-seed_count.branch [
@@ -142,3 +147,25 @@ pub returns-clause-rival : goal.returns-clause-rival
 returns-clause-rival c =
     let whole : c.loop-index.index ≡ length c.args.seq.now = omega (arith, c.loop-index-test.false, c.len-index-end.ensures, c.loop-index.invariant.within) in
     subst (λ n. FindsRival c.args.sys.now c.args.seq.now n c.loop-index.breaches.rival) whole c.loop-index.invariant.rival
+
+pub returns-clause-earlier : goal.returns-clause-earlier
+returns-clause-earlier c =
+    let whole : c.loop-index.index ≡ length c.args.seq.now = omega (arith, c.loop-index-test.false, c.len-index-end.ensures, c.loop-index.invariant.within) in
+    record {
+      count = c.loop-index.invariant.count;
+      each = λ k p sides there found.
+          c.loop-index.invariant.earlier k p sides (omega (arith, slice_get_within c.args.seq.now k p there, whole)) there found;
+    }
+
+pub loop-index-init : goal.loop-index-init
+loop-index-init c = record {
+  within = omega arith;
+  count = c.requires.before.count;
+  earlier = λ k p sides below there found. let never : ⊥ = omega (arith, below) in absurd never;
+  before = λ k p sides later there found. c.requires.before.each k p sides there found;
+  output_count = search rules;
+  outputs = search rules;
+  known = search rules;
+  inexact = search rules;
+  rival = search rules;
+}
