@@ -1,11 +1,10 @@
 // One look at each place of a sequence: its sides, whether it is held exactly, and its rivals.
-ghost use Rattle.std.specs.Prelude.{◌≡◌, [], length, IfOk, IfSome, option_and_then};
+ghost use Rattle.std.specs.Prelude.{◌≡◌, [], length, IfOk};
 ghost use Rattle.atam.specs.Placements.{SamePlacements};
-ghost use Rattle.atam.specs.TileSystem.{IsType, IsValid, side_glue};
+ghost use Rattle.atam.specs.TileSystem.{IsValid};
 ghost use Rattle.atam.specs.Assembly.{Fits};
 ghost use Rattle.atam.specs.Sites.{InBox};
 ghost use Rattle.atam.specs.Growth.{IsLegal};
-ghost use Rattle.attach_rule.specs.Facing.{FacesSite};
 ghost use Rattle.type_index.specs.Indexes.{IsIndexOf};
 ghost use Rattle.local_check.specs.Judgement.{FindsInexact, FindsRival};
 ghost use Rattle.local_check.specs.Inner.Sides.{AreEarlierSides, AreOutputSides, AreSidesBefore, sides_beside};
@@ -14,9 +13,8 @@ use crate::breaches::Breaches;
 use crate::findings::Findings;
 use crate::side_set::SideSet;
 use assembly::{Grid, Sequence, put_seeds, site_index};
-use attach_rule::FacingGlues;
 use std::alloc::Global;
-use tile_system::{GlueId, NoMemory, Side, Site, System, TypeId};
+use tile_system::{NoMemory, Site, System};
 use type_index::TypeIndex;
 
 // The sides of each place that interact with the seeds or with an earlier place, its output sides,
@@ -61,8 +59,7 @@ pub(crate) fn survey_places(
     let seed_count = sys.seeds().len();
     for index in 0..seq.len() {
         let place = seq.get(index);
-        let glues = glues_inside(sys, whole, place.site);
-        let finding = findings.at(sys, types, glues, place.tile, earlier[index]);
+        let finding = findings.at(sys, types, whole, place, &earlier[index]);
         earlier[index] = finding.earlier;
         outputs.push(finding.outputs)?;
         if index >= seed_count {
@@ -74,34 +71,6 @@ pub(crate) fn survey_places(
         outputs,
         breaches,
     })
-}
-
-// The glues that face a site of the box. It goes from each tile beside the site to its glue before
-// it looks at the next tile, so that what it holds at a time fits in registers.
-#[inline(always)]
-#[tactic(auto, using(attach_rule::proofs::Held::kind_beside))]
-fn glues_inside(sys: &System, whole: &Grid, site: Site) -> FacingGlues
-    requires fits { Fits sys.now whole.now.tiles }
-    requires inside { InBox whole.now.area site }
-    ensures { FacesSite sys.now whole.now.tiles site result }
-{
-    let area = whole.area();
-    let index = site_index(&area, site);
-    FacingGlues {
-        north: glue_of(sys, whole.beside_at(site, index).north, Side::South),
-        east: glue_of(sys, whole.beside_at(site, index).east, Side::West),
-        south: glue_of(sys, whole.beside_at(site, index).south, Side::North),
-        west: glue_of(sys, whole.beside_at(site, index).west, Side::East),
-    }
-}
-
-// The glue on a side of a tile, if there is a tile.
-#[inline(always)]
-fn glue_of(sys: &System, tile: Option<TypeId>, side: Side) -> Option<GlueId>
-    requires { IfSome tile (IsType sys.now) }
-    ensures { result ≡ option_and_then (λ t. side_glue sys.now t side) tile }
-{
-    sys.side(tile?, side)
 }
 
 // Puts the places of a legal sequence into an empty grid. Tells for each the sides beside which a

@@ -2,6 +2,7 @@
 #![tactic(auto)]
 
 mod cache;
+mod codes;
 mod cursor;
 mod found;
 mod held;
@@ -10,5 +11,6 @@ mod side_lists;
 mod sites;
 
 pub use cache::FacingCache;
+pub use codes::{key_of_codes, side_code};
 pub use found::Found;
 pub use index::TypeIndex;

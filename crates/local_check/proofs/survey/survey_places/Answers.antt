@@ -11,27 +11,29 @@ use Rattle.atam.specs.declared.site.Side.TheVariants.{North, East, South, West}
 use Rattle.atam.specs.Sites.{InBox, neighbor}
 use Rattle.atam.specs.Placements.{tile_at}
 use Rattle.atam.specs.TileSystem.{IsType}
-use Rattle.atam.specs.Assembly.{pull}
+use Rattle.atam.specs.Assembly.{glue_at, pull}
 use Rattle.atam.specs.Determinism.{is_output}
 use Rattle.atam.proofs.Lists.{All-slice_get, seeds_within}
 use Rattle.atam.proofs.Opening.{Fits-part}
 use Rattle.tile_system.specs.declared.placed.Beside.{Beside}
 use Rattle.tile_system.specs.Neighbors.{StandBeside}
+use Rattle.attach_rule.specs.declared.facing.FacingGlues.{FacingGlues}
+use Rattle.attach_rule.specs.Facing.{FacesSite}
 use Rattle.local_check.specs.declared.side_set.SideSet.{SideSet}
 use Rattle.local_check.specs.SideSets.{has}
 use Rattle.local_check.specs.Judgement.{FindsInexact, FindsRival}
 use Rattle.local_check.specs.Inner.Sides.{AreEarlierBelow, AreBeforeFrom, AreOutputsAt, bound_sides, intersection, difference, complement, pull_on, standing}
-use Rattle.local_check.proofs.Sides.{bound_sides-same, earlier_set, before_set, outputs_more, output_here, has-complement, faces_still, length-push}
+use Rattle.local_check.proofs.Sides.{bound_sides-same, earlier_set, before_set, outputs_more, output_here, has-complement, length-push}
 use Rattle.local_check.proofs.Standing.{earlier_standing, outputs_standing, pull_standing}
 use Rattle.local_check.proofs.Judging.{one_map, part_of_tiles, seed_inexact, seed_rival, rival_more}
 use Rattle.local_check.proofs.survey.survey_places.Goals as goal
 use Rattle.local_check.proofs.survey.survey_places.Goals.{then-index-seed_count, else-index-seed_count}
 
-pub glues_inside-glues-requires-clause-fits : goal.glues_inside-glues-requires-clause-fits
-glues_inside-glues-requires-clause-fits c = Fits-part c.args.sys.now c.args.whole.now.tiles c.args.seq.now c.requires.placements.whole c.requires.fits
+pub at-finding-requires-clause-fits : goal.at-finding-requires-clause-fits
+at-finding-requires-clause-fits c = Fits-part c.args.sys.now c.args.whole.now.tiles c.args.seq.now c.requires.placements.whole c.requires.fits
 
-pub glues_inside-glues-requires-clause-inside : goal.glues_inside-glues-requires-clause-inside
-glues_inside-glues-requires-clause-inside c =
+pub at-finding-requires-clause-inside : goal.at-finding-requires-clause-inside
+at-finding-requires-clause-inside c =
     subst (λ (area : BoxArea). InBox area c.get-place.result.site) (sym c.requires.area)
     (All-slice_get (λ p. InBox c.args.sys.now.area p.site) c.args.seq.now c.loop-index.index c.get-place.result c.requires.fits.sites c.get-place.ensures)
 
@@ -64,29 +66,27 @@ loop-index-preserved c =
       west = tile_at part (neighbor p.site West);
     } in
     let stand : StandBeside part p.site beside = record { north = refl; east = refl; south = refl; west = refl } in
-    let faces = faces_still sys whole p.site c.glues_inside-glues.result found.glues c.at-finding.ensures.glues c.glues_inside-glues.ensures in
-    let finding = c.at-finding.ensures.finding in
     let within_sets : i < length earlier_sets = omega (arith, within, c.loop-index.invariant.count) in
     let stood = c.index.result.now in
     let read : slice_get earlier_sets i ≡ Some stood = slice_get_read earlier_sets (length earlier_sets) i stood refl within_sets c.index.ensures in
-    let before : found.before ≡ standing beside =
-    c.at-finding.ensures.before ∙ c.loop-index.invariant.before i p stood (le_refl i) c.get-place.ensures read
-    in
+    let before : stood ≡ standing beside = c.loop-index.invariant.before i p stood (le_refl i) c.get-place.ensures read in
+    let finding = c.at-finding.ensures.finding in
     let earlier_is : found.earlier ≡ bound_sides sys part p.site p.tile =
-    finding.earlier whole p.site faces
-    ∙ ap (λ sides. intersection (bound_sides sys whole p.site p.tile) sides) before
-    ∙ earlier_standing sys part whole extends p.site p.tile beside stand
+    finding.earlier ∙ ap (λ sides. intersection (bound_sides sys whole p.site p.tile) sides) before ∙ earlier_standing sys part whole extends p.site p.tile beside stand
     in
     let outputs_are : found.outputs ≡ difference (bound_sides sys whole p.site p.tile) (bound_sides sys part p.site p.tile) =
-    finding.outputs whole p.site faces
-    ∙ ap (λ sides. difference (bound_sides sys whole p.site p.tile) sides) before
-    ∙ outputs_standing sys part whole extends p.site p.tile beside stand
+    finding.outputs ∙ ap (λ sides. difference (bound_sides sys whole p.site p.tile) sides) before ∙ outputs_standing sys part whole extends p.site p.tile beside stand
     in
     let sum_is : found.sum ≡ pull sys part p.site p.tile =
-    finding.sum whole p.site faces
-    ∙ ap (λ sides. pull_on sys whole p.site p.tile sides) before
-    ∙ pull_standing sys part whole extends p.site p.tile beside stand
+    finding.sum ∙ ap (λ sides. pull_on sys whole p.site p.tile sides) before ∙ pull_standing sys part whole extends p.site p.tile beside stand
     in
+    let glues : FacingGlues = record {
+      north = glue_at sys whole (neighbor p.site North) South;
+      east = glue_at sys whole (neighbor p.site East) West;
+      south = glue_at sys whole (neighbor p.site South) North;
+      west = glue_at sys whole (neighbor p.site West) East;
+    } in
+    let faces : FacesSite sys whole p.site glues = record { north = refl; east = refl; south = refl; west = refl } in
     let here : (d : Side) → has found.outputs d ≡ is_output sys s i d =
     output_here sys s distinct legal i p c.get-place.ensures (bound_sides sys part p.site p.tile) (bound_sides sys whole p.site p.tile) found.outputs
     refl
@@ -129,8 +129,8 @@ loop-index-preserved c =
             let later : n ≤ i = omega (arith, w.if-index-seed_count.true, ap length c.seeds-seed_count.ensures.seeds) in
             subst Rival (sym (ap (λ b. b.rival) w.breaches-is ∙ w.see.ensures.rival)) (
             rival_more sys s whole distinct legal c.requires.placements i p c.get-place.ensures (complement found.outputs)
-            (λ d. has-complement found.outputs d ∙ ap not (here d)) found.glues faces
-            c.loop-index.breaches.rival found.rival later c.loop-index.invariant.rival finding.rival
+            (λ d. has-complement found.outputs d ∙ ap not (here d)) glues faces
+            c.loop-index.breaches.rival found.rival later c.loop-index.invariant.rival (finding.rival glues faces)
             )
         | else-index-seed_count w ↦
             let seed : i < n = omega (arith, w.if-index-seed_count.false, ap length c.seeds-seed_count.ensures.seeds) in

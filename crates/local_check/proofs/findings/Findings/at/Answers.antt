@@ -1,39 +1,34 @@
-use Rattle.std.proofs.Common.{◌≡◌, IfSome, Option, Some, length, slice_get, refl, sym, subst, arith}
+use Rattle.std.proofs.Common.{◌≡◌, length, refl, sym, subst, arith}
 use Rattle.std.proofs.lemmas.Option.{slice_get_read}
-use Rattle.local_check.specs.declared.findings.Finding.{Finding}
-use Rattle.local_check.specs.Inner.PlaceFindings.{FindingTable, ArePlaceFindings}
+use Rattle.atam.specs.declared.site.Side.TheVariants.{North, East, South, West}
+use Rattle.atam.specs.Sites.{neighbor}
+use Rattle.atam.specs.Assembly.{glue_at}
+use Rattle.attach_rule.specs.declared.facing.FacingGlues.{FacingGlues}
+use Rattle.attach_rule.specs.Facing.{FacesSite}
+use Rattle.type_index.specs.Findings.{IsKeyOf}
+use Rattle.local_check.specs.declared.side_set.SideSet.{SideSet}
+use Rattle.local_check.specs.Inner.PlaceFindings.{FindingTable, IsFinding, ArePlaceFindings}
+use Rattle.local_check.proofs.PlaceFindings.{same_sides}
 use Rattle.local_check.proofs.findings.Findings.at.Goals as goal
 
-pub returns-then-eq-2-clause-finding : goal.returns-then-eq-2-clause-finding
-returns-then-eq-2-clause-finding c =
-    let Known : FindingTable → Type 0 = λ table. ArePlaceFindings c.args.sys.now table in
-    let known = subst Known (sym c.self.view_is) c.requires.known in
+pub returns-then-eq-clause-finding : goal.returns-then-eq-clause-finding
+returns-then-eq-clause-finding c =
+    let sys = c.args.sys.now in
+    let whole = c.args.whole.now.tiles in
+    let site = c.args.place.site in
+    let tile = c.args.place.tile in
+    let Table : FindingTable → Type 0 = λ table. ArePlaceFindings sys table in
+    let known = subst Table (sym c.self.view_is) c.requires.known in
     let items = c.self.inside.last.items in
-    known.each c.args.tile c.index-last.result.now (slice_get_read items (length items) c.args.tile.0 _ refl (omega (arith, known.count, c.requires.kind)) c.index-last.ensures)
-
-pub returns-clause-finding : goal.returns-clause-finding
-returns-clause-finding c =
-    let Known : FindingTable → Type 0 = λ table. ArePlaceFindings c.args.sys.now table in
-    let known = subst Known (sym c.self-2.view_is) c.find.ensures.known in
-    let items = c.self-2.inside.last.items in
-    known.each c.args.tile c.index.result.now (slice_get_read items (length items) c.args.tile.0 _ refl (omega (arith, known.count, c.requires.kind)) c.index.ensures)
-
-pub returns-clause-glues : goal.returns-clause-glues
-returns-clause-glues c =
-    let Known : FindingTable → Type 0 = λ table. ArePlaceFindings c.args.sys.now table in
-    let Glues : Option Finding → Type 0 = λ found. IfSome found (λ f. f.glues ≡ c.args.glues) in
-    let known = subst Known (sym c.self-2.view_is) c.find.ensures.known in
-    let items = c.self-2.inside.last.items in
-    let read = slice_get_read items (length items) c.args.tile.0 c.index.result.now refl (omega (arith, known.count, c.requires.kind)) c.index.ensures in
-    let There : FindingTable → Type 0 = λ table. Glues (slice_get table.last c.args.tile.0) in
-    subst Glues read (subst There (sym c.self-2.view_is) c.find.ensures.glues)
-
-pub returns-clause-before : goal.returns-clause-before
-returns-clause-before c =
-    let Known : FindingTable → Type 0 = λ table. ArePlaceFindings c.args.sys.now table in
-    let Before : Option Finding → Type 0 = λ found. IfSome found (λ f. f.before ≡ c.args.before) in
-    let known = subst Known (sym c.self-2.view_is) c.find.ensures.known in
-    let items = c.self-2.inside.last.items in
-    let read = slice_get_read items (length items) c.args.tile.0 c.index.result.now refl (omega (arith, known.count, c.requires.kind)) c.index.ensures in
-    let There : FindingTable → Type 0 = λ table. Before (slice_get table.last c.args.tile.0) in
-    subst Before read (subst There (sym c.self-2.view_is) c.find.ensures.before)
+    let last = c.index-last.result.now in
+    let read = slice_get_read items (length items) tile.0 last refl (omega (arith, known.count, c.requires.kind)) c.index-last.ensures in
+    let glues : FacingGlues = record {
+      north = glue_at sys whole (neighbor site North) South;
+      east = glue_at sys whole (neighbor site East) West;
+      south = glue_at sys whole (neighbor site South) North;
+      west = glue_at sys whole (neighbor site West) East;
+    } in
+    let faces : FacesSite sys whole site glues = record { north = refl; east = refl; south = refl; west = refl } in
+    let stood : last.before ≡ c.args.before.now = same_sides last.before c.args.before.now c.if-eq.ensures in
+    let Stood : SideSet → Type 0 = λ sides. IsFinding sys whole site tile sides last.finding in
+    subst Stood stood (known.each tile last read whole site glues faces (subst (IsKeyOf glues) (sym c.if-last-key.true) (c.key_inside-key.ensures glues faces)))
