@@ -1,9 +1,10 @@
 // What was found at places whose tiles and surroundings came before.
-ghost use Rattle.std.specs.Prelude.{◌≡◌, IfOk, IfSome, slice_get};
+ghost use Rattle.std.specs.Prelude.{◌≡◌, IfOk, IfSome, List, slice_get};
+ghost use Rattle.atam.specs.declared.place.Place.{Place};
+ghost use Rattle.atam.specs.declared.site.Site.{Site};
 ghost use Rattle.atam.specs.Sites.{InBox};
 ghost use Rattle.atam.specs.TileSystem.{IsType, IsValid};
 ghost use Rattle.atam.specs.Assembly.{Fits};
-ghost use Rattle.attach_rule.specs.declared.facing.FacingGlues.{FacingGlues};
 ghost use Rattle.attach_rule.specs.Facing.{FacesSite};
 ghost use Rattle.type_index.specs.Indexes.{IsIndexOf};
 ghost use Rattle.type_index.specs.Findings.{IsKeyOf};
@@ -11,7 +12,7 @@ ghost use Rattle.local_check.specs.Inner.PlaceFindings.{IsFinding, ArePlaceFindi
 
 use crate::side_set::SideSet;
 use assembly::{Grid, site_index};
-use attach_rule::{facing_bonds, glues_facing};
+use attach_rule::{FacingGlues, facing_bonds, glues_facing};
 use std::alloc::Global;
 use std::marker::Model;
 use tile_system::{NoMemory, Place, Side, Site, System, TypeId};
@@ -95,54 +96,55 @@ impl Findings {
         ensures finding { IsFinding sys.now whole.now.tiles place.site place.tile before.now result }
         ensures known { ArePlaceFindings sys.now self.new }
     {
+        let tile = place.tile;
         let key = key_inside(sys, whole, place.site);
-        let last = &self.last[place.tile.0 as usize];
+        let last = &self.last[tile.0 as usize];
         if last.key == key && last.before == *before {
             return last.finding;
         }
-        self.find(sys, types, whole, place, *before, key)
+        let _area = whole.area();
+        let glues = glues_facing(sys, whole, place.site);
+        self.find(sys, types, glues, tile, *before, key);
+        self.last[tile.0 as usize].finding
     }
 
-    // Finds it anew, and keeps it.
+    // Finds it anew, and keeps it. It takes all by value, so that the caller can hold it in
+    // registers.
     #[inline(never)]
     fn find(
         &mut self,
         sys: &System,
         types: &TypeIndex,
-        whole: &Grid,
-        place: Place,
+        glues: FacingGlues,
+        tile: TypeId,
         before: SideSet,
         key: u64,
-    ) -> Finding
+    )
         requires known { ArePlaceFindings sys.now self.old }
         requires index { IsIndexOf sys.now types.now }
-        requires fits { Fits sys.now whole.now.tiles }
-        requires kind { IsType sys.now place.tile }
-        requires inside { InBox whole.now.area place.site }
-        requires key { (glues : FacingGlues) → FacesSite sys.now whole.now.tiles place.site glues
-            → IsKeyOf glues key }
-        ensures finding { IsFinding sys.now whole.now.tiles place.site place.tile before result }
+        requires kind { IsType sys.now tile }
+        requires key { IsKeyOf glues key }
+        ensures finding { (tiles : List Place) (m : Site) → FacesSite sys.now tiles m glues →
+            IfSome (slice_get self.new.last tile.0)
+            (λ known. IsFinding sys.now tiles m tile before known.finding) }
         ensures known { ArePlaceFindings sys.now self.new }
     {
-        let _area = whole.area();
-        let glues = glues_facing(sys, whole, place.site);
-        let bonds = facing_bonds(sys, &glues, place.tile);
+        let bonds = facing_bonds(sys, &glues, tile);
         let bound = SideSet::bound_by(&bonds);
         let outputs = bound.without(before);
         let kept = outputs.complement().glues_on(&glues);
-        let rival = self.cache.found(sys, types, &kept).other_than(place.tile);
+        let rival = self.cache.found(sys, types, &kept).other_than(tile);
         let finding = Finding {
             earlier: bound.within(before),
             sum: before.sum_on(&bonds),
             outputs,
             rival,
         };
-        self.last[place.tile.0 as usize] = Known {
+        self.last[tile.0 as usize] = Known {
             key,
             before,
             finding,
         };
-        finding
     }
 }
 
