@@ -1,7 +1,6 @@
 // What was found at places whose tiles and surroundings came before.
-ghost use Rattle.std.specs.Prelude.{◌≡◌, IfOk, IfSome, List, slice_get};
-ghost use Rattle.atam.specs.declared.place.Place.{Place};
-ghost use Rattle.atam.specs.declared.site.Site.{Site};
+ghost use Rattle.std.specs.Prelude.{◌≡◌, IfOk, IfSome, slice_get};
+ghost use Rattle.attach_rule.specs.declared.facing.FacingGlues.{FacingGlues};
 ghost use Rattle.atam.specs.Sites.{InBox};
 ghost use Rattle.atam.specs.TileSystem.{IsType, IsValid};
 ghost use Rattle.atam.specs.Assembly.{Fits};
@@ -12,7 +11,7 @@ ghost use Rattle.local_check.specs.Inner.PlaceFindings.{IsFinding, ArePlaceFindi
 
 use crate::side_set::SideSet;
 use assembly::{Grid, site_index};
-use attach_rule::{FacingGlues, facing_bonds, glues_facing};
+use attach_rule::{facing_bonds, glues_facing};
 use std::alloc::Global;
 use std::marker::Model;
 use tile_system::{NoMemory, Place, Side, Site, System, TypeId};
@@ -85,7 +84,7 @@ impl Findings {
         types: &TypeIndex,
         whole: &Grid,
         place: Place,
-        before: &SideSet,
+        before: SideSet,
     ) -> Finding
         requires valid { IsValid sys.now }
         requires known { ArePlaceFindings sys.now self.old }
@@ -93,42 +92,45 @@ impl Findings {
         requires fits { Fits sys.now whole.now.tiles }
         requires kind { IsType sys.now place.tile }
         requires inside { InBox whole.now.area place.site }
-        ensures finding { IsFinding sys.now whole.now.tiles place.site place.tile before.now result }
+        ensures finding { IsFinding sys.now whole.now.tiles place.site place.tile before result }
         ensures known { ArePlaceFindings sys.now self.new }
     {
-        let tile = place.tile;
-        let key = key_inside(sys, whole, place.site);
+        let Place { site, tile } = place;
+        let key = key_inside(sys, whole, site);
         let last = &self.last[tile.0 as usize];
-        if last.key == key && last.before == *before {
+        if last.key == key && last.before == before {
             return last.finding;
         }
-        let _area = whole.area();
-        let glues = glues_facing(sys, whole, place.site);
-        self.find(sys, types, glues, tile, *before, key);
+        self.find(sys, types, whole, site, tile, before, key);
         self.last[tile.0 as usize].finding
     }
 
-    // Finds it anew, and keeps it. It takes all by value, so that the caller can hold it in
-    // registers.
+    // Finds it anew, and keeps it. It looks up the glues once more, so that the caller holds no more
+    // than their key.
     #[inline(never)]
     fn find(
         &mut self,
         sys: &System,
         types: &TypeIndex,
-        glues: FacingGlues,
+        whole: &Grid,
+        site: Site,
         tile: TypeId,
         before: SideSet,
         key: u64,
     )
         requires known { ArePlaceFindings sys.now self.old }
         requires index { IsIndexOf sys.now types.now }
+        requires fits { Fits sys.now whole.now.tiles }
         requires kind { IsType sys.now tile }
-        requires key { IsKeyOf glues key }
-        ensures finding { (tiles : List Place) (m : Site) → FacesSite sys.now tiles m glues →
-            IfSome (slice_get self.new.last tile.0)
-            (λ known. IsFinding sys.now tiles m tile before known.finding) }
+        requires inside { InBox whole.now.area site }
+        requires key { (glues : FacingGlues) → FacesSite sys.now whole.now.tiles site glues
+            → IsKeyOf glues key }
+        ensures finding { IfSome (slice_get self.new.last tile.0)
+            (λ known. IsFinding sys.now whole.now.tiles site tile before known.finding) }
         ensures known { ArePlaceFindings sys.now self.new }
     {
+        let _area = whole.area();
+        let glues = glues_facing(sys, whole, site);
         let bonds = facing_bonds(sys, &glues, tile);
         let bound = SideSet::bound_by(&bonds);
         let outputs = bound.without(before);

@@ -28,6 +28,7 @@ pub(crate) struct Survey {
 
 // Looks at what stands beside each place in the grid of all of them, where it is known beside
 // which sides a tile stood before the place.
+#[inline(never)]
 pub(crate) fn survey_places(
     alloc: Global,
     sys: &System,
@@ -59,11 +60,11 @@ pub(crate) fn survey_places(
     let seed_count = sys.seeds().len();
     for index in 0..seq.len() {
         let place = seq.get(index);
-        let finding = findings.at(sys, types, whole, place, &earlier[index]);
+        let finding = findings.at(sys, types, whole, place, earlier[index]);
         earlier[index] = finding.earlier;
         outputs.push(finding.outputs)?;
         if index >= seed_count {
-            breaches.see(sys, place, finding.sum, finding.rival);
+            breaches.see(sys, seq, index, finding.sum, finding.rival);
         }
     }
     Ok(Survey {
@@ -75,6 +76,7 @@ pub(crate) fn survey_places(
 
 // Puts the places of a legal sequence into an empty grid. Tells for each the sides beside which a
 // tile stands by then, where the seeds come first of all.
+#[inline(never)]
 pub(crate) fn put_places(
     alloc: Global,
     sys: &System,

@@ -119,7 +119,7 @@ loop-index-preserved c =
             let held : pull sys (take i s) p.site p.tile ≡ found.sum =
             ap (λ j. pull sys (take j s) p.site p.tile) (sym now) ∙ sym sum_is
             in
-            subst Inexact (ap (λ b. b.inexact) (sym w.breaches-is)) (w.see.ensures.inexact s i c.loop-index.invariant.inexact later c.get-place.ensures held)
+            subst Inexact (ap (λ b. b.inexact) (sym w.breaches-is)) (w.see.ensures.inexact p c.loop-index.invariant.inexact later c.get-place.ensures held)
         | else-index-seed_count w ↦
             let seed : i < n = omega (arith, w.if-index-seed_count.false, ap length c.seeds-seed_count.ensures.seeds) in
             subst Inexact (ap (λ b. b.inexact) (sym w.breaches-is)) (seed_inexact sys s i c.loop-index.breaches.inexact seed c.loop-index.invariant.inexact)
@@ -127,7 +127,7 @@ loop-index-preserved c =
       rival = elim c.if-index-seed_count.branch [
         | then-index-seed_count w ↦
             let later : n ≤ i = omega (arith, w.if-index-seed_count.true, ap length c.seeds-seed_count.ensures.seeds) in
-            subst Rival (sym (ap (λ b. b.rival) w.breaches-is ∙ w.see.ensures.rival)) (
+            subst Rival (sym (ap (λ b. b.rival) w.breaches-is ∙ w.see.ensures.rival p c.get-place.ensures)) (
             rival_more sys s whole distinct legal c.requires.placements i p c.get-place.ensures (complement found.outputs)
             (λ d. has-complement found.outputs d ∙ ap not (here d)) glues faces
             c.loop-index.breaches.rival found.rival later c.loop-index.invariant.rival (finding.rival glues faces)

@@ -1,8 +1,7 @@
 use Rattle.std.proofs.Common.{◌≡◌, IfSome, Option, slice_get, length, refl, sym, subst, arith}
 use Rattle.std.proofs.lemmas.Option.{slice_get_read}
 use Rattle.atam.specs.declared.site.Side.TheVariants.{North, East, South, West}
-use Rattle.atam.specs.Sites.{IsBox, neighbor}
-use Rattle.atam.proofs.Boxes.{near_inside}
+use Rattle.atam.specs.Sites.{neighbor}
 use Rattle.atam.specs.Assembly.{glue_at}
 use Rattle.attach_rule.specs.declared.facing.FacingGlues.{FacingGlues}
 use Rattle.attach_rule.specs.Facing.{FacesSite}
@@ -31,16 +30,9 @@ returns-then-eq-clause-finding c =
       west = glue_at sys whole (neighbor site West) East;
     } in
     let faces : FacesSite sys whole site glues = record { north = refl; east = refl; south = refl; west = refl } in
-    let stood : last.before ≡ c.args.before.now = same_sides last.before c.args.before.now c.if-eq.ensures in
+    let stood : last.before ≡ c.args.before = same_sides last.before c.args.before c.if-eq.ensures in
     let Stood : SideSet → Type 0 = λ sides. IsFinding sys whole site tile sides last.finding in
     subst Stood stood (known.each tile last read whole site glues faces (subst (IsKeyOf glues) (sym c.if-last-key.true) (c.key_inside-key.ensures glues faces)))
-
-pub glues_facing-glues-requires-clause-near : goal.glues_facing-glues-requires-clause-near
-glues_facing-glues-requires-clause-near c =
-    near_inside c.args.whole.now.area c.args.place.site (subst IsBox c.area-area.ensures.area c.area-area.ensures.box_limits) c.requires.inside
-
-pub find-requires-clause-key : goal.find-requires-clause-key
-find-requires-clause-key c = c.key_inside-key.ensures c.glues_facing-glues.result c.glues_facing-glues.ensures.faces
 
 pub returns-clause-finding : goal.returns-clause-finding
 returns-clause-finding c =
@@ -49,9 +41,9 @@ returns-clause-finding c =
     let site = c.args.place.site in
     let tile = c.args.place.tile in
     let Table : FindingTable → Type 0 = λ table. ArePlaceFindings sys table in
-    let Here : Option Known → Type 0 = λ found. IfSome found (λ k. IsFinding sys whole site tile c.args.before.now k.finding) in
+    let Here : Option Known → Type 0 = λ found. IfSome found (λ k. IsFinding sys whole site tile c.args.before k.finding) in
     let There : FindingTable → Type 0 = λ table. Here (slice_get table.last tile.0) in
     let known = subst Table (sym c.self-2.view_is) c.find.ensures.known in
     let items = c.self-2.inside.last.items in
     let read = slice_get_read items (length items) tile.0 c.index.result.now refl (omega (arith, known.count, c.requires.kind)) c.index.ensures in
-    subst Here read (subst There (sym c.self-2.view_is) (c.find.ensures.finding whole site c.glues_facing-glues.ensures.faces))
+    subst Here read (subst There (sym c.self-2.view_is) c.find.ensures.finding)

@@ -2,6 +2,8 @@ use Rattle.std.proofs.Common.{List, IfSome, Option, ◌≡◌, ◌∙◌, sym, a
 use Rattle.std.proofs.lemmas.List.{length-set}
 use Rattle.atam.specs.declared.site.Site.{Site}
 use Rattle.atam.specs.declared.place.Place.{Place}
+use Rattle.atam.specs.Sites.{IsBox}
+use Rattle.atam.proofs.Boxes.{near_inside}
 use Rattle.attach_rule.specs.Facing.{FacesSite}
 use Rattle.attach_rule.specs.declared.facing.FacingGlues.{FacingGlues}
 use Rattle.type_index.specs.HeldTypes.{FirstHeldBut}
@@ -15,6 +17,10 @@ use Rattle.local_check.proofs.Sites.{slice_get-set}
 use Rattle.local_check.proofs.Sides.{bound_by-bonds, sum_on-bonds}
 use Rattle.local_check.proofs.findings.Findings.find.Goals as goal
 
+pub glues_facing-glues-requires-clause-near : goal.glues_facing-glues-requires-clause-near
+glues_facing-glues-requires-clause-near c =
+    near_inside c.args.whole.now.area c.args.site (subst IsBox c.area-area.ensures.area c.area-area.ensures.box_limits) c.requires.inside
+
 pub found-requires-clause-known : goal.found-requires-clause-known
 found-requires-clause-known c =
     let Table : FindingTable → Type 0 = λ table. ArePlaceFindings c.args.sys.now table in
@@ -25,7 +31,7 @@ returns-clause-finding c =
     let sys = c.args.sys.now in
     let tile = c.args.tile in
     let before = c.args.before in
-    let glues = c.args.glues in
+    let glues = c.glues_facing-glues.result in
     let finding : Finding = record { earlier = c.within.result; sum = c.sum_on.result; outputs = c.without-outputs.result; rival = c.other_than-rival.result } in
     let here : (tiles : List Place) (m : Site) → FacesSite sys tiles m glues → IsFinding sys tiles m tile before finding = λ tiles m faces.
     let bonds = c.facing_bonds-bonds.ensures.bonds tiles m faces in
@@ -46,16 +52,15 @@ returns-clause-finding c =
     let Table : FindingTable → Type 0 = λ table. ArePlaceFindings c.args.sys.now table in
     let known = subst Table (sym c.self.view_is) c.requires.known in
     let items = c.self.inside.last.items in
-    λ tiles m faces.
-    let Here : Option Known → Type 0 = λ found. IfSome found (λ k. IsFinding sys tiles m tile before k.finding) in
-    subst Here (sym (slice_get-set items tile.0 _ (omega (arith, known.count, c.requires.kind)))) (here tiles m faces)
+    let Here : Option Known → Type 0 = λ found. IfSome found (λ k. IsFinding sys c.args.whole.now.tiles c.args.site tile before k.finding) in
+    subst Here (sym (slice_get-set items tile.0 _ (omega (arith, known.count, c.requires.kind)))) (here c.args.whole.now.tiles c.args.site c.glues_facing-glues.ensures.faces)
 
 pub returns-clause-known : goal.returns-clause-known
 returns-clause-known c =
     let sys = c.args.sys.now in
     let tile = c.args.tile in
     let before = c.args.before in
-    let glues = c.args.glues in
+    let glues = c.glues_facing-glues.result in
     let finding : Finding = record { earlier = c.within.result; sum = c.sum_on.result; outputs = c.without-outputs.result; rival = c.other_than-rival.result } in
     let here : (tiles : List Place) (m : Site) → FacesSite sys tiles m glues → IsFinding sys tiles m tile before finding = λ tiles m faces.
     let bonds = c.facing_bonds-bonds.ensures.bonds tiles m faces in
@@ -79,6 +84,6 @@ returns-clause-known c =
     record {
       count = length-set items tile.0 _ ∙ known.count;
       each = known_set sys items tile _ (omega (arith, known.count, c.requires.kind)) known.each (λ tiles m g faces of_g.
-          here tiles m (subst (λ (h : FacingGlues). FacesSite sys tiles m h) (same_key g glues c.args.key of_g c.requires.key) faces));
+          here tiles m (subst (λ (h : FacingGlues). FacesSite sys tiles m h) (same_key g glues c.args.key of_g (c.requires.key glues c.glues_facing-glues.ensures.faces)) faces));
       cache = c.found.ensures.known;
     }
