@@ -6,7 +6,7 @@ ghost use Rattle.atam.specs.Growth.{IsLegal};
 ghost use Rattle.local_check.specs.SideSets.{has, input_at, output_at, AreSidesOf};
 
 use crate::side_set::SideSet;
-use crate::survey::{Survey, put_places, survey_places};
+use crate::survey::{Stand, Survey, put_places, survey_places};
 use assembly::{Grid, Sequence};
 use std::alloc::Global;
 use std::marker::Model;
@@ -116,8 +116,8 @@ pub fn inputs(alloc: Global, sys: &System, seq: &Sequence) -> Result<SideSets, N
     requires fits { Fits sys.now seq.now }
     ensures { IfOk result (AreSidesOf sys.now seq.now) }
 {
-    let mut grid = Grid::make(alloc, sys.area())?;
-    let before = put_places(alloc, sys, seq, &mut grid)?;
+    let _valid = sys.tau();
+    let Stand { grid, before } = put_places(alloc, sys, seq)?;
     let index = TypeIndex::build(alloc, sys)?;
     let Survey {
         earlier,

@@ -1,5 +1,5 @@
 // One look at each place of a sequence: its sides, whether it is held exactly, and its rivals.
-ghost use Rattle.std.specs.Prelude.{◌≡◌, [], length, IfOk};
+ghost use Rattle.std.specs.Prelude.{◌≡◌, length, IfOk};
 ghost use Rattle.atam.specs.Placements.{SamePlacements};
 ghost use Rattle.atam.specs.TileSystem.{IsValid};
 ghost use Rattle.atam.specs.Assembly.{Fits};
@@ -74,35 +74,35 @@ pub(crate) fn survey_places(
     })
 }
 
-// Puts the places of a legal sequence into an empty grid. Tells for each the sides beside which a
-// tile stands by then, where the seeds come first of all.
+// A grid with all places of a sequence, and for each the sides beside which a tile stood before it.
+#[derive(Drop)]
+pub(crate) struct Stand {
+    pub(crate) grid: Grid,
+    pub(crate) before: Vec<SideSet>,
+}
+
+// Puts the places of a legal sequence into a grid of its own, one by one behind the seeds.
 #[inline(never)]
-pub(crate) fn put_places(
-    alloc: Global,
-    sys: &System,
-    seq: &Sequence,
-    grid: &mut Grid,
-) -> Result<Vec<SideSet>, NoMemory>
+pub(crate) fn put_places(alloc: Global, sys: &System, seq: &Sequence) -> Result<Stand, NoMemory>
     requires valid { IsValid sys.now }
     requires legal { IsLegal sys.now seq.now }
     requires fits { Fits sys.now seq.now }
-    requires area { grid.old.area ≡ sys.now.area }
-    requires empty { grid.old.tiles ≡ [] }
-    ensures area { grid.new.area ≡ sys.now.area }
-    ensures placements { IfOk result (λ before. SamePlacements seq.now grid.new.tiles) }
-    ensures before { IfOk result (λ before. AreSidesBefore sys.now seq.now before.items) }
+    ensures area { IfOk result (λ stand. stand.grid.area ≡ sys.now.area) }
+    ensures placements { IfOk result (λ stand. SamePlacements seq.now stand.grid.tiles) }
+    ensures before { IfOk result (λ stand. AreSidesBefore sys.now seq.now stand.before.items) }
 {
     let mut before = Vec::with_capacity(alloc, seq.len())?;
-    put_seeds(sys, grid);
+    let mut grid = Grid::make(alloc, sys.area())?;
+    put_seeds(sys, &mut grid);
     let seed_count = sys.seeds().len();
     for index in 0..seq.len() {
         let place = seq.get(index);
-        before.push(sides_standing(grid, place.site))?;
+        before.push(sides_standing(&grid, place.site))?;
         if index >= seed_count {
             grid.put(place);
         }
     }
-    Ok(before)
+    Ok(Stand { grid, before })
 }
 
 // The sides of a site of the box beside which a tile stands.

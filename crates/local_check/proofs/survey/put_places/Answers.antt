@@ -4,7 +4,7 @@ use Rattle.atam.specs.declared.area.BoxArea.{BoxArea}
 use Rattle.atam.specs.Sites.{InBox}
 use Rattle.atam.specs.Placements.{SamePlacements}
 use Rattle.atam.specs.TileSystem.{IsType}
-use Rattle.atam.proofs.Lists.{All-slice_get, seeds_within}
+use Rattle.atam.proofs.Lists.{All-slice_get}
 use Rattle.atam.proofs.Tiles.{SameTiles-from}
 use Rattle.assembly.proofs.Putting.{SamePlacements-more}
 use Rattle.local_check.specs.declared.side_set.SideSet.{SideSet}
