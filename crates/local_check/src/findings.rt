@@ -105,8 +105,8 @@ impl Findings {
         self.last[tile.0 as usize].finding
     }
 
-    // Finds it anew, and keeps it. It looks up the glues once more, so that the caller holds no more
-    // than their key.
+    // Finds it anew, and keeps it. It looks up the glues once more, so that the caller holds only
+    // their key.
     #[inline(never)]
     fn find(
         &mut self,

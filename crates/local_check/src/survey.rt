@@ -94,11 +94,11 @@ pub(crate) fn put_places(alloc: Global, sys: &System, seq: &Sequence) -> Result<
     let mut before = Vec::with_capacity(alloc, seq.len())?;
     let mut grid = Grid::make(alloc, sys.area())?;
     put_seeds(sys, &mut grid);
-    let seed_count = sys.seeds().len();
+    let first = sys.seeds().len();
     for index in 0..seq.len() {
         let place = seq.get(index);
         before.push(sides_standing(&grid, place.site))?;
-        if index >= seed_count {
+        if index >= first {
             grid.put(place);
         }
     }

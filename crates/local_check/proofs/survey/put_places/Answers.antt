@@ -11,7 +11,7 @@ use Rattle.local_check.specs.declared.side_set.SideSet.{SideSet}
 use Rattle.local_check.specs.Inner.Sides.{AreBeforeAt, sides_beside}
 use Rattle.local_check.proofs.Sides.{before_more, sides_beside-same, empty_before, taken_distinct, length-push}
 use Rattle.local_check.proofs.survey.put_places.Goals as goal
-use Rattle.local_check.proofs.survey.put_places.Goals.{then-index-seed_count, else-index-seed_count}
+use Rattle.local_check.proofs.survey.put_places.Goals.{then-index-first, else-index-first}
 
 pub sides_standing-requires : goal.sides_standing-requires
 sides_standing-requires c =
@@ -28,7 +28,7 @@ put-requires-clause-empty c =
     let sys = c.args.sys.now in
     let s = c.args.seq.now in
     let k = max (length sys.seeds) c.loop-index.index in
-    let within : k ≤ c.loop-index.index = omega (arith, c.if-index-seed_count.true, ap length c.seeds-seed_count.ensures.seeds) in
+    let within : k ≤ c.loop-index.index = omega (arith, c.if-index-first.true, ap length c.seeds-first.ensures.seeds) in
     sym (SameTiles-from (take k s) c.loop-index.grid.tiles (taken_distinct sys s c.requires.valid.distinct_seeds c.requires.legal k) c.loop-index.invariant.placed c.get-place.result.site)
     ∙ empty_before sys s c.requires.valid.distinct_seeds c.requires.legal c.loop-index.index k c.get-place.result c.get-place.ensures within
 
@@ -54,14 +54,14 @@ loop-index-preserved c =
     let Before : List SideSet → Type 0 = λ l. AreBeforeAt sys s l in
     let Placed : ℕ → List Place → Type 0 = λ j l. SamePlacements (take j s) l in
     record {
-      area = elim c.if-index-seed_count.branch [
-        | then-index-seed_count w ↦ ap (λ g. g.area) w.grid-is ∙ w.put.ensures.area ∙ c.loop-index.invariant.area
-        | else-index-seed_count w ↦ ap (λ g. g.area) w.grid-is ∙ c.loop-index.invariant.area
+      area = elim c.if-index-first.branch [
+        | then-index-first w ↦ ap (λ g. g.area) w.grid-is ∙ w.put.ensures.area ∙ c.loop-index.invariant.area
+        | else-index-first w ↦ ap (λ g. g.area) w.grid-is ∙ c.loop-index.invariant.area
       ];
       within = omega (arith, within);
-      placed = elim c.if-index-seed_count.branch [
-        | then-index-seed_count w ↦
-            let later : n ≤ i = omega (arith, w.if-index-seed_count.true, ap length c.seeds-seed_count.ensures.seeds) in
+      placed = elim c.if-index-first.branch [
+        | then-index-first w ↦
+            let later : n ≤ i = omega (arith, w.if-index-first.true, ap length c.seeds-first.ensures.seeds) in
             let now : max n i ≡ i = omega (arith, later) in
             let next : max n (i + 1) ≡ i + 1 = omega (arith, later) in
             let old : Placed i grid = subst (λ j. Placed j grid) now c.loop-index.invariant.placed in
@@ -69,8 +69,8 @@ loop-index-preserved c =
             subst (λ j. Placed j w.put.new.self.tiles) (sym next)
             (SamePlacements-more s i p grid w.put.new.self.tiles c.get-place.ensures old w.put.ensures.placements)
             )
-        | else-index-seed_count w ↦
-            let seed : i < n = omega (arith, w.if-index-seed_count.false, ap length c.seeds-seed_count.ensures.seeds) in
+        | else-index-first w ↦
+            let seed : i < n = omega (arith, w.if-index-first.false, ap length c.seeds-first.ensures.seeds) in
             let still : max n i ≡ max n (i + 1) = omega (arith, seed) in
             subst (Placed (max n (i + 1))) (sym (ap (λ g. g.tiles) w.grid-is)) (subst (λ j. Placed j grid) still c.loop-index.invariant.placed)
       ];
