@@ -1,5 +1,5 @@
 -- Input and output sides, by bonds.
-use Rattle.std.proofs.Common.{◌≡◌, ◌≢◌, ◌⊎◌, ◌<◌, ◌≤◌, ◌+◌, ◌++◌, ℕ, zero, suc, Bool, true, false, not, ◌&&◌, nat_lt, nat_le, max, List, [], ◌∷◌, length, length-append, take, Option, Some, None, slice_get, refl, sym, ◌∙◌, ap, subst, inl, inr, arith}
+use Rattle.std.proofs.Common.{◌≡◌, ◌≢◌, ◌⊎◌, ◌<◌, ◌≤◌, ◌+◌, ◌++◌, ℕ, zero, suc, Bool, true, false, not, ◌&&◌, nat_lt, nat_le, max, List, [], ◌∷◌, length, length-append, take, set, Option, Some, None, slice_get, is_some, refl, sym, ◌∙◌, ap, subst, inl, inr, arith}
 use Rattle.std.proofs.lemmas.Int.{ints}
 use Rattle.std.proofs.lemmas.Bool.{cases_lt}
 use Rattle.std.proofs.lemmas.Bool.Decides.{nat_tests}
@@ -29,10 +29,10 @@ use Rattle.attach_rule.specs.declared.facing.FacingGlues.{FacingGlues}
 use Rattle.attach_rule.specs.Bonds.{AreBonds}
 use Rattle.attach_rule.specs.Facing.{FacesSite}
 use Rattle.local_check.specs.Judgement.{FindsInexact, FindsRival}
-use Rattle.local_check.specs.Inner.Sides.{bond_if, sum_on, pull_on, bound_by, bound_sides, difference, complement, AreEarlierAt, AreOutputsAt, AreEarlierSides, AreOutputSides}
+use Rattle.local_check.specs.Inner.Sides.{bond_if, sum_on, pull_on, bound_by, bound_sides, difference, complement, sides_beside, AreBeforeAt, AreEarlierBelow, AreBeforeFrom, AreOutputsAt, AreEarlierSides, AreOutputSides}
 use Rattle.atam.proofs.Opening.{bond-beside}
 use Rattle.atam.proofs.Tiles.{SameTiles}
-use Rattle.local_check.proofs.Sites.{slice_get-some, distinct-take}
+use Rattle.local_check.proofs.Sites.{slice_get-some, slice_get-set, slice_get-apart, distinct-take}
 
 pub has-bound : (sys : TileSystem) (tiles : List Place) (m : Site) (t : TypeId) (d : Side) → has (bound_sides sys tiles m t) d ≡ nat_lt 0 (bond sys tiles m t d)
 has-bound sys tiles m t North = refl
@@ -189,6 +189,14 @@ bound_sides-same sys a b m t same =
     let at : (d : Side) → bond sys a m t d ≡ bond sys b m t d = λ d. bond-beside sys a b m t d (same (neighbor m d)) in
     λ k. record { north = nat_lt 0 (at North k); east = nat_lt 0 (at East k); south = nat_lt 0 (at South k); west = nat_lt 0 (at West k) }
 
+pub sides_beside-same : (a b : List Place) (m : Site) → SameTiles a b → sides_beside a m ≡ sides_beside b m
+sides_beside-same a b m same = λ k. record {
+  north = is_some (same (neighbor m North) k);
+  east = is_some (same (neighbor m East) k);
+  south = is_some (same (neighbor m South) k);
+  west = is_some (same (neighbor m West) k);
+}
+
 -- an element of a list with one more element, by its index
 push_at : {A : Type 0} (s : List A) (x : A) (k : ℕ) (y : A) → slice_get (s ++ x ∷ []) k ≡ Some y → (slice_get s k ≡ Some y) ⊎ ((x ≡ y) × (k ≡ length s))
 push_at [] x zero y e = inr (same_Some x y e, refl)
@@ -200,14 +208,32 @@ pub length-push : {A : Type 0} (s : List A) (x : A) → length (s ++ x ∷ []) �
 length-push s x = length-append s (x ∷ [])
 
 module _ (sys : TileSystem) (s : List Place) (sets : List SideSet) (p : Place) (x : SideSet) (there : slice_get s (length sets) ≡ Some p) where
-  pub earlier_more : AreEarlierAt sys s sets → x ≡ bound_sides sys (take (max (length sys.seeds) (length sets)) s) p.site p.tile → AreEarlierAt sys s (sets ++ x ∷ [])
-  earlier_more each last k q sides at_k found = elim (push_at sets x k sides found) [
+  pub before_more : AreBeforeAt sys s sets → x ≡ sides_beside (take (max (length sys.seeds) (length sets)) s) p.site → AreBeforeAt sys s (sets ++ x ∷ [])
+  before_more each last k q sides at_k found = elim (push_at sets x k sides found) [
     | inl old ↦ each k q sides at_k old
     | inr new ↦
         let At : ℕ → Type 0 = λ j. slice_get s j ≡ Some q in
         let one : p ≡ q = same_Some p q (sym there ∙ subst At new.1 at_k) in
-        sym new.0 ∙ last ∙ (λ i. bound_sides sys (take (max (length sys.seeds) (sym new.1 i)) s) (one i).site (one i).tile)
+        sym new.0 ∙ last ∙ (λ i. sides_beside (take (max (length sys.seeds) (sym new.1 i)) s) (one i).site)
   ]
+
+-- one set more is that of the sides that interact
+module _ (sys : TileSystem) (s : List Place) (sets : List SideSet) (i : ℕ) (p : Place) (x : SideSet) (there : slice_get s i ≡ Some p) (within : i < length sets) where
+  pub earlier_set : AreEarlierBelow sys s i sets → x ≡ bound_sides sys (take (max (length sys.seeds) i) s) p.site p.tile → AreEarlierBelow sys s (i + 1) (set sets i x)
+  earlier_set each here k q sides below at_k found = elim (cases_lt k i) [
+    | inl less ↦ each k q sides less at_k (slice_get-apart sets i k x sides (λ same. let never : ⊥ = omega (arith, less, same) in never) found)
+    | inr more ↦
+        let same : i ≡ k = omega (arith, below, more) in
+        let At : ℕ → Type 0 = λ j. slice_get s j ≡ Some q in
+        let Found : ℕ → Type 0 = λ j. slice_get (set sets i x) j ≡ Some sides in
+        let one : p ≡ q = same_Some p q (sym there ∙ subst At (sym same) at_k) in
+        let value : x ≡ sides = same_Some x sides (sym (slice_get-set sets i x within) ∙ subst Found (sym same) found) in
+        sym value ∙ here ∙ (λ j. bound_sides sys (take (max (length sys.seeds) (same j)) s) (one j).site (one j).tile)
+  ]
+
+  pub before_set : AreBeforeFrom sys s i sets → AreBeforeFrom sys s (i + 1) (set sets i x)
+  before_set each k q sides later at_k found =
+      each k q sides (omega (arith, later)) at_k (slice_get-apart sets i k x sides (λ same. let never : ⊥ = omega (arith, later, same) in never) found)
 
 pub outputs_more : (sys : TileSystem) (s : List Place) (sets : List SideSet) (x : SideSet) → AreOutputsAt sys s sets →
     ((d : Side) → has x d ≡ is_output sys s (length sets) d) → AreOutputsAt sys s (sets ++ x ∷ [])

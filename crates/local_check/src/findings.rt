@@ -1,32 +1,54 @@
 // What was found at places whose tiles and surroundings came before.
-ghost use Rattle.std.specs.Prelude.{◌≡◌, IfOk};
-ghost use Rattle.atam.specs.TileSystem.{IsType};
+ghost use Rattle.std.specs.Prelude.{◌≡◌, IfOk, IfSome, slice_get};
+ghost use Rattle.attach_rule.specs.declared.facing.FacingGlues.{FacingGlues};
+ghost use Rattle.atam.specs.Sites.{InBox};
+ghost use Rattle.atam.specs.TileSystem.{IsType, IsValid};
+ghost use Rattle.atam.specs.Assembly.{Fits};
+ghost use Rattle.attach_rule.specs.Facing.{FacesSite};
 ghost use Rattle.type_index.specs.Indexes.{IsIndexOf};
+ghost use Rattle.type_index.specs.Findings.{IsKeyOf};
 ghost use Rattle.local_check.specs.Inner.PlaceFindings.{IsFinding, ArePlaceFindings};
 
 use crate::side_set::SideSet;
-use attach_rule::{FacingGlues, facing_bonds};
+use assembly::{Grid, site_index};
+use attach_rule::{facing_bonds, glues_facing};
 use std::alloc::Global;
 use std::marker::Model;
-use tile_system::{NoMemory, System, TypeId};
-use type_index::{FacingCache, TypeIndex};
+use tile_system::{NoMemory, Place, Side, Site, System, TypeId};
+use type_index::{FacingCache, TypeIndex, key_of_codes, side_code};
 
-// A place that these glues face, where tiles stood beside these sides before: the sides that
-// interact with those tiles, their pull, the other sides that interact, and the first rival.
+// What is found at a place, where tiles stood beside some sides before: the sides that interact
+// with those tiles, their pull, the other sides that interact, and the first rival.
 #[derive(Clone, Copy)]
 pub(crate) struct Finding {
-    pub(crate) glues: FacingGlues,
-    pub(crate) before: SideSet,
     pub(crate) earlier: SideSet,
     pub(crate) sum: u32,
     pub(crate) outputs: SideSet,
     pub(crate) rival: Option<TypeId>,
 }
 
+impl Finding {
+    // Where no glue faces the site.
+    const NONE: Finding = Finding {
+        earlier: SideSet::NONE,
+        sum: 0,
+        outputs: SideSet::NONE,
+        rival: None,
+    };
+}
+
+// What was found where tiles stood beside these sides before and the glues had this key.
+#[derive(Clone, Copy)]
+struct Known {
+    key: u64,
+    before: SideSet,
+    finding: Finding,
+}
+
 // For each type what was found last at a place of it, so that it need not be looked up again.
 #[derive(Drop)]
 pub(crate) struct Findings {
-    last: Vec<Option<Finding>>,
+    last: Vec<Known>,
     cache: FacingCache,
 }
 
@@ -42,69 +64,108 @@ impl Findings {
     pub(crate) fn make(alloc: Global, sys: &System) -> Result<Findings, NoMemory>
         ensures { IfOk result (ArePlaceFindings sys.now) }
     {
+        let _valid = sys.tau();
+        let none = Known {
+            key: 0,
+            before: SideSet::NONE,
+            finding: Finding::NONE,
+        };
         Ok(Findings {
-            last: Vec::from_elem(alloc, None, sys.type_count() as usize)?,
+            last: Vec::from_elem(alloc, none, sys.type_count() as usize)?,
             cache: FacingCache::make(alloc, sys)?,
         })
     }
 
-    // What is found at a place of this type.
+    // What is found at a place, in the grid of all of them.
     #[inline(always)]
     pub(crate) fn at(
         &mut self,
         sys: &System,
         types: &TypeIndex,
-        glues: &FacingGlues,
-        tile: TypeId,
+        whole: &Grid,
+        place: Place,
         before: SideSet,
     ) -> Finding
+        requires valid { IsValid sys.now }
         requires known { ArePlaceFindings sys.now self.old }
         requires index { IsIndexOf sys.now types.now }
-        requires kind { IsType sys.now tile }
-        ensures finding { IsFinding sys.now tile result }
-        ensures glues { result.glues ≡ glues.now }
-        ensures before { result.before ≡ before }
+        requires fits { Fits sys.now whole.now.tiles }
+        requires kind { IsType sys.now place.tile }
+        requires inside { InBox whole.now.area place.site }
+        ensures finding { IsFinding sys.now whole.now.tiles place.site place.tile before result }
         ensures known { ArePlaceFindings sys.now self.new }
     {
-        if let Some(finding) = &self.last[tile.0 as usize] {
-            if finding.before == before && finding.glues == *glues {
-                return *finding;
-            }
+        let Place { site, tile } = place;
+        let key = key_inside(sys, whole, site);
+        let last = &self.last[tile.0 as usize];
+        if last.key == key && last.before == before {
+            return last.finding;
         }
-        self.find(sys, types, glues, tile, before)
+        self.find(sys, types, whole, site, tile, before, key);
+        self.last[tile.0 as usize].finding
     }
 
-    // Finds it anew.
+    // Finds it anew, and keeps it. It looks up the glues once more, so that the caller holds only
+    // their key.
+    #[inline(never)]
     fn find(
         &mut self,
         sys: &System,
         types: &TypeIndex,
-        glues: &FacingGlues,
+        whole: &Grid,
+        site: Site,
         tile: TypeId,
         before: SideSet,
-    ) -> Finding
+        key: u64,
+    )
         requires known { ArePlaceFindings sys.now self.old }
         requires index { IsIndexOf sys.now types.now }
+        requires fits { Fits sys.now whole.now.tiles }
         requires kind { IsType sys.now tile }
-        ensures finding { IsFinding sys.now tile result }
-        ensures glues { result.glues ≡ glues.now }
-        ensures before { result.before ≡ before }
+        requires inside { InBox whole.now.area site }
+        requires key { (glues : FacingGlues) → FacesSite sys.now whole.now.tiles site glues
+            → IsKeyOf glues key }
+        ensures finding { IfSome (slice_get self.new.last tile.0)
+            (λ known. IsFinding sys.now whole.now.tiles site tile before known.finding) }
         ensures known { ArePlaceFindings sys.now self.new }
     {
-        let bonds = facing_bonds(sys, glues, tile);
+        let _area = whole.area();
+        let glues = glues_facing(sys, whole, site);
+        let bonds = facing_bonds(sys, &glues, tile);
         let bound = SideSet::bound_by(&bonds);
         let outputs = bound.without(before);
-        let kept = outputs.complement().glues_on(glues);
+        let kept = outputs.complement().glues_on(&glues);
         let rival = self.cache.found(sys, types, &kept).other_than(tile);
         let finding = Finding {
-            glues: *glues,
-            before,
             earlier: bound.within(before),
             sum: before.sum_on(&bonds),
             outputs,
             rival,
         };
-        self.last[tile.0 as usize] = Some(finding);
-        finding
+        self.last[tile.0 as usize] = Known {
+            key,
+            before,
+            finding,
+        };
     }
+}
+
+// The key of the glues that face a site of the box. It goes from each tile beside the site to its
+// glue before it looks at the next tile, so that what it holds at a time fits in registers.
+#[inline(always)]
+#[tactic(auto, using(attach_rule::proofs::Held::kind_beside))]
+fn key_inside(sys: &System, whole: &Grid, site: Site) -> u64
+    requires valid { IsValid sys.now }
+    requires fits { Fits sys.now whole.now.tiles }
+    requires inside { InBox whole.now.area site }
+    ensures { (glues : FacingGlues) → FacesSite sys.now whole.now.tiles site glues
+        → IsKeyOf glues result }
+{
+    let area = whole.area();
+    let index = site_index(&area, site);
+    let north = side_code(sys, whole.beside_at(site, index).north, Side::South);
+    let east = side_code(sys, whole.beside_at(site, index).east, Side::West);
+    let south = side_code(sys, whole.beside_at(site, index).south, Side::North);
+    let west = side_code(sys, whole.beside_at(site, index).west, Side::East);
+    key_of_codes(north, east, south, west)
 }

@@ -1,6 +1,7 @@
 //! Whether a legal sequence is locally deterministic.
 #![tactic(auto)]
 
+mod breaches;
 mod findings;
 mod judgement;
 mod laws;

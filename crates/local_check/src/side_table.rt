@@ -6,7 +6,7 @@ ghost use Rattle.atam.specs.Growth.{IsLegal};
 ghost use Rattle.local_check.specs.SideSets.{has, input_at, output_at, AreSidesOf};
 
 use crate::side_set::SideSet;
-use crate::survey::{Survey, put_places, survey_places};
+use crate::survey::{Stand, Survey, put_places, survey_places};
 use assembly::{Grid, Sequence};
 use std::alloc::Global;
 use std::marker::Model;
@@ -109,29 +109,28 @@ impl Placed for SideSets {
 }
 
 /// The sides of the places of a legal sequence, with the first place that isn't held exactly and
-/// the first rival, in memory for two grids over the box, for the sequence and for an index of the
+/// the first rival, in memory for a grid over the box, for the sequence and for an index of the
 /// types. Its time grows with the number of places and with the number of sites of the box.
 pub fn inputs(alloc: Global, sys: &System, seq: &Sequence) -> Result<SideSets, NoMemory>
     requires legal { IsLegal sys.now seq.now }
     requires fits { Fits sys.now seq.now }
     ensures { IfOk result (AreSidesOf sys.now seq.now) }
 {
-    let mut grid = Grid::make(alloc, sys.area())?;
-    put_places(sys, seq, &mut grid);
+    let _valid = sys.tau();
+    let Stand { grid, before } = put_places(alloc, sys, seq)?;
     let index = TypeIndex::build(alloc, sys)?;
     let Survey {
         earlier,
         outputs,
-        inexact,
-        rival,
-    } = survey_places(alloc, sys, seq, &grid, &index)?;
+        breaches,
+    } = survey_places(alloc, sys, seq, &grid, before, &index)?;
     Ok(SideSets {
         grid,
         seed_count: sys.seeds().len(),
         earlier,
         outputs,
         index,
-        inexact,
-        rival,
+        inexact: breaches.inexact,
+        rival: breaches.rival,
     })
 }

@@ -1,5 +1,5 @@
 // What was found for glues that came before.
-ghost use Rattle.std.specs.Prelude.{◌≡◌, ◌<◌, None, IfOk, IfSome};
+ghost use Rattle.std.specs.Prelude.{◌≡◌, ◌<◌, ◌≤◌, None, IfOk, IfSome};
 ghost use Rattle.atam.specs.Sites.{IsNearSite};
 ghost use Rattle.atam.specs.Placements.{tile_at};
 ghost use Rattle.tile_system.specs.Neighbors.{StandBeside};
@@ -15,7 +15,17 @@ use std::alloc::Global;
 use std::marker::Model;
 use tile_system::{Beside, GlueId, NoMemory, Placed, Site, System};
 
-const SLOTS: usize = 8192;
+// The slots of a system of few types, of some, and of many; each a power of two.
+const FEW_SLOTS: usize = 256;
+
+const SOME_SLOTS: usize = 1024;
+
+const MANY_SLOTS: usize = 8192;
+
+// What are few types and some.
+const FEW_TYPES: u32 = 8;
+
+const SOME_TYPES: u32 = 64;
 
 // The codes of a glue in a key.
 const CODES: u64 = 65536;
@@ -28,21 +38,23 @@ struct Finding {
 }
 
 /// What was found for glues that faced sites before, so that it need not be looked up again. Each
-/// has one of 8192 slots, where what is found next for that slot replaces it.
+/// has one of at most 8192 slots, where what is found next for that slot replaces it. A system of
+/// few types has fewer slots, since all of them are written when the cache is made.
 #[derive(Drop)]
 pub struct FacingCache {
     findings: Vec<Finding>,
+    last_slot: usize,
 }
 
 impl Model for FacingCache {
-    ghost use Rattle.std.specs.Prelude.{◌≡◌, List, length};
+    ghost use Rattle.std.specs.Prelude.{◌<◌, List, length};
     ghost use Rattle.type_index.specs.declared.cache.Finding.{Finding};
 
     ghost Value = { List Finding };
 
     ghost view = { λ m. m.findings.items };
 
-    ghost invariant = { λ m. length m.findings.items ≡ 8192 };
+    ghost invariant = { λ m. m.last_slot < length m.findings.items };
 }
 
 impl FacingCache {
@@ -52,8 +64,10 @@ impl FacingCache {
     {
         let _valid = sys.tau();
         let found = Found::NONE;
+        let slots = slots_for(sys.type_count());
         Ok(FacingCache {
-            findings: Vec::from_elem(alloc, Finding { key: 0, found }, SLOTS)?,
+            findings: Vec::from_elem(alloc, Finding { key: 0, found }, slots)?,
+            last_slot: slots - 1,
         })
     }
 
@@ -153,7 +167,7 @@ impl FacingCache {
             → SumsUpHeld sys.now glues found) }
     {
         let _known_of = sys;
-        let finding = &self.findings[slot_of(key)];
+        let finding = &self.findings[slot_of(key, self.last_slot)];
         if finding.key == key {
             return Some(finding.found);
         }
@@ -171,7 +185,7 @@ impl FacingCache {
         ensures known { AreFindings sys.now self.new }
     {
         let found = index.sum_up(sys, &glues);
-        self.findings[slot_of(key)] = Finding { key, found };
+        self.findings[slot_of(key, self.last_slot)] = Finding { key, found };
         found
     }
 }
@@ -185,12 +199,26 @@ fn sum_up_apart(sys: &System, index: &TypeIndex, glues: FacingGlues) -> Found
     index.sum_up(sys, &glues)
 }
 
-// The slot of a key.
-#[inline(always)]
-fn slot_of(key: u64) -> usize
-    ensures { result < 8192 }
+// The number of slots for a system with so many types.
+fn slots_for(types: u32) -> usize
+    ensures { 0 < result }
 {
-    (key.wrapping_mul(0x9e37_79b9_7f4a_7c15) >> 51) as usize
+    if types <= FEW_TYPES {
+        FEW_SLOTS
+    } else if types <= SOME_TYPES {
+        SOME_SLOTS
+    } else {
+        MANY_SLOTS
+    }
+}
+
+// The slot of a key, where the slots up to this one are a power of two.
+#[inline(always)]
+#[tactic(auto, using(std::proofs::lemmas::Nat::and_le_r))]
+fn slot_of(key: u64, last_slot: usize) -> usize
+    ensures { result ≤ last_slot }
+{
+    (key.wrapping_mul(0x9e37_79b9_7f4a_7c15) >> 51) as usize & last_slot
 }
 
 // The key of four glues, unless a glue's code has more than 16 bits, as those of a system don't.

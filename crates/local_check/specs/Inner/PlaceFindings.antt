@@ -1,32 +1,39 @@
 -- What is found at a place, by its type, the glues that face it and the sides beside which a tile stood before.
-use Rattle.std.specs.Prelude.{◌≡◌, List, length, Option, Some, None}
-use Rattle.std.specs.List.{slice_index_or}
+use Rattle.std.specs.Prelude.{◌≡◌, List, length, Some, slice_get}
 use Rattle.atam.specs.declared.site.Site.{Site}
 use Rattle.atam.specs.declared.place.TypeId.{TypeId}
 use Rattle.atam.specs.declared.place.Place.{Place}
 use Rattle.atam.specs.TileSystem.{TileSystem}
+use Rattle.attach_rule.specs.declared.facing.FacingGlues.{FacingGlues}
 use Rattle.attach_rule.specs.Facing.{FacesSite}
 use Rattle.type_index.specs.declared.cache as cache
 use Rattle.type_index.specs.HeldTypes.{FirstHeldBut}
-use Rattle.type_index.specs.Findings.{AreFindings}
+use Rattle.type_index.specs.Findings.{AreFindings, IsKeyOf}
+use Rattle.local_check.specs.declared.side_set.SideSet.{SideSet}
 use Rattle.local_check.specs.declared.findings.Finding.{Finding}
+use Rattle.local_check.specs.declared.findings.Known.{Known}
 use Rattle.local_check.specs.Inner.Sides.{bound_sides, intersection, difference, complement, pull_on, glues_on}
 
--- What holds wherever these glues face a site: the sides that interact with the tiles that stood there before, the other sides that interact,
--- and the pull of those tiles. And the first other type that the glues on all sides but these others hold.
-pub record IsFinding (sys : TileSystem) (t : TypeId) (f : Finding) : Type 0 where
-  pub earlier : (tiles : List Place) (m : Site) → FacesSite sys tiles m f.glues → f.earlier ≡ intersection (bound_sides sys tiles m t) f.before
-  pub outputs : (tiles : List Place) (m : Site) → FacesSite sys tiles m f.glues → f.outputs ≡ difference (bound_sides sys tiles m t) f.before
-  pub sum : (tiles : List Place) (m : Site) → FacesSite sys tiles m f.glues → f.sum ≡ pull_on sys tiles m t f.before
-  pub rival : FirstHeldBut sys (glues_on (complement f.outputs) f.glues) t f.rival
+-- At a site among these tiles, of which those beside some sides stood there before, the sides of a type that interact with these, the other
+-- sides that interact, and the pull of those that stood there before. And the first other type that the glues on all sides but these others hold.
+pub record IsFinding (sys : TileSystem) (tiles : List Place) (m : Site) (t : TypeId) (before : SideSet) (f : Finding) : Type 0 where
+  pub earlier : f.earlier ≡ intersection (bound_sides sys tiles m t) before
+  pub outputs : f.outputs ≡ difference (bound_sides sys tiles m t) before
+  pub sum : f.sum ≡ pull_on sys tiles m t before
+  pub rival : (glues : FacingGlues) → FacesSite sys tiles m glues → FirstHeldBut sys (glues_on (complement f.outputs) glues) t f.rival
+
+-- it was found for the type, wherever the glues that face a site have the key
+abbrev pub IsKnown : TileSystem → TypeId → Known → Type 0
+IsKnown sys t known = (tiles : List Place) (m : Site) (glues : FacingGlues) → FacesSite sys tiles m glues → IsKeyOf glues known.key →
+    IsFinding sys tiles m t known.before known.finding
 
 -- what was found last for each type, and what was found for glues
 pub record FindingTable : Type 0 where
-  pub last : List (Option Finding)
+  pub last : List Known
   pub cache : List cache.Finding.Finding
 
 -- each was found for its type
 pub record ArePlaceFindings (sys : TileSystem) (table : FindingTable) : Type 0 where
   pub count : length table.last ≡ length sys.types
-  pub each : (t : TypeId) (f : Finding) → slice_index_or table.last t.0 None ≡ Some f → IsFinding sys t f
+  pub each : (t : TypeId) (known : Known) → slice_get table.last t.0 ≡ Some known → IsKnown sys t known
   pub cache : AreFindings sys table.cache

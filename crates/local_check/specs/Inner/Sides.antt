@@ -1,10 +1,12 @@
 -- Sides that interact with the tiles beside them, and the glues on some sides.
-use Rattle.std.specs.Prelude.{◌≡◌, ℕ, ◌+◌, Bool, is_some, not, ◌&&◌, nat_lt, if◌then◌else◌, List, length, slice_get, take, max, Some, None}
+use Rattle.std.specs.Prelude.{◌≡◌, ℕ, ◌<◌, ◌≤◌, ◌+◌, Bool, is_some, not, ◌&&◌, nat_lt, if◌then◌else◌, List, length, slice_get, take, max, Some, None}
 use Rattle.atam.specs.declared.site.Side.{Side}
 use Rattle.atam.specs.declared.site.Side.TheVariants.{North, East, South, West}
 use Rattle.atam.specs.declared.site.Site.{Site}
 use Rattle.atam.specs.declared.place.TypeId.{TypeId}
 use Rattle.atam.specs.declared.place.Place.{Place}
+use Rattle.atam.specs.Sites.{neighbor}
+use Rattle.atam.specs.Placements.{tile_at}
 use Rattle.atam.specs.TileSystem.{TileSystem}
 use Rattle.atam.specs.Assembly.{bond}
 use Rattle.atam.specs.Determinism.{is_output}
@@ -30,6 +32,15 @@ bound_by bonds = record { north = nat_lt 0 bonds.north; east = nat_lt 0 bonds.ea
 -- the sides beside which there is a tile
 abbrev pub standing : Beside → SideSet
 standing beside = record { north = is_some beside.north; east = is_some beside.east; south = is_some beside.south; west = is_some beside.west }
+
+-- the sides of a site beside which there is a tile
+abbrev pub sides_beside : List Place → Site → SideSet
+sides_beside tiles m = record {
+  north = is_some (tile_at tiles (neighbor m North));
+  east = is_some (tile_at tiles (neighbor m East));
+  south = is_some (tile_at tiles (neighbor m South));
+  west = is_some (tile_at tiles (neighbor m West));
+}
 
 -- the sides that both sets have
 abbrev pub intersection : SideSet → SideSet → SideSet
@@ -64,6 +75,11 @@ glues_on sides glues = record {
   west = if sides.west then glues.west else None;
 }
 
+-- each set has the sides beside which a seed or an earlier place stands
+abbrev pub AreBeforeAt : TileSystem → List Place → List SideSet → Type 0
+AreBeforeAt sys s sets = (k : ℕ) (p : Place) (sides : SideSet) → slice_get s k ≡ Some p → slice_get sets k ≡ Some sides →
+    sides ≡ sides_beside (take (max (length sys.seeds) k) s) p.site
+
 -- each set has the sides that interact with the seeds or with an earlier place
 abbrev pub AreEarlierAt : TileSystem → List Place → List SideSet → Type 0
 AreEarlierAt sys s sets = (k : ℕ) (p : Place) (sides : SideSet) → slice_get s k ≡ Some p → slice_get sets k ≡ Some sides →
@@ -73,7 +89,20 @@ AreEarlierAt sys s sets = (k : ℕ) (p : Place) (sides : SideSet) → slice_get 
 abbrev pub AreOutputsAt : TileSystem → List Place → List SideSet → Type 0
 AreOutputsAt sys s sets = (k : ℕ) (sides : SideSet) → slice_get sets k ≡ Some sides → (d : Side) → has sides d ≡ is_output sys s k d
 
+-- the one of the places before an index, the other of those from it on
+abbrev pub AreEarlierBelow : TileSystem → List Place → ℕ → List SideSet → Type 0
+AreEarlierBelow sys s n sets = (k : ℕ) (p : Place) (sides : SideSet) → k < n → slice_get s k ≡ Some p → slice_get sets k ≡ Some sides →
+    sides ≡ bound_sides sys (take (max (length sys.seeds) k) s) p.site p.tile
+
+abbrev pub AreBeforeFrom : TileSystem → List Place → ℕ → List SideSet → Type 0
+AreBeforeFrom sys s n sets = (k : ℕ) (p : Place) (sides : SideSet) → n ≤ k → slice_get s k ≡ Some p → slice_get sets k ≡ Some sides →
+    sides ≡ sides_beside (take (max (length sys.seeds) k) s) p.site
+
 -- one set for each place
+pub record AreSidesBefore (sys : TileSystem) (s : List Place) (sets : List SideSet) : Type 0 where
+  pub count : length sets ≡ length s
+  pub each : AreBeforeAt sys s sets
+
 pub record AreEarlierSides (sys : TileSystem) (s : List Place) (sets : List SideSet) : Type 0 where
   pub count : length sets ≡ length s
   pub each : AreEarlierAt sys s sets

@@ -6,7 +6,7 @@ pub returns : goal.returns
 returns c =
     let found = c.in_ok-earlier.field-0 in
     let are = c.in_ok-earlier.ensures in
-    table c.args.sys.now c.args.seq.now c.put_places.new.grid.tiles found.earlier.items found.outputs.items
-    c.area.ensures.valid.distinct_seeds c.requires.legal are.earlier are.outputs c.put_places.ensures
+    table c.args.sys.now c.args.seq.now c.in_ok-grid.field-0.grid.tiles found.earlier.items found.outputs.items
+    c.tau-valid.ensures.valid.distinct_seeds c.requires.legal are.earlier are.outputs c.in_ok-grid.ensures.placements
     (length c.seeds.result.now) (ap length c.seeds.ensures.seeds) c.in_ok-index.index c.in_ok-index.ensures
-    found.inexact are.inexact found.rival are.rival
+    found.breaches.inexact are.inexact found.breaches.rival are.rival
