@@ -5,9 +5,9 @@ ghost use Rattle.atam.specs.Assembly.{Fits};
 ghost use Rattle.atam.specs.Growth.{IsLegal};
 ghost use Rattle.replay_order.specs.Legalities.{IsLegalityAnswer, legal_part};
 
-use assembly::{Grid, Sequence, put_seeds};
-use attach_rule::bonds;
-use tile_system::{Placed, System};
+use assembly::{Grid, Sequence, put_seeds, site_index};
+use attach_rule::{facing_pull, glues_beside};
+use tile_system::System;
 
 /// Whether a sequence is legal, and else what breaks legality first.
 /// An index is that of a place, from 0; it is at least the number of seeds.
@@ -39,14 +39,17 @@ pub fn check_legal(sys: &System, seq: &Sequence, scratch: &mut Grid) -> Legality
     put_seeds(sys, scratch);
     for index in sys.seeds().len() as u32..seq.len() as u32 {
         let place = seq.get(index as usize);
-        if scratch.at(place.site).is_some() {
+        let number = site_index(&scratch.area(), place.site);
+        if scratch.tile(number).is_some() {
             return Legality::SiteTaken { index };
         }
-        let pull = bonds(sys, scratch, place.site, place.tile).sum();
+        let beside = scratch.beside_at(place.site, number);
+        let glues = glues_beside(sys, scratch, place.site, &beside);
+        let pull = facing_pull(sys, &glues, place.tile);
         if pull < tau {
             return Legality::TooWeak { index, pull };
         }
-        scratch.put(place);
+        scratch.put_at(place, number);
     }
     Legality::Legal
 }

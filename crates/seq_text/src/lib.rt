@@ -21,7 +21,7 @@ pub use laws::{
 };
 pub use legality::print_legality;
 pub use places::print_places;
-pub use reader::{read_grid, read_sequence};
+pub use reader::{read_grid, read_grid_once, read_sequence, read_sequence_once};
 pub use schedule::read_events;
 pub use seen::{print_replies, print_seen, put_seen};
 pub use stuck::{print_stuck, print_stuck_seed};

@@ -1,5 +1,5 @@
 // A growth is read from its text.
-ghost use Rattle.std.specs.Prelude.{◌≡◌, ◌≤◌, ◌<◌, ◌^◌, ◌++◌, ◌∷◌, [], List, true, false, Some, length, is_some, IfOk, IfSome, OnOk, OnErr};
+ghost use Rattle.std.specs.Prelude.{◌≡◌, ◌≤◌, ◌<◌, ◌^◌, ◌++◌, ◌∷◌, [], List, true, false, Some, length, is_some, IfOk, IfErr, IfSome, OnOk, OnErr};
 ghost use Rattle.atam.specs.Sites.{InBox};
 ghost use Rattle.atam.specs.Assembly.{Fits};
 ghost use Rattle.atam.specs.Placements.{HasDistinctSites};
@@ -19,7 +19,9 @@ use crate::plain::plain_place;
 use assembly::{Grid, Sequence};
 use atam::MOST_TYPES;
 use std::alloc::Global;
-use tile_io::{Cause, LineReader, LineStop, LineWords, MOST_INPUT, Mark, TextStop, read_text};
+use tile_io::{
+    Cause, LineReader, LineStop, LineWords, MOST_INPUT, Mark, TextStop, read_text, read_text_once,
+};
 use tile_system::{NoMemory, Place, Placed, Site, System};
 use tile_text::{read_place, read_site};
 
@@ -38,13 +40,27 @@ pub fn read_sequence(
     ensures fits { IfOk result (Fits sys.now) }
     ensures count { IfOk result (λ sequence. length sequence < 2 ^ 32) }
 {
-    let mut reader = GrowthReader {
-        system: sys,
-        places: Sequence::make(alloc),
-        scratch: None,
-        last: None,
-    };
+    let mut reader = GrowthReader::of_sequence(alloc, sys);
     read_text(&mut reader, text, from)?;
+    Ok(reader.places)
+}
+
+/// The same for a text that is handed over, whose memory is given back on the way.
+pub fn read_sequence_once(
+    alloc: Global,
+    sys: &System,
+    text: Vec<u8>,
+    from: Mark,
+) -> Result<Sequence, TextStop>
+    requires short { length text.items ≤ MOST_INPUT }
+    requires mark { IsMark text.items from }
+    ensures read { ReadsOrStops (sequence_format sys.now) text.items from
+        (ReadsSequence sys.now text.items from) result }
+    ensures fits { IfOk result (Fits sys.now) }
+    ensures count { IfOk result (λ sequence. length sequence < 2 ^ 32) }
+{
+    let mut reader = GrowthReader::of_sequence(alloc, sys);
+    read_text_once(&mut reader, text, from)?;
     Ok(reader.places)
 }
 
@@ -58,16 +74,29 @@ pub fn read_grid(alloc: Global, sys: &System, text: &[u8], from: Mark) -> Result
     ensures fits { IfOk result (λ grid. Fits sys.now grid.tiles) }
     ensures distinct { IfOk result (λ grid. HasDistinctSites grid.tiles) }
 {
-    let Ok(grid) = Grid::make(alloc, sys.area()) else {
-        return Err(TextStop::NoMemory);
-    };
-    let mut reader = GrowthReader {
-        system: sys,
-        places: Sequence::make(alloc),
-        scratch: Some(grid),
-        last: None,
-    };
+    let mut reader = GrowthReader::of_grid(alloc, sys)?;
     read_text(&mut reader, text, from)?;
+    let grid = reader.scratch.unwrap();
+    prove!(grid.area() == sys.area());
+    Ok(grid)
+}
+
+/// The same for a text that is handed over, whose memory is given back on the way.
+pub fn read_grid_once(
+    alloc: Global,
+    sys: &System,
+    text: Vec<u8>,
+    from: Mark,
+) -> Result<Grid, TextStop>
+    requires short { length text.items ≤ MOST_INPUT }
+    requires mark { IsMark text.items from }
+    ensures read { ReadsOrStops (grid_format sys.now) text.items from
+        (ReadsGrid sys.now text.items from) result }
+    ensures fits { IfOk result (λ grid. Fits sys.now grid.tiles) }
+    ensures distinct { IfOk result (λ grid. HasDistinctSites grid.tiles) }
+{
+    let mut reader = GrowthReader::of_grid(alloc, sys)?;
+    read_text_once(&mut reader, text, from)?;
     let grid = reader.scratch.unwrap();
     prove!(grid.area() == sys.area());
     Ok(grid)
@@ -152,6 +181,40 @@ impl<'a> LineReader for GrowthReader<'a> {
 
 impl<'a> GrowthReader<'a> {
     ghost use Rattle.seq_text.specs.Inner.SoFar.{HoldsLines};
+
+    // A reader of a sequence, before the first line.
+    fn of_sequence(alloc: Global, system: &'a System) -> GrowthReader<'a>
+        ensures distinct { is_some result.scratch ≡ false }
+        ensures system { result.system.now ≡ system.now }
+        ensures nothing { HoldsLines result.system.now result.places
+            result.scratch result.last [] }
+    {
+        GrowthReader {
+            system,
+            places: Sequence::make(alloc),
+            scratch: None,
+            last: None,
+        }
+    }
+
+    // A reader of a grid, before the first line.
+    fn of_grid(alloc: Global, system: &'a System) -> Result<GrowthReader<'a>, TextStop>
+        ensures memory { IfErr result (λ stop. stop ≡ TextStop.NoMemory) }
+        ensures distinct { IfOk result (λ reader. is_some reader.scratch ≡ true) }
+        ensures system { IfOk result (λ reader. reader.system.now ≡ system.now) }
+        ensures nothing { IfOk result (λ reader.
+            HoldsLines reader.system.now reader.places reader.scratch reader.last []) }
+    {
+        let Ok(grid) = Grid::make(alloc, system.area()) else {
+            return Err(TextStop::NoMemory);
+        };
+        Ok(GrowthReader {
+            system,
+            places: Sequence::make(alloc),
+            scratch: Some(grid),
+            last: None,
+        })
+    }
 
     // Takes the fields of a `place` line.
     fn take_place(&mut self, words: &LineWords) -> Result<bool, LineStop>

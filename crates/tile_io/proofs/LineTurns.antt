@@ -12,7 +12,8 @@ use Rattle.tile_io.specs.Formats.{Fault, missing_cause}
 use Rattle.tile_io.specs.Checks.{Table, table_format, check_line}
 use Rattle.tile_io.specs.LineReader.{TakesItem, ReadsInto}
 use Rattle.tile_io.specs.Inner.Headers.{first_cause}
-use Rattle.tile_io.proofs.Progress.{Progress, progress_item, progress_end, progress_fault, progress_missing, progress_complete}
+use Rattle.tile_io.specs.Inner.Stretches.{Progress}
+use Rattle.tile_io.proofs.Progress.{progress_item, progress_end, progress_fault, progress_missing, progress_complete}
 use Rattle.tile_io.proofs.Rows.{header_passes, header_fails}
 
 module _ {Item : Type 0} where

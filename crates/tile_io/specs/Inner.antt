@@ -1,3 +1,4 @@
 pub mod AtHand
 pub mod Headers
 pub mod LineAt
+pub mod Stretches

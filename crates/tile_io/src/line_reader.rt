@@ -1,17 +1,12 @@
-// The kept lines of a text, one after another.
-ghost use Rattle.std.specs.Prelude.{◌≡◌, ◌≤◌, List, [], true, length, find, bytes_eq, option_map, IfSome, IfNone};
-ghost use Rattle.tile_io.specs.Lines.{words_of, lines_from, mark_after};
-ghost use Rattle.tile_io.specs.NextLine.{IsMark};
-ghost use Rattle.tile_io.specs.Formats.{ReadsOrStops};
-ghost use Rattle.tile_io.specs.Checks.{Keyword, Table, table_format, check_line, last_of};
-ghost use Rattle.tile_io.specs.LineReader.{TakesItem, MayTake, ReadsInto};
-ghost use Rattle.tile_io.specs.Inner.Headers.{first_cause};
+// What reads the lines of a kind of text.
+ghost use Rattle.std.specs.Prelude.{◌≡◌, ◌≤◌, List, true, length, find, bytes_eq, option_map, IfSome, IfNone};
+ghost use Rattle.tile_io.specs.Lines.{words_of};
+ghost use Rattle.tile_io.specs.Checks.{Keyword, Table, check_line, last_of};
+ghost use Rattle.tile_io.specs.LineReader.{TakesItem, MayTake};
 
 use crate::cut_line::LineWords;
-use crate::fault::{Cause, TextFault, TextStop};
-use crate::limits::{LONGEST_LINE, MOST_INPUT};
-use crate::mark::Mark;
-use crate::reading::{end_number, next_line};
+use crate::fault::Cause;
+use crate::limits::LONGEST_LINE;
 
 /// Why a line was refused.
 #[derive(Clone, Copy, Debug, PartialEq, Eq)]
@@ -144,75 +139,5 @@ pub trait LineReader {
         }
         let words = LineWords::cut(line);
         self.take_line(&words)
-    }
-}
-
-/// Reads the lines of a text, up to its own end line or the end of the input.
-pub fn read_text<R: LineReader>(reader: &mut R, text: &[u8], from: Mark) -> Result<Mark, TextStop>
-    requires empty { R.holds reader.old [] }
-    requires short { length text.now ≤ MOST_INPUT }
-    requires mark { IsMark text.now from }
-    ensures read { ReadsOrStops (table_format (R.table (R.context reader.old))) text.now from
-        (ReadsInto (table_format (R.table (R.context reader.old))) text.now from
-        (R.holds reader.new))
-        result }
-    ensures context { R.context reader.new ≡ R.context reader.old }
-{
-    let mut mark = from;
-    let mut missing = Cause::NoHeader;
-    'lines: loop {
-        match next_line(text, mark) {
-            Err(fault) => return Err(TextStop::Fault(fault)),
-            Ok(None) => {
-                let end = end_mark(text, mark);
-                if reader.is_complete() {
-                    return Ok(end);
-                }
-                return Err(TextStop::Fault(TextFault {
-                    line: end.line,
-                    cause: missing,
-                }));
-            }
-            Ok(Some(line)) => {
-                match reader.take_bytes(&text[line.start..line.end]) {
-                    Ok(true) => return Ok(line.next),
-                    Ok(false) => {
-                        mark = line.next;
-                        missing = Cause::NoEnd;
-                    }
-                    Err(LineStop::Fault(cause)) => {
-                        let cause = first_cause(reader.has_header(), missing, cause);
-                        return Err(TextStop::Fault(TextFault {
-                            line: line.number,
-                            cause,
-                        }));
-                    }
-                    Err(LineStop::NoMemory) => return Err(TextStop::NoMemory),
-                }
-            }
-        }
-    }
-}
-
-// The cause that a line has which fails a check: the first one of a text with a header is a missing header.
-fn first_cause(has_header: bool, missing: Cause, cause: Cause) -> Cause
-    ensures { result ≡ first_cause has_header missing cause }
-{
-    match missing {
-        Cause::NoHeader if has_header => Cause::NoHeader,
-        _ => cause,
-    }
-}
-
-// The end of a text, from a mark in it.
-fn end_mark(text: &[u8], from: Mark) -> Mark
-    requires short { length text.now ≤ MOST_INPUT }
-    requires mark { IsMark text.now from }
-    ensures { let lines = lines_from text.now from in
-        result ≡ mark_after lines from (length lines) }
-{
-    Mark {
-        at: text.len(),
-        line: end_number(text, from),
     }
 }

@@ -1,5 +1,5 @@
 -- What `replay` answers to a text.
-use Rattle.std.proofs.Common.{◌∙◌, ◌++◌, [], ℕ, List, None, refl, sym, ap, subst, append-nil}
+use Rattle.std.proofs.Common.{◌∙◌, ◌++◌, [], ℕ, List, None, refl, sym, ap, subst, append-nil, Err, inr}
 use Rattle.atam.specs.declared.place.Place.{Place}
 use Rattle.atam.specs.Placements.{HasDistinctSites}
 use Rattle.atam.specs.TileSystem.{TileSystem, IsValid}
@@ -15,6 +15,14 @@ use Rattle.tilebench.specs.declared.commands.replay.Reordering.{Reordering}
 use Rattle.tilebench.specs.Commands.Replay.{IsAssemblyOf, IsReordering, IsReplayAnswer, IsSystemThenPlacements, is_whole, reordering_text}
 use Rattle.tilebench.proofs.Headlines.{valid_system}
 use Rattle.tilebench.proofs.ReadingBack.{placements_back}
+use Rattle.tile_io.specs.declared.mark.Mark.{Mark}
+use Rattle.tile_io.specs.declared.fault.TextStop.{TextStop}
+use Rattle.tile_io.specs.Formats.{Format, ReadsOrStops}
+use Rattle.tile_text.specs.SystemText.{ReadsSystem}
+use Rattle.tilebench.specs.Inputs.{FailsWithin, first_mark}
+use Rattle.tilebench.specs.Inner.Gives.{Gives}
+use Rattle.tilebench.specs.Inner.Stops.{stop_of_text}
+use Rattle.tile_io.specs.declared.fault.TextStop.TheVariants as stops
 
 -- the reordering of what was read is the answer
 pub replay_answer : (input : List ℕ) (sys : TileSystem) (places tiles : List Place) (reordering : Reordering) → IsSystemThenPlacements input sys places → IsAssemblyOf places tiles →
@@ -51,3 +59,9 @@ canonical_whole sys tiles s seeds_distinct distinct fits producible canonical =
       fits = Fits-part sys s tiles part fits;
       producible = producible;
     }
+
+-- what stops the reading of a text behind that of a system is the input's fault, or want of memory
+pub stops_within : {Item Answer T : Type 0} (format : TileSystem → Format Item) (input : List ℕ) (sys : TileSystem) (end : Mark) → ReadsSystem input first_mark sys end → (IsReadAs : Answer → Type 0) (stop : TextStop) →
+    ReadsOrStops (format sys) input end IsReadAs (Err stop) → (Holds : T → Type 0) → Gives Holds (FailsWithin format input) (Err (stop_of_text stop))
+stops_within format input sys end reads IsReadAs (stops.Fault fault) h Holds = inr (sys, record { end = end; reads = reads; rest = h })
+stops_within format input sys end reads IsReadAs stops.NoMemory h Holds = tt

@@ -50,11 +50,12 @@ pub trait Room {
     /// The first fault of the input.
     ghost fails: { Self → List ℕ → TextFault → Type 0 };
 
-    /// Its answer to an input. The other `Err` is want of memory.
-    fn answer(&self, alloc: Global, input: &[u8]) -> Result<Self::Answer, Stop>
-        requires { length input.now ≤ MOST_INPUT }
+    /// Its answer to an input, which it may let go once it is read. The other `Err` is want of
+    /// memory.
+    fn answer(&self, alloc: Global, input: Vec<u8>) -> Result<Self::Answer, Stop>
+        requires { length input.items ≤ MOST_INPUT }
         ensures { GivesReply Self.Answer.yes Self.Answer.text Self.Answer.printable
-            (answers self.now input.now) (fails self.now input.now) result };
+            (answers self.now input.items) (fails self.now input.items) result };
 
     /// An input that it takes has no fault.
     ghost one_of_two: { (room : Self) (input : List ℕ) (fault : TextFault) →

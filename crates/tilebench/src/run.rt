@@ -48,19 +48,19 @@ fn answer_to<C: Room, S: Source>(
     ensures printable { IfOk result (λ found. C.Answer.printable found.0) }
 {
     let input = read_whole(alloc, source)?;
-    plain_answer(alloc, room, &input)
+    plain_answer(alloc, room, input)
 }
 
 // The command's answer to an input, with no growth.
 fn plain_answer<C: Room>(
     alloc: Global,
     room: &C,
-    input: &[u8],
+    input: Vec<u8>,
 ) -> Result<(C::Answer, Option<Grown>), Stop>
-    requires { length input.now ≤ MOST_INPUT }
+    requires { length input.items ≤ MOST_INPUT }
     ensures { GivesGrowth C.Answer.yes C.Answer.text C.Answer.printable
-        (λ grown. TellsNoGrowth (C.answers room.now) grown input.now)
-        (C.fails room.now input.now) result }
+        (λ grown. TellsNoGrowth (C.answers room.now) grown input.items)
+        (C.fails room.now input.items) result }
 {
     match room.answer(alloc, input) {
         Ok(reply) => Ok((reply, None)),

@@ -1,7 +1,9 @@
 // `check`: whether a sequence is legal, and the verdict on it.
-ghost use Rattle.std.specs.Prelude.{◌≡◌, ◌<◌, ◌≤◌, ◌^◌, length, IfOk};
+ghost use Rattle.std.specs.Prelude.{◌≡◌, ◌↔◌, ◌<◌, ◌≤◌, ◌^◌, length, IfOk};
 ghost use Rattle.tile_io.specs.declared.limits.TheConstants.{MOST_INPUT};
 ghost use Rattle.atam.specs.Assembly.{Fits};
+ghost use Rattle.atam.specs.Growth.{IsLegal};
+ghost use Rattle.replay_order.specs.Legalities.{IsLegalityAnswer};
 ghost use Rattle.tile_io.specs.Prints.{Prints};
 ghost use Rattle.seq_text.specs.GrowthText.{sequence_format};
 ghost use Rattle.seq_text.specs.VerdictLines.{NamesTypes};
@@ -18,7 +20,7 @@ use crate::stop::Stop;
 use assembly::{Grid, Sequence};
 use local_check::{Verdict, inputs, judge};
 use replay_order::{Legality, check_legal};
-use seq_text::{print_legality, print_verdict, read_sequence};
+use seq_text::{print_legality, print_verdict, read_sequence_once};
 use std::alloc::Global;
 use tile_io::{Failed, Sink};
 use tile_system::{NoMemory, System};
@@ -36,7 +38,7 @@ impl Room for Check {
 
     ghost fails = { λ room. FailsWithin sequence_format };
 
-    fn answer(&self, alloc: Global, input: &[u8]) -> Result<Checked, Stop> {
+    fn answer(&self, alloc: Global, input: Vec<u8>) -> Result<Checked, Stop> {
         let (sys, sequence) = system_and_sequence(alloc, input)?;
         let judgement = judgement_of(alloc, &sys, &sequence)?;
         Ok(Checked { sys, judgement })
@@ -92,15 +94,15 @@ fn print_legal<K: Sink>(sys: &System, verdict: &Verdict, out: &mut K) -> Result<
 }
 
 // The system and the sequence whose texts the input is.
-fn system_and_sequence(alloc: Global, input: &[u8]) -> Result<(System, Sequence), Stop>
-    requires { length input.now ≤ MOST_INPUT }
-    ensures read { Gives (λ found. IsSystemThenSequence input.now found.0 found.1)
-        (FailsWithin sequence_format input.now) result }
+fn system_and_sequence(alloc: Global, input: Vec<u8>) -> Result<(System, Sequence), Stop>
+    requires { length input.items ≤ MOST_INPUT }
+    ensures read { Gives (λ found. IsSystemThenSequence input.items found.0 found.1)
+        (FailsWithin sequence_format input.items) result }
     ensures fits { IfOk result (λ found. Fits found.0 found.1) }
     ensures short { IfOk result (λ found. length found.1 < 2 ^ 32) }
 {
-    let (sys, end) = read_front(alloc, input)?;
-    let sequence = read_sequence(alloc, &sys, input, end)?;
+    let (sys, end) = read_front(alloc, &input)?;
+    let sequence = read_sequence_once(alloc, &sys, input, end)?;
     Ok((sys, sequence))
 }
 
@@ -111,12 +113,22 @@ fn judgement_of(alloc: Global, sys: &System, sequence: &Sequence) -> Result<Judg
     ensures judged { IfOk result (IsJudgement sys.now sequence.now) }
     ensures types { IfOk result (NamesItsTypes sys.now) }
 {
-    let mut scratch = Grid::make(alloc, sys.area())?;
-    match check_legal(sys, sequence, &mut scratch) {
+    match legality_of(alloc, sys, sequence)? {
         Legality::Legal => {
             let sides = inputs(alloc, sys, sequence)?;
             Ok(Judgement::Legal(judge(sys, sequence, &sides)))
         }
         breach => Ok(Judgement::Breach(breach)),
     }
+}
+
+// Whether a sequence is legal. The grid that tells it is let go before the verdict is looked for.
+fn legality_of(alloc: Global, sys: &System, sequence: &Sequence) -> Result<Legality, NoMemory>
+    requires fits { Fits sys.now sequence.now }
+    requires short { length sequence.now < 2 ^ 32 }
+    ensures answer { IfOk result (IsLegalityAnswer sys.now sequence.now) }
+    ensures legal { IfOk result (λ legality. (legality ≡ Legality.Legal) ↔ IsLegal sys.now sequence.now) }
+{
+    let mut scratch = Grid::make(alloc, sys.area())?;
+    Ok(check_legal(sys, sequence, &mut scratch))
 }

@@ -22,8 +22,8 @@ impl Room for Format {
 
     ghost fails = { λ room. FailsWithin alone };
 
-    fn answer(&self, alloc: Global, input: &[u8]) -> Result<Spelled, Stop> {
-        let sys = read_alone(alloc, input)?;
+    fn answer(&self, alloc: Global, input: Vec<u8>) -> Result<Spelled, Stop> {
+        let sys = read_alone(alloc, &input)?;
         Ok(Spelled { sys })
     }
 

@@ -29,7 +29,7 @@ impl Room for Picture {
 
     ghost fails = { λ room. FailsWithin grid_format };
 
-    fn answer(&self, alloc: Global, input: &[u8]) -> Result<Pictured, Stop> {
+    fn answer(&self, alloc: Global, input: Vec<u8>) -> Result<Pictured, Stop> {
         let (sys, grid) = system_and_grid(alloc, input)?;
         Ok(Pictured { sys, grid })
     }

@@ -15,7 +15,7 @@ use crate::room::{Reply, Room};
 use crate::stop::Stop;
 use assembly::{Grid, Sequence};
 use replay_order::{ReplayStop, replay};
-use seq_text::{print_places, print_stuck, print_stuck_seed, read_grid};
+use seq_text::{print_places, print_stuck, print_stuck_seed, read_grid_once};
 use std::alloc::Global;
 use tile_io::{Failed, Sink};
 use tile_system::{NoMemory, Site, System};
@@ -33,7 +33,7 @@ impl Room for Replay {
 
     ghost fails = { λ room. FailsWithin grid_format };
 
-    fn answer(&self, alloc: Global, input: &[u8]) -> Result<Replayed, Stop> {
+    fn answer(&self, alloc: Global, input: Vec<u8>) -> Result<Replayed, Stop> {
         let (sys, grid) = system_and_grid(alloc, input)?;
         let reordering = reordering_of(alloc, &sys, &grid)?;
         Ok(Replayed { sys, reordering })
@@ -81,16 +81,16 @@ impl Reply for Replayed {
 }
 
 /// The system and the assembly whose texts the input is.
-pub fn system_and_grid(alloc: Global, input: &[u8]) -> Result<(System, Grid), Stop>
-    requires { length input.now ≤ MOST_INPUT }
+pub fn system_and_grid(alloc: Global, input: Vec<u8>) -> Result<(System, Grid), Stop>
+    requires { length input.items ≤ MOST_INPUT }
     ensures read { Gives (λ found. (places : List Place)
-        × IsSystemThenPlacements input.now found.0 places × IsAssemblyOf places found.1.tiles)
-        (FailsWithin grid_format input.now) result }
+        × IsSystemThenPlacements input.items found.0 places × IsAssemblyOf places found.1.tiles)
+        (FailsWithin grid_format input.items) result }
     ensures area { IfOk result (λ found. found.1.area ≡ found.0.area) }
     ensures fits { IfOk result (λ found. Fits found.0 found.1.tiles) }
 {
-    let (sys, end) = read_front(alloc, input)?;
-    let grid = read_grid(alloc, &sys, input, end)?;
+    let (sys, end) = read_front(alloc, &input)?;
+    let grid = read_grid_once(alloc, &sys, input, end)?;
     Ok((sys, grid))
 }
 

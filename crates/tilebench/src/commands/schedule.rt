@@ -35,8 +35,8 @@ impl Room for Schedule {
 
     ghost fails = { λ room. FailsWithin schedule_format };
 
-    fn answer(&self, alloc: Global, input: &[u8]) -> Result<Scheduled, Stop> {
-        let (sys, events) = system_and_events(alloc, input)?;
+    fn answer(&self, alloc: Global, input: Vec<u8>) -> Result<Scheduled, Stop> {
+        let (sys, events) = system_and_events(alloc, &input)?;
         Ok(schedule_of(alloc, sys, &events)?)
     }
 

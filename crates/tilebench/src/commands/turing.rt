@@ -23,8 +23,8 @@ impl Room for Turing {
 
     ghost fails = { λ room. FailsWithinMachine alone };
 
-    fn answer(&self, alloc: Global, input: &[u8]) -> Result<Spelled, Stop> {
-        let machine = read_machine_alone(alloc, input)?;
+    fn answer(&self, alloc: Global, input: Vec<u8>) -> Result<Spelled, Stop> {
+        let machine = read_machine_alone(alloc, &input)?;
         let sys = compile(alloc, &machine)?;
         Ok(Spelled { sys })
     }

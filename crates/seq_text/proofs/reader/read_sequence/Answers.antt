@@ -1,21 +1,19 @@
-use Rattle.std.proofs.Common.{◌≤◌, false, None, [], List, length, sym, subst, arith}
-use Rattle.atam.specs.declared.place.Place.{Place}
-use Rattle.seq_text.specs.Inner.SoFar.{HoldsLines}
-use Rattle.seq_text.proofs.Growths.{holds_nothing, into_places}
+use Rattle.std.proofs.Common.{◌≤◌, Bool, false, length, subst, arith}
+use Rattle.tile_io.specs.Formats.{Reads}
+use Rattle.atam.specs.TileSystem.{TileSystem}
+use Rattle.seq_text.specs.GrowthText.{growth_format}
+use Rattle.seq_text.proofs.Growths.{into_places}
 use Rattle.seq_text.proofs.Fitting.{places_fit, places_few}
 use Rattle.seq_text.proofs.reader.read_sequence.Goals as goal
-
-pub read_text-requires-clause-empty : goal.read_text-requires-clause-empty
-read_text-requires-clause-empty c =
-    let Holds : List Place → Type 0 = λ l. HoldsLines c.args.sys.now l None None [] in
-    subst Holds (sym c.make.ensures) (holds_nothing c.args.sys.now None tt)
 
 pub returns-clause-fits : goal.returns-clause-fits
 returns-clause-fits c =
     let sys = c.args.sys.now in
     let places = c.read_text.new.reader.places in
     let into = c.in_ok-read_text.ensures.read in
-    let reads = into_places false sys c.args.text.now c.args.from c.in_ok-read_text.field-0 places into.items into.held.places_are into.reads in
+    let to = c.in_ok-read_text.field-0 in
+    let Read : Bool → TileSystem → Type 0 = λ b s. Reads (growth_format b s) c.args.text.now c.args.from into.items to in
+    let reads = into_places false sys c.args.text.now c.args.from to places into.items into.held.places_are (subst (Read false) c.of_sequence-reader.ensures.system (subst (λ b. Read b c.of_sequence-reader.result.system.now) c.of_sequence-reader.ensures.distinct into.reads)) in
     (places_fit false sys c.args.text.now c.args.from places reads).0
 
 pub returns-clause-count : goal.returns-clause-count
@@ -23,6 +21,8 @@ returns-clause-count c =
     let sys = c.args.sys.now in
     let places = c.read_text.new.reader.places in
     let into = c.in_ok-read_text.ensures.read in
-    let reads = into_places false sys c.args.text.now c.args.from c.in_ok-read_text.field-0 places into.items into.held.places_are into.reads in
+    let to = c.in_ok-read_text.field-0 in
+    let Read : Bool → TileSystem → Type 0 = λ b s. Reads (growth_format b s) c.args.text.now c.args.from into.items to in
+    let reads = into_places false sys c.args.text.now c.args.from to places into.items into.held.places_are (subst (Read false) c.of_sequence-reader.ensures.system (subst (λ b. Read b c.of_sequence-reader.result.system.now) c.of_sequence-reader.ensures.distinct into.reads)) in
     let few : length places ≤ length c.args.text.now = places_few false sys c.args.text.now c.args.from places reads in
     omega (arith, few)

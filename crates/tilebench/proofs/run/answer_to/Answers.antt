@@ -8,9 +8,7 @@ pub returns-clause-answer : goal.returns-clause-answer
 returns-clause-answer g c =
     let room = c.args.room.now in
     let read = c.in_ok-input.ensures in
-    let Replied : List ℕ → Type 0 = λ input. GivesGrowth g.C.Answer.Reply.yes g.C.Answer.Reply.text g.C.Answer.Reply.printable
-    (λ grown. TellsNoGrowth (g.C.Room.answers room) grown input) (g.C.Room.fails room input) c.plain_answer.result in
     from_source g.S.Source.faults g.C.Answer.Reply.yes g.C.Answer.Reply.text g.C.Answer.Reply.printable (λ grown. TellsNoGrowth (g.C.Room.answers room) grown) (g.C.Room.fails room)
     (g.S.Source.left c.args.source.now) (g.S.Source.left c.read_whole.new.source) c.args.source.now c.read_whole.new.source c.in_ok-input.input.items
     (record { read = read.bytes; at_end = read.end; short = read.short }) (read.stays (λ never. cc)) c.plain_answer.result
-    (subst Replied c.deref.ensures.value c.plain_answer.ensures)
+    c.plain_answer.ensures

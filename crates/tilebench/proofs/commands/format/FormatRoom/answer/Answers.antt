@@ -1,4 +1,5 @@
-use Rattle.std.proofs.Common.{refl}
+use Rattle.std.proofs.Common.{ℕ, List, refl, subst}
+use Rattle.tilebench.specs.Inputs.{IsSystemAlone}
 use Rattle.tilebench.proofs.Headlines.{valid_system}
 use Rattle.tilebench.proofs.Spelling.{spelled}
 use Rattle.tilebench.proofs.commands.format.FormatRoom.answer.Goals as goal
@@ -6,5 +7,6 @@ use Rattle.tilebench.proofs.commands.format.FormatRoom.answer.Goals as goal
 pub returns : goal.returns
 returns c =
     let sys = c.in_ok-sys.sys in
-    let read = c.in_ok-sys.ensures in
-    record { answer = record { sys = sys; read = read; spelled = spelled sys (valid_system c.args.input.now _ read.end sys read.reads); answer = refl }; prints = tt }
+    let Alone : List ℕ → Type 0 = λ input. IsSystemAlone input sys in
+    let read = subst Alone c.deref.ensures.value c.in_ok-sys.ensures in
+    record { answer = record { sys = sys; read = read; spelled = spelled sys (valid_system c.args.input.items _ read.end sys read.reads); answer = refl }; prints = tt }

@@ -5,6 +5,6 @@ pub returns : goal.returns
 returns c =
     let read = c.in_ok-sys.ensures.read in
     record {
-      answer = replay_answer c.args.input.now c.in_ok-sys.sys read.0 c.in_ok-sys.grid.tiles c.in_ok-reordering.reordering read.1 read.2 c.in_ok-reordering.ensures.reordered;
+      answer = replay_answer c.args.input.items c.in_ok-sys.sys read.0 c.in_ok-sys.grid.tiles c.in_ok-reordering.reordering read.1 read.2 c.in_ok-reordering.ensures.reordered;
       prints = c.in_ok-reordering.ensures.types;
     }

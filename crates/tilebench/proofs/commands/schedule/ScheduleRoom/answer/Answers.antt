@@ -1,4 +1,5 @@
-use Rattle.std.proofs.Common.{List, subst}
+use Rattle.std.proofs.Common.{ℕ, List, subst}
+use Rattle.tilebench.specs.Commands.Schedule.{IsSystemThenEvents}
 use Rattle.grow_core.specs.declared.event.Event.{Event}
 use Rattle.tilebench.specs.Inner.Rooms.{Schedules}
 use Rattle.tilebench.proofs.Scheduling.{schedule_answer}
@@ -7,8 +8,9 @@ use Rattle.tilebench.proofs.commands.schedule.ScheduleRoom.answer.Goals as goal
 pub returns : goal.returns
 returns c =
     let Done : List Event → Type 0 = λ events. Schedules c.in_ok-sys.sys events c.in_ok-schedule_of.field-0 in
-    let done = subst Done c.deref.ensures.value c.in_ok-schedule_of.ensures in
+    let done = subst Done c.deref-2.ensures.value c.in_ok-schedule_of.ensures in
+    let Read : List ℕ → Type 0 = λ input. IsSystemThenEvents input c.in_ok-sys.sys c.in_ok-sys.events.items in
     record {
-      answer = schedule_answer c.args.input.now c.in_ok-sys.sys c.in_ok-sys.events.items c.in_ok-schedule_of.field-0 c.in_ok-sys.ensures done;
+      answer = schedule_answer c.args.input.items c.in_ok-sys.sys c.in_ok-sys.events.items c.in_ok-schedule_of.field-0 (subst Read c.deref.ensures.value c.in_ok-sys.ensures) done;
       prints = done.lines;
     }

@@ -1,4 +1,5 @@
-use Rattle.std.proofs.Common.{refl, subst, sym}
+use Rattle.std.proofs.Common.{ℕ, List, refl, subst, sym}
+use Rattle.tilebench.specs.Inputs.{IsMachineAlone}
 use Rattle.atam.specs.TileSystem.{TileSystem}
 use Rattle.tile_text.specs.Spelling.{spelling}
 use Rattle.turing_compile.specs.Compiled.{compiled}
@@ -11,11 +12,12 @@ pub returns : goal.returns
 returns c =
     let machine = c.in_ok-machine.machine in
     let valid = c.in_ok-machine.ensures.valid in
+    let Alone : List ℕ → Type 0 = λ input. IsMachineAlone input machine in
     let Spells : TileSystem → Type 0 = λ sys. SpellsSystem (compiled machine) (spelling sys) in
     record {
       answer = record {
         machine = machine;
-        read = c.in_ok-machine.ensures.read;
+        read = subst Alone c.deref.ensures.value c.in_ok-machine.ensures.read;
         is_machine = valid;
         spelled = subst Spells (sym c.in_ok-sys.ensures) (spelled (compiled machine) (compiled_valid machine valid));
         answer = refl;

@@ -4,7 +4,7 @@ use Rattle.tile_io.specs.Lines.{lines_from, mark_after}
 use Rattle.std.proofs.Common.{length}
 use Rattle.tile_io.proofs.TextEnds.{end_place}
 use Rattle.tile_io.specs.declared.mark.Mark.{Mark}
-use Rattle.tile_io.proofs.line_reader.end_mark.Goals as goal
+use Rattle.tile_io.proofs.stretch.end_mark.Goals as goal
 
 pub returns : goal.returns
 returns c =

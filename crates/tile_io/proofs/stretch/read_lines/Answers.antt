@@ -1,0 +1,177 @@
+use Rattle.std.proofs.Common.{◌≡◌, ◌≤◌, ◌<◌, ◌+◌, ◌-◌, ◌++◌, ◌∷◌, [], length, Ok, Err, refl, sym, ap, subst, ◌∙◌, arith}
+use Rattle.std.proofs.lemmas.Option.{MatchOption-at_some, MatchOption-at_none}
+use Rattle.tile_io.specs.declared.fault.Cause.{Cause}
+use Rattle.tile_io.specs.Lines.{lines_from, mark_after, words_of, AreSkipped}
+use Rattle.tile_io.specs.declared.mark.Mark.{Mark}
+use Rattle.tile_io.specs.NextLine.{IsMark, IsNextLine}
+use Rattle.tile_io.specs.Formats.{Fault}
+use Rattle.tile_io.specs.Checks.{table_format}
+use Rattle.tile_io.specs.Inner.Headers.{first_cause}
+use Rattle.tile_io.specs.Inner.Stretches.{moved}
+use Rattle.tile_io.proofs.Progress.{progress_bad, next_is_mark, next_is_later}
+use Rattle.tile_io.proofs.Walks.{mark_within}
+use Rattle.tile_io.proofs.LineTurns.{takes_here, item_step, end_step, fault_step, missing-push, complete_step, missing_step}
+use Rattle.tile_io.proofs.Shifts.{same_lines, same_bytes, moved_after, moved_line, next_moved, bad_moved}
+use Rattle.tile_io.proofs.stretch.read_lines.Goals as goal
+
+pub lines-init : goal.lines-init
+lines-init g c = record {
+  context = refl;
+  items = c.requires.held.0;
+  held = c.requires.held.1;
+  so_far = λ whole bytes lines start items is within progress held missing. record { items = items; held = held; progress = progress; missing_is = missing };
+  mark = c.requires.mark;
+  later = omega arith;
+}
+
+pub returns-in-Err-clause-read : goal.returns-in-Err-clause-read
+returns-in-Err-clause-read g c = λ whole bytes lines start items is within progress held missing.
+    let text = c.args.text.now in
+    let mark = c.lines.mark in
+    let before = c.lines.invariant.so_far whole bytes lines start items is within progress held missing in
+    let here = moved bytes lines mark in
+    let format = table_format (g.R.LineReader.table (g.R.LineReader.context c.args.reader.now)) in
+    progress_bad format whole start here before.items (record { line = lines + c.in-Err.fault.line; cause = c.in-Err.fault.cause }) before.progress (bad_moved whole bytes lines text is within mark c.in-Err.fault c.in-Err.ensures)
+
+pub returns-then-is_complete-clause-read : goal.returns-then-is_complete-clause-read
+returns-then-is_complete-clause-read g c = λ whole bytes lines start items is within progress held missing.
+    let text = c.args.text.now in
+    let mark = c.lines.mark in
+    let before = c.lines.invariant.so_far whole bytes lines start items is within progress held missing in
+    let here = moved bytes lines mark in
+    let table = g.R.LineReader.table in
+    let skipped = MatchOption-at_none (AreSkipped (lines_from text mark)) (IsNextLine text mark) c.in-Ok-None.field-0-is c.in-Ok-None.ensures in
+    let all = subst AreSkipped (same_lines whole bytes lines text is within mark) skipped in
+    let end =
+    ap (moved bytes lines) c.end_mark-end.ensures ∙ moved_after whole bytes lines text is within mark (length (lines_from text mark))
+    ∙ ap (λ l. mark_after (lines_from whole here) here (length l)) (same_lines whole bytes lines text is within mark)
+    in
+    let told = ap (λ x. (table x).is_complete before.items) (sym c.lines.invariant.context) ∙ sym (c.is_complete.ensures before.items before.held) ∙ c.if-is_complete.true in
+    complete_step (table (g.R.LineReader.context c.args.reader.now)) whole start here (moved bytes lines c.end_mark-end.result) before.items before.progress all end (g.R.LineReader.holds c.lines.reader) before.held told
+
+pub returns-in-Ok-None-clause-read : goal.returns-in-Ok-None-clause-read
+returns-in-Ok-None-clause-read g c = λ whole bytes lines start items is within progress held missing.
+    let text = c.args.text.now in
+    let mark = c.lines.mark in
+    let before = c.lines.invariant.so_far whole bytes lines start items is within progress held missing in
+    let here = moved bytes lines mark in
+    let table = g.R.LineReader.table in
+    let skipped = MatchOption-at_none (AreSkipped (lines_from text mark)) (IsNextLine text mark) c.in-Ok-None.field-0-is c.in-Ok-None.ensures in
+    let all = subst AreSkipped (same_lines whole bytes lines text is within mark) skipped in
+    let end =
+    ap (moved bytes lines) c.end_mark-end.ensures ∙ moved_after whole bytes lines text is within mark (length (lines_from text mark))
+    ∙ ap (λ l. mark_after (lines_from whole here) here (length l)) (same_lines whole bytes lines text is within mark)
+    in
+    let told = ap (λ x. (table x).is_complete before.items) (sym c.lines.invariant.context) ∙ sym (c.is_complete.ensures before.items before.held) ∙ c.if-is_complete.false in
+    missing_step (table (g.R.LineReader.context c.args.reader.now)) whole start here (moved bytes lines c.end_mark-end.result) before.items before.progress all end c.lines.missing before.missing_is told
+
+pub returns-in-Ok-true-clause-read : goal.returns-in-Ok-true-clause-read
+returns-in-Ok-true-clause-read g c = λ whole bytes lines start items is within progress held missing.
+    let text = c.args.text.now in
+    let mark = c.lines.mark in
+    let before = c.lines.invariant.so_far whole bytes lines start items is within progress held missing in
+    let here = moved bytes lines mark in
+    let table = g.R.LineReader.table in
+    let line = c.in-Ok-Some.line in
+    let Holds = g.R.LineReader.holds c.take_bytes.new.self in
+    let next = MatchOption-at_some (AreSkipped (lines_from text mark)) (IsNextLine text mark) line c.in-Ok-Some.field-0-is c.in-Ok-Some.ensures in
+    let there = next_moved whole bytes lines text is within mark line next in
+    let words = ap words_of (same_bytes whole bytes lines text is within line) in
+    let took = takes_here table c.lines.invariant.context Holds before.items words (c.in-Ok-true.is ∙ ap (λ b. Ok b) c.in-Ok-true.field-0-test) (c.take_bytes.ensures.taken before.items before.held) in
+    end_step (table (g.R.LineReader.context c.args.reader.now)) whole start here before.items (moved_line whole bytes lines line) before.progress there Holds took
+
+pub returns-then-line-until-clause-read : goal.returns-then-line-until-clause-read
+returns-then-line-until-clause-read g c = λ whole bytes lines start items is within progress held missing.
+    let text = c.args.text.now in
+    let mark = c.lines.mark in
+    let before = c.lines.invariant.so_far whole bytes lines start items is within progress held missing in
+    let here = moved bytes lines mark in
+    let table = g.R.LineReader.table in
+    let line = c.in-Ok-Some.line in
+    let Holds = g.R.LineReader.holds c.take_bytes.new.self in
+    let next = MatchOption-at_some (AreSkipped (lines_from text mark)) (IsNextLine text mark) line c.in-Ok-Some.field-0-is c.in-Ok-Some.ensures in
+    let there = next_moved whole bytes lines text is within mark line next in
+    let words = ap words_of (same_bytes whole bytes lines text is within line) in
+    let took = takes_here table c.lines.invariant.context Holds before.items words (c.in-Ok-false.is ∙ ap (λ b. Ok b) c.in-Ok-false.field-0-test) (c.take_bytes.ensures.taken before.items before.held) in
+    record {
+      items = before.items ++ took.0 ∷ [];
+      held = took.3;
+      progress = item_step (table (g.R.LineReader.context c.args.reader.now)) whole start here before.items (moved_line whole bytes lines line) before.progress there Holds took;
+      some = missing-push before.items took.0;
+    }
+
+pub returns-then-line-until-clause-far : goal.returns-then-line-until-clause-far
+returns-then-line-until-clause-far g c =
+    let text = c.args.text.now in
+    let mark = c.lines.mark in
+    let line = c.in-Ok-Some.line in
+    let next = MatchOption-at_some (AreSkipped (lines_from text mark)) (IsNextLine text mark) line c.in-Ok-Some.field-0-is c.in-Ok-Some.ensures in
+    let later : mark.at < line.next.at = next_is_later text mark line next in
+    let Far : Mark → Type 0 = λ m. IsMark text m × (c.args.until ≤ m.at) × (c.args.from.at < m.at) in
+    let far : Far line.next = (next_is_mark text mark line c.lines.invariant.mark next, omega (arith, c.if-line-until.true), omega (arith, later, c.lines.invariant.later)) in
+    λ to e. let same : line.next ≡ to = cc e in subst Far same far
+
+pub lines-smaller : goal.lines-smaller
+lines-smaller g c =
+    let text = c.args.text.now in
+    let mark = c.lines.mark in
+    let line = c.in-Ok-Some.line in
+    let next = MatchOption-at_some (AreSkipped (lines_from text mark)) (IsNextLine text mark) line c.in-Ok-Some.field-0-is c.in-Ok-Some.ensures in
+    let later : mark.at < line.next.at = next_is_later text mark line next in
+    let within : line.next.at ≤ length text = (mark_within text line.next (next_is_mark text mark line c.lines.invariant.mark next)).0 in
+    let smaller : length text - line.next.at < length text - mark.at = omega (arith, later, within) in
+    smaller
+
+pub lines-preserved : goal.lines-preserved
+lines-preserved g c =
+    let table = g.R.LineReader.table in
+    let text = c.args.text.now in
+    let mark = c.lines.mark in
+    let line = c.in-Ok-Some.line in
+    let now = c.lines.invariant in
+    let Holds = g.R.LineReader.holds c.take_bytes.new.self in
+    let next = MatchOption-at_some (AreSkipped (lines_from text mark)) (IsNextLine text mark) line c.in-Ok-Some.field-0-is c.in-Ok-Some.ensures in
+    let later : mark.at < line.next.at = next_is_later text mark line next in
+    let found = c.in-Ok-false.is ∙ ap (λ b. Ok b) c.in-Ok-false.field-0-test in
+    let taken = takes_here table now.context Holds now.items refl found (c.take_bytes.ensures.taken now.items now.held) in
+    record {
+      context = c.take_bytes.ensures.context ∙ now.context;
+      items = now.items ++ taken.0 ∷ [];
+      held = taken.3;
+      so_far = λ whole bytes lines start items is within progress held missing.
+          let before = now.so_far whole bytes lines start items is within progress held missing in
+          let here = moved bytes lines mark in
+          let there = next_moved whole bytes lines text is within mark line next in
+          let words = ap words_of (same_bytes whole bytes lines text is within line) in
+          let took = takes_here table now.context Holds before.items words found (c.take_bytes.ensures.taken before.items before.held) in
+          record {
+            items = before.items ++ took.0 ∷ [];
+            held = took.3;
+            progress = item_step (table (g.R.LineReader.context c.args.reader.now)) whole start here before.items (moved_line whole bytes lines line) before.progress there Holds took;
+            missing_is = missing-push before.items took.0;
+          };
+      mark = next_is_mark text mark line now.mark next;
+      later = omega (arith, later, now.later);
+    }
+
+pub returns-in-Err-Fault-clause-read : goal.returns-in-Err-Fault-clause-read
+returns-in-Err-Fault-clause-read g c = λ whole bytes lines start items is within progress held missing.
+    let text = c.args.text.now in
+    let mark = c.lines.mark in
+    let before = c.lines.invariant.so_far whole bytes lines start items is within progress held missing in
+    let here = moved bytes lines mark in
+    let table = g.R.LineReader.table in
+    let line = c.in-Ok-Some.line in
+    let Holds = g.R.LineReader.holds c.take_bytes.new.self in
+    let next = MatchOption-at_some (AreSkipped (lines_from text mark)) (IsNextLine text mark) line c.in-Ok-Some.field-0-is c.in-Ok-Some.ensures in
+    let there = next_moved whole bytes lines text is within mark line next in
+    let words = ap words_of (same_bytes whole bytes lines text is within line) in
+    let took = takes_here table c.lines.invariant.context Holds before.items words (c.in-Err-Fault.is ∙ ap (λ s. Err s) c.in-Err-Fault.field-0-is) (c.take_bytes.ensures.taken before.items before.held) in
+    let fault =
+    fault_step (table (g.R.LineReader.context c.args.reader.now)) whole start here before.items (moved_line whole bytes lines line) before.progress there Holds c.lines.missing c.in-Err-Fault.cause before.missing_is took
+    in
+    let told =
+    c.first_cause-cause.ensures ∙ ap (λ b. first_cause b c.lines.missing c.in-Err-Fault.cause) (c.has_header.ensures ∙ ap (λ x. (table x).has_header) (c.take_bytes.ensures.context ∙ c.lines.invariant.context))
+    in
+    let Told : Cause → Type 0 = λ cause. Fault (table_format (table (g.R.LineReader.context c.args.reader.now))) whole start (lines + line.number) cause in
+    subst Told (sym told) fault

@@ -1,0 +1,109 @@
+// A stretch of the lines of a text.
+ghost use Rattle.std.specs.Prelude.{◌≡◌, ◌≤◌, ◌<◌, ℕ, List, length, drop, IfOk};
+ghost use Rattle.tile_io.specs.declared.mark.Mark.{Mark};
+ghost use Rattle.tile_io.specs.declared.stretch.Stretch.TheVariants.{Open};
+ghost use Rattle.tile_io.specs.Lines.{lines_from, mark_after};
+ghost use Rattle.tile_io.specs.NextLine.{IsMark};
+ghost use Rattle.tile_io.specs.Formats.{missing_cause};
+ghost use Rattle.tile_io.specs.Checks.{table_format};
+ghost use Rattle.tile_io.specs.Inner.Headers.{first_cause};
+ghost use Rattle.tile_io.specs.Inner.Stretches.{IsStretch, Progress, moved};
+
+use crate::fault::{Cause, TextFault, TextStop};
+use crate::limits::MOST_INPUT;
+use crate::line_reader::{LineReader, LineStop};
+use crate::mark::Mark;
+use crate::reading::{end_number, next_line};
+
+// How far a stretch came.
+#[derive(Clone, Copy)]
+pub(crate) enum Stretch {
+    // To the end of the text, or to its own end line.
+    Ended(Mark),
+    // To this mark after a line; others may follow.
+    Open(Mark),
+}
+
+// Reads the lines of the rest of a text from a mark on, up to the first that ends so far behind.
+pub(crate) fn read_lines<R: LineReader>(
+    reader: &mut R,
+    text: &[u8],
+    from: Mark,
+    first_missing: Cause,
+    until: usize,
+) -> Result<Stretch, TextStop>
+    requires held { (items : List R.Item) × R.holds reader.old items }
+    requires short { length text.now ≤ MOST_INPUT }
+    requires mark { IsMark text.now from }
+
+    // It is a stretch of each text that has this rest.
+    ensures read { (whole : List ℕ) (bytes lines : ℕ) (start : Mark) (items : List R.Item) →
+        text.now ≡ drop bytes whole → bytes ≤ length whole →
+        Progress (table_format (R.table (R.context reader.old))) whole start items
+        (moved bytes lines from) →
+        R.holds reader.old items → first_missing ≡ missing_cause items →
+        IsStretch (table_format (R.table (R.context reader.old))) whole start bytes lines
+        (R.holds reader.new) result }
+    ensures context { R.context reader.new ≡ R.context reader.old }
+    ensures far { (to : Mark) → result ≡ Ok (Open to) →
+        IsMark text.now to × (until ≤ to.at) × (from.at < to.at) }
+{
+    let mut mark = from;
+    let mut missing = first_missing;
+    'lines: loop {
+        match next_line(text, mark) {
+            Err(fault) => return Err(TextStop::Fault(fault)),
+            Ok(None) => {
+                let end = end_mark(text, mark);
+                if reader.is_complete() {
+                    return Ok(Stretch::Ended(end));
+                }
+                return Err(TextStop::Fault(TextFault {
+                    line: end.line,
+                    cause: missing,
+                }));
+            }
+            Ok(Some(line)) => match reader.take_bytes(&text[line.start..line.end]) {
+                Ok(true) => return Ok(Stretch::Ended(line.next)),
+                Ok(false) => {
+                    if line.next.at >= until {
+                        return Ok(Stretch::Open(line.next));
+                    }
+                    mark = line.next;
+                    missing = Cause::NoEnd;
+                }
+                Err(LineStop::Fault(cause)) => {
+                    let cause = first_cause(reader.has_header(), missing, cause);
+                    return Err(TextStop::Fault(TextFault {
+                        line: line.number,
+                        cause,
+                    }));
+                }
+                Err(LineStop::NoMemory) => return Err(TextStop::NoMemory),
+            },
+        }
+    }
+}
+
+// The cause that a line has which fails a check: the first one of a text with a header is a missing header.
+fn first_cause(has_header: bool, missing: Cause, cause: Cause) -> Cause
+    ensures { result ≡ first_cause has_header missing cause }
+{
+    match missing {
+        Cause::NoHeader if has_header => Cause::NoHeader,
+        _ => cause,
+    }
+}
+
+// The end of a text, from a mark in it.
+fn end_mark(text: &[u8], from: Mark) -> Mark
+    requires short { length text.now ≤ MOST_INPUT }
+    requires mark { IsMark text.now from }
+    ensures { let lines = lines_from text.now from in
+        result ≡ mark_after lines from (length lines) }
+{
+    Mark {
+        at: text.len(),
+        line: end_number(text, from),
+    }
+}
