@@ -1,5 +1,5 @@
 // A seat, and the grid of what it has seen.
-ghost use Rattle.std.specs.Prelude.{◌≡◌, ◌<◌, ◌+◌, None};
+ghost use Rattle.std.specs.Prelude.{◌≡◌, ◌<◌, ◌+◌, None, MatchBool};
 ghost use Rattle.atam.specs.Placements.{tile_at};
 ghost use Rattle.atam.specs.Sites.{InBox};
 ghost use Rattle.atam.specs.Growth.{IsCandidate};
@@ -64,5 +64,27 @@ impl Growing {
                 self.put(Place { site, tile: there })
             }
         }
+    }
+
+    // One look at an empty site of the grid, without a claim. It tells whether a tile stands there,
+    // which is seen then.
+    #[inline(always)]
+    pub(crate) fn see(&mut self, sys: &System, table: &SiteTable, site: Site) -> bool
+        requires seat { IsSeatOf table.now self.old.seat }
+        requires system { table.now.sys ≡ sys.now }
+        requires growing { IsGrowing sys.now self.old }
+        requires inside { InBox sys.now.area site }
+        requires empty { tile_at self.old.grid.tiles site ≡ None }
+        ensures { MatchBool result (ClaimsAt sys.now site self.old self.new)
+            (self.new ≡ self.old) }
+    {
+        let _owned = self.seat.owned();
+        let _area = sys.area();
+        let Some(tile) = table.look(&mut self.seat, site) else {
+            return false;
+        };
+        let _owned = self.seat.owned();
+        self.put(Place { site, tile });
+        true
     }
 }
