@@ -84,6 +84,24 @@ impl Grid {
         ensures distinct { HasDistinctSites self.new.tiles }
     {
         let index = site_index(&self.area, place.site);
+        self.put_at(place, index);
+    }
+
+    /// The same at a site whose number is known.
+    #[inline(always)]
+    pub fn put_at(&mut self, place: Place, index: usize)
+        requires within { index < cell_count self.old.area }
+        requires number { site_at self.old.area index ≡ place.site }
+        requires empty { tile_at self.old.tiles place.site ≡ None }
+        requires small { place.tile.0 < MOST_TYPES }
+        ensures area { self.new.area ≡ self.old.area }
+        ensures here { tile_at self.new.tiles place.site ≡ Some place.tile }
+        ensures others { (m : Site) → m ≢ place.site →
+            tile_at self.new.tiles m ≡ tile_at self.old.tiles m }
+        ensures placements { SamePlacements (self.old.tiles ++ place ∷ []) self.new.tiles }
+        ensures count { length self.new.tiles ≡ length self.old.tiles + 1 }
+        ensures distinct { HasDistinctSites self.new.tiles }
+    {
         self.cells[index] = place.tile.0 as u16 + 1;
         self.count += 1;
     }

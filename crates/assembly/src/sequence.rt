@@ -30,6 +30,13 @@ impl Sequence {
         }
     }
 
+    /// The sequence of these places.
+    pub fn of_places(places: Vec<Place>) -> Sequence
+        ensures { result ≡ places.items }
+    {
+        Sequence { places }
+    }
+
     pub fn push(&mut self, place: Place) -> Result<(), NoMemory>
         ensures ok { OnOk result (self.new ≡ self.old ++ place ∷ []) }
         ensures unchanged { OnErr result (self.new ≡ self.old) }

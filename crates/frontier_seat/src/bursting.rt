@@ -1,16 +1,19 @@
 // Claims up to a bound, and whether a type attaches still.
-ghost use Rattle.std.specs.Prelude.{◌≡◌, ◌⊎◌, ◌≤◌, ◌+◌, ℕ, length, MatchBool};
+ghost use Rattle.std.specs.Prelude.{◌≡◌, ◌⊎◌, ◌≤◌, ◌+◌, ℕ, length, None, MatchBool};
 ghost use Rattle.atam.specs.TileSystem.{IsValid};
-ghost use Rattle.atam.specs.Growth.{IsClosedInBox};
+ghost use Rattle.atam.specs.declared.place.TypeId.{TypeId};
+ghost use Rattle.atam.specs.Placements.{tile_at};
+ghost use Rattle.atam.specs.Growth.{IsCandidate, IsClosedInBox};
 ghost use Rattle.site_table.specs.Seats.{IsSeatOf};
 ghost use Rattle.number_set.specs.Numbers.{IsIn};
 ghost use Rattle.frontier_seat.specs.Growths.{IsGrowing, GrowsOn};
-ghost use Rattle.frontier_seat.specs.Inner.Looks.{ListsOpen};
+ghost use Rattle.frontier_seat.specs.Inner.Listings.{IsSpot};
+ghost use Rattle.frontier_seat.specs.Inner.Looks.{HasCandidate, ListsOpen};
 ghost use Rattle.frontier_seat.specs.Inner.Pickers.{IsPickerOf};
 
 use crate::picking::Picker;
 use crate::scout::look;
-use crate::work_list::WorkList;
+use crate::work_list::{Spot, WorkList};
 use crate::{Chooser, Growing};
 use site_table::SiteTable;
 use std::sync::ledger::Ledger;
@@ -26,10 +29,10 @@ pub enum Burst {
     Spent,
 }
 
-// Notes a site that was won, where there is room left.
+// Notes a site if it was won, where there is room left.
 #[inline(always)]
-fn note(wins: &mut Vec<u32>, number: u32) {
-    if wins.len() < wins.capacity() {
+fn note(wins: &mut Vec<u32>, is_won: bool, number: u32) {
+    if is_won && wins.len() < wins.capacity() {
         wins.push_reserved(number);
     }
 }
@@ -65,8 +68,8 @@ pub(crate) fn spend<C: Chooser, L: Ledger>(
     ensures cost { steps.new + length growing.old.grid.tiles
         ≡ steps.old + length growing.new.grid.tiles }
 {
-    let area = sys.area();
-    let count = area.width() * area.height();
+    let _area = sys.area();
+    let count = work.count();
     let mut left = most;
     while left > 0 {
         let Some(spot) = work.take(chooser.start(count)) else {
@@ -75,9 +78,7 @@ pub(crate) fn spend<C: Chooser, L: Ledger>(
         let won = growing.won;
         if look(sys, table, growing, chooser, picker, spot, work, steps) {
             left -= 1;
-            if growing.won > won {
-                note(wins, spot.number as u32);
-            }
+            note(wins, growing.won > won, spot.number as u32);
         }
     }
 }
@@ -100,15 +101,38 @@ pub(crate) fn is_open<C: Chooser>(
     ensures open { MatchBool result (¬ IsClosedInBox sys.now growing.now.grid.tiles)
         (IsClosedInBox sys.now growing.now.grid.tiles) }
 {
-    let area = sys.area();
-    let count = area.width() * area.height();
+    let _area = sys.area();
+    let count = work.count();
     while let Some(spot) = work.take(chooser.start(count)) {
-        let beside = growing.grid.beside_at(spot.site, spot.number);
-        let found = picker.pick(sys, &growing.grid, spot.site, &beside, chooser);
-        if found.is_some() {
+        if attaches(sys, growing, chooser, picker, spot) {
             work.put_back(spot);
             return true;
         }
+    }
+    false
+}
+
+// Whether a type attaches at an empty site.
+fn attaches<C: Chooser>(
+    sys: &System,
+    growing: &Growing,
+    chooser: &mut C,
+    picker: &mut Picker,
+    spot: Spot,
+) -> bool
+    requires growing { IsGrowing sys.now growing.now }
+    requires picker { IsPickerOf sys.now picker.old }
+    requires spot { IsSpot sys.now.area spot }
+    requires empty { tile_at growing.now.grid.tiles spot.site ≡ None }
+    ensures picker { IsPickerOf sys.now picker.new }
+    ensures open { MatchBool result (HasCandidate sys.now growing.now.grid.tiles spot.site)
+        ((t : TypeId) → ¬ IsCandidate sys.now growing.now.grid.tiles spot.site t) }
+{
+    let _area = sys.area();
+    let beside = growing.grid.beside_at(spot.site, spot.number);
+    let found = picker.pick(sys, &growing.grid, spot.site, &beside, chooser);
+    if let Some(_tile) = found {
+        return true;
     }
     false
 }

@@ -1,6 +1,5 @@
 // Looks at sites where others may have placed tiles.
 ghost use Rattle.std.specs.Prelude.{◌≡◌, ◌<◌, All};
-ghost use Rattle.assembly.specs.Cells.{cell_count};
 ghost use Rattle.site_table.specs.Seats.{IsSeatOf};
 ghost use Rattle.number_set.specs.Numbers.{IsIn};
 ghost use Rattle.frontier_seat.specs.Growths.{IsGrowing, GrowsOn};
@@ -12,7 +11,7 @@ use assembly::site_of_index;
 use site_table::SiteTable;
 use tile_system::System;
 
-// Looks at one site, unless a tile was seen there. Where a tile stands, it is seen, and the empty
+// Looks at the site with this number, if it is one of the box and no tile was seen there. Where a tile stands, it is seen, and the empty
 // sites beside it are listed.
 #[inline(always)]
 fn see(sys: &System, table: &SiteTable, growing: &mut Growing, work: &mut WorkList, number: usize)
@@ -20,23 +19,22 @@ fn see(sys: &System, table: &SiteTable, growing: &mut Growing, work: &mut WorkLi
     requires system { table.now.sys ≡ sys.now }
     requires growing { IsGrowing sys.now growing.old }
     requires area { work.old.area ≡ sys.now.area }
-    requires within { number < cell_count sys.now.area }
     requires lists { ListsOpen sys.now growing.old.grid.tiles work.old.numbers }
     ensures catches { CatchesUp sys.now growing.old growing.new work.new.numbers }
     ensures area { work.new.area ≡ work.old.area }
 {
     let area = sys.area();
-    let _own = growing.grid.area();
-    if growing.grid.tile(number).is_some() {
+    if number >= area.width() as usize * area.height() as usize {
         return;
     }
-    let spot = Spot {
-        site: site_of_index(&area, number),
-        number,
-    };
-    if growing.see(sys, table, spot.site) {
+    if let Some(_tile) = growing.grid.tile(number) {
+        return;
+    }
+    let site = site_of_index(&area, number);
+    let spot = Spot { site, number };
+    if growing.see(sys, table, spot) {
         work.drop_site(number);
-        let beside = growing.grid.beside_at(spot.site, number);
+        let beside = growing.grid.beside_at(site, number);
         work.list_around(&growing.grid, spot, &beside);
     }
 }
@@ -57,12 +55,7 @@ pub(crate) fn see_all(
     ensures catches { CatchesUp sys.now growing.old growing.new work.new.numbers }
     ensures area { work.new.area ≡ work.old.area }
 {
-    let area = sys.area();
-    let count = area.width() as usize * area.height() as usize;
     for number in numbers {
-        let number = *number as usize;
-        if number < count {
-            see(sys, table, growing, work, number);
-        }
+        see(sys, table, growing, work, *number as usize);
     }
 }

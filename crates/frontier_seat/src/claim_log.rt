@@ -1,53 +1,56 @@
-// What was claimed, in order.
-ghost use Rattle.std.specs.Prelude.{◌≡◌, ◌<◌, [], ◌∷◌, ◌++◌, length, slice_index, IfOk};
-ghost use Rattle.atam.specs.Sites.{IsBox};
+// The seeds, and what was claimed after them, in order.
+ghost use Rattle.std.specs.Prelude.{◌≡◌, ◌<◌, ◌≤◌, ◌+◌, [], ◌∷◌, ◌++◌, length, IfOk};
 ghost use Rattle.assembly.specs.Cells.{cell_count};
 
+use assembly::Sequence;
 use std::alloc::Global;
 use std::marker::Model;
-use tile_system::{BoxArea, NoMemory};
+use tile_system::{NoMemory, Place, System};
 
-/// The numbers of the sites that were claimed, in their order: four bytes a site of the box.
+/// The seeds, and the tiles that were claimed after them, in their order: twelve bytes a site of the
+/// box.
 #[derive(Drop)]
 pub struct ClaimLog {
-    numbers: Vec<u32>,
+    places: Vec<Place>,
 }
 
 impl Model for ClaimLog {
     ghost use Rattle.std.specs.Prelude.{vec_capacity};
-    ghost use Rattle.frontier_seat.specs.Orders.{RoomyNumbers};
+    ghost use Rattle.frontier_seat.specs.Orders.{RoomyPlaces};
 
-    ghost Value = { RoomyNumbers };
+    ghost Value = { RoomyPlaces };
 
-    ghost view = { λ l. record { numbers = l.numbers.items; room = vec_capacity l.numbers } };
+    ghost view = { λ l. record { places = l.places.items; room = vec_capacity l.places } };
 }
 
 impl ClaimLog {
-    /// No claim, with room for one at each site of the box.
-    pub fn make(alloc: Global, area: BoxArea) -> Result<ClaimLog, NoMemory>
-        requires { IsBox area }
-        ensures none { IfOk result (λ log. log.numbers ≡ []) }
-        ensures room { IfOk result (λ log. log.room ≡ cell_count area) }
+    /// The seeds alone, with room for a tile more at each site of the box.
+    pub fn make(alloc: Global, sys: &System) -> Result<ClaimLog, NoMemory>
+        ensures seeds { IfOk result (λ log. log.places ≡ sys.now.seeds) }
+        ensures room { IfOk result
+            (λ log. length sys.now.seeds + cell_count sys.now.area ≤ log.room) }
     {
+        let area = sys.area();
         let count = area.width() as usize * area.height() as usize;
-        Ok(ClaimLog {
-            numbers: Vec::with_capacity(alloc, count)?,
-        })
+        let mut places = Vec::from_slice(alloc, sys.seeds())?;
+        places.reserve(count)?;
+        Ok(ClaimLog { places })
     }
 
     // One claim more.
     #[inline(always)]
-    pub(crate) fn push(&mut self, number: u32)
-        requires { length self.old.numbers < self.old.room }
-        ensures numbers { self.new.numbers ≡ self.old.numbers ++ number ∷ [] }
+    pub(crate) fn push(&mut self, place: Place)
+        requires { length self.old.places < self.old.room }
+        ensures places { self.new.places ≡ self.old.places ++ place ∷ [] }
         ensures room { self.new.room ≡ self.old.room }
     {
-        self.numbers.push_reserved(number);
+        self.places.push_reserved(place);
     }
 
-    pub fn as_slice(&self) -> &[u32]
-        ensures { result.now ≡ self.now.numbers }
+    /// The seeds and claims as a sequence.
+    pub fn into_sequence(self) -> Sequence
+        ensures { result ≡ self.places }
     {
-        self.numbers.as_slice()
+        Sequence::of_places(self.places)
     }
 }

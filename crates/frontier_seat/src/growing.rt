@@ -1,17 +1,19 @@
 // A seat, and the grid of what it has seen.
 ghost use Rattle.std.specs.Prelude.{◌≡◌, ◌<◌, ◌+◌, None, MatchBool};
 ghost use Rattle.atam.specs.Placements.{tile_at};
-ghost use Rattle.atam.specs.Sites.{InBox};
 ghost use Rattle.atam.specs.Growth.{IsCandidate};
+ghost use Rattle.assembly.specs.Cells.{cell_count, site_at};
 ghost use Rattle.site_table.specs.Seats.{IsSeatOf};
 ghost use Rattle.frontier_seat.specs.Growths.{IsGrowing};
+ghost use Rattle.frontier_seat.specs.Inner.Listings.{IsSpot};
 ghost use Rattle.frontier_seat.specs.Inner.Looks.{ClaimsAt, Puts};
 
+use crate::work_list::Spot;
 use assembly::Grid;
 use site_table::{Claimed, SiteSeat, SiteTable};
 use std::sync::ledger::Ledger;
 use tile_io::Steps;
-use tile_system::{Place, Site, System, TypeId};
+use tile_system::{Place, System, TypeId};
 
 /// A seat, the grid of what it has seen, and how many claims it has won.
 #[derive(Drop)]
@@ -24,13 +26,14 @@ pub struct Growing {
 impl Growing {
     // A tile comes to an empty site of the grid.
     #[inline(always)]
-    fn put(&mut self, place: Place)
-        requires inside { InBox self.old.grid.area place.site }
+    fn put(&mut self, place: Place, number: usize)
+        requires within { number < cell_count self.old.grid.area }
+        requires number { site_at self.old.grid.area number ≡ place.site }
         requires empty { tile_at self.old.grid.tiles place.site ≡ None }
         requires small { place.tile.0 < 16384 }
         ensures { Puts place self.old self.new }
     {
-        self.grid.put(place);
+        self.grid.put_at(place, number);
         let _area = self.grid.area();
     }
 
@@ -40,28 +43,29 @@ impl Growing {
         &mut self,
         sys: &System,
         table: &SiteTable,
-        site: Site,
+        spot: Spot,
         tile: TypeId,
         steps: &mut Steps<L>,
     )
         requires seat { IsSeatOf table.now self.old.seat }
         requires system { table.now.sys ≡ sys.now }
         requires growing { IsGrowing sys.now self.old }
-        requires inside { InBox sys.now.area site }
-        requires open { IsCandidate sys.now self.old.grid.tiles site tile }
-        ensures claim { ClaimsAt sys.now site self.old self.new }
+        requires spot { IsSpot sys.now.area spot }
+        requires open { IsCandidate sys.now self.old.grid.tiles spot.site tile }
+        ensures claim { ClaimsAt sys.now spot.site self.old self.new }
         ensures cost { steps.new ≡ steps.old + 1 }
     {
         let _owned = self.seat.owned();
         let _area = sys.area();
-        match table.claim(&mut self.seat, site, tile, steps) {
+        let Spot { site, number } = spot;
+        match table.claim_at(&mut self.seat, site, number, tile, steps) {
             Claimed::Won => {
                 self.won += 1;
-                self.put(Place { site, tile })
+                self.put(Place { site, tile }, number)
             }
             Claimed::Held(there) => {
                 let _owned = self.seat.owned();
-                self.put(Place { site, tile: there })
+                self.put(Place { site, tile: there }, number)
             }
         }
     }
@@ -69,22 +73,23 @@ impl Growing {
     // One look at an empty site of the grid, without a claim. It tells whether a tile stands there,
     // which is seen then.
     #[inline(always)]
-    pub(crate) fn see(&mut self, sys: &System, table: &SiteTable, site: Site) -> bool
+    pub(crate) fn see(&mut self, sys: &System, table: &SiteTable, spot: Spot) -> bool
         requires seat { IsSeatOf table.now self.old.seat }
         requires system { table.now.sys ≡ sys.now }
         requires growing { IsGrowing sys.now self.old }
-        requires inside { InBox sys.now.area site }
-        requires empty { tile_at self.old.grid.tiles site ≡ None }
-        ensures { MatchBool result (ClaimsAt sys.now site self.old self.new)
+        requires spot { IsSpot sys.now.area spot }
+        requires empty { tile_at self.old.grid.tiles spot.site ≡ None }
+        ensures { MatchBool result (ClaimsAt sys.now spot.site self.old self.new)
             (self.new ≡ self.old) }
     {
         let _owned = self.seat.owned();
         let _area = sys.area();
+        let Spot { site, number } = spot;
         let Some(tile) = table.look(&mut self.seat, site) else {
             return false;
         };
         let _owned = self.seat.owned();
-        self.put(Place { site, tile });
+        self.put(Place { site, tile }, number);
         true
     }
 }

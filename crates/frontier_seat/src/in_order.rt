@@ -7,9 +7,8 @@ ghost use Rattle.assembly.specs.Cells.{cell_count};
 ghost use Rattle.site_table.specs.Seats.{IsSeatOf};
 ghost use Rattle.number_set.specs.Numbers.{IsIn};
 ghost use Rattle.frontier_seat.specs.Growths.{IsGrowing, GrowsOn};
-ghost use Rattle.frontier_seat.specs.Orders.{GrewInOrder};
 ghost use Rattle.frontier_seat.specs.Inner.Listings.{AreEmptySites, IsSpot};
-ghost use Rattle.frontier_seat.specs.Inner.Looks.{IsClosedBut, LogsClaim, LooksAt};
+ghost use Rattle.frontier_seat.specs.Inner.Looks.{GrewInOrder, IsClosedBut, LogsClaim, LooksAt};
 ghost use Rattle.frontier_seat.specs.Inner.Pickers.{IsPickerOf};
 
 use crate::picking::Picker;
@@ -19,7 +18,7 @@ use crate::{Chooser, ClaimLog, Growing};
 use site_table::SiteTable;
 use std::sync::ledger::Ledger;
 use tile_io::Steps;
-use tile_system::System;
+use tile_system::{Place, System};
 
 // Looks at one site, and logs the claim there.
 #[inline(always)]
@@ -45,21 +44,24 @@ fn look_logged<C: Chooser, L: Ledger>(
     requires listed { AreEmptySites sys.now.area growing.old.grid.tiles work.old.numbers }
     requires closed { IsClosedBut sys.now growing.old.grid.tiles
         (λ n. IsIn work.old.numbers n ⊎ (n ≡ spot.number)) }
-    requires room { length log.old.numbers < log.old.room }
+    requires room { length log.old.places < log.old.room }
     ensures looks { LooksAt sys.now growing.old growing.new work.old.numbers work.new.numbers }
-    ensures logs { LogsClaim sys.now spot growing.old growing.new
-        log.old.numbers log.new.numbers }
+    ensures logs { LogsClaim sys.now spot.site growing.old growing.new
+        log.old.places log.new.places }
     ensures picker { IsPickerOf sys.now picker.new }
     ensures area { work.new.area ≡ work.old.area }
     ensures room { log.new.room ≡ log.old.room }
     ensures cost { steps.new + length growing.old.grid.tiles
         ≡ steps.old + length growing.new.grid.tiles }
 {
-    let _area = sys.area();
     if !look(sys, table, growing, chooser, picker, spot, work, steps) {
         return;
     }
-    log.push(spot.number as u32);
+    let Some(tile) = growing.grid.tile(spot.number) else {
+        unreachable!()
+    };
+    let site = spot.site;
+    log.push(Place { site, tile });
 }
 
 // Looks at the empty sites beside the seeds, and at those beside each tile that comes, always at
@@ -82,12 +84,12 @@ pub(crate) fn look_in_order<C: Chooser, L: Ledger>(
     requires none { (n : ℕ) → ¬ IsIn work.old.numbers n }
     requires sole { growing.old.seat.scout.owned ≡ 2 ^ 64 - 1 }
     requires start { SamePlacements sys.now.seeds growing.old.grid.tiles }
-    requires empty { log.old.numbers ≡ [] }
-    requires room { cell_count sys.now.area ≤ log.old.room }
+    requires seeds { log.old.places ≡ sys.now.seeds }
+    requires room { length sys.now.seeds + cell_count sys.now.area ≤ log.old.room }
     ensures growing { IsGrowing sys.now growing.new }
     ensures goes { GrowsOn growing.old growing.new }
     ensures closed { IsClosedInBox sys.now growing.new.grid.tiles }
-    ensures order { GrewInOrder sys.now growing.new.grid.tiles log.new.numbers }
+    ensures order { GrewInOrder sys.now growing.new.grid.tiles log.new.places }
     ensures picker { IsPickerOf sys.now picker.new }
     ensures area { work.new.area ≡ work.old.area }
     ensures none { (n : ℕ) → ¬ IsIn work.new.numbers n }

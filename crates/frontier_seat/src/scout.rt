@@ -3,6 +3,7 @@ ghost use Rattle.std.specs.Prelude.{◌≡◌, ◌⊎◌, ◌<◌, ◌≤◌, �
 ghost use Rattle.atam.specs.TileSystem.{IsValid};
 ghost use Rattle.atam.specs.Placements.{SamePlacements, tile_at};
 ghost use Rattle.atam.specs.Growth.{IsClosedInBox};
+ghost use Rattle.atam.specs.Canonical.{IsCanonical};
 ghost use Rattle.assembly.specs.Cells.{cell_count};
 ghost use Rattle.site_table.specs.Seats.{IsSeatOf};
 ghost use Rattle.site_table.specs.Laws.{IsFinal};
@@ -10,7 +11,6 @@ ghost use Rattle.frontier_seat.specs.Growths.{EndsBurst, IsGrowing, GrowsOn};
 ghost use Rattle.number_set.specs.Numbers.{IsIn};
 ghost use Rattle.frontier_seat.specs.Inner.Listings.{AreEmptySites, IsSpot};
 ghost use Rattle.frontier_seat.specs.Inner.Looks.{ClaimsAt, IsClosedBut, ListsOpen, LooksAt, MayList};
-ghost use Rattle.frontier_seat.specs.Orders.{GrewInOrder};
 ghost use Rattle.frontier_seat.specs.Inner.Pickers.{IsPickerOf};
 
 use crate::bursting::{is_open, spend};
@@ -95,7 +95,7 @@ pub(crate) fn look<C: Chooser, L: Ledger>(
     let Some(tile) = picker.pick(sys, &growing.grid, spot.site, &beside, chooser) else {
         return false;
     };
-    growing.claim(sys, table, spot.site, tile, steps);
+    growing.claim(sys, table, spot, tile, steps);
     work.list_around(&growing.grid, spot, &beside);
     true
 }
@@ -193,6 +193,7 @@ impl Scout {
             ≡ steps.old + length self.new.grid.tiles }
         ensures few { steps.new < steps.old + cell_count sys.now.area }
     {
+        let _area = sys.area();
         self.burst(sys, table, chooser, 0, 1, MOST_CLAIMS, steps);
     }
 
@@ -272,8 +273,8 @@ impl Scout {
     }
 
     /// The same for who owns all numbers and has seen the seeds alone, always at the least site at
-    /// which a type attaches, and each claim is logged. The order of the claims after the seeds is
-    /// then the canonical one (`law_least_first`).
+    /// which a type attaches, and each claim is logged. The log is then the canonical sequence of
+    /// what has grown (`law_least_first`).
     pub fn sweep_in_order<C: Chooser, L: Ledger>(
         &mut self,
         sys: &System,
@@ -286,12 +287,12 @@ impl Scout {
         requires system { table.now.sys ≡ sys.now }
         requires sole { self.old.seat.scout.owned ≡ 2 ^ 64 - 1 }
         requires start { SamePlacements sys.now.seeds self.old.grid.tiles }
-        requires empty { log.old.numbers ≡ [] }
-        requires room { cell_count sys.now.area ≤ log.old.room }
+        requires seeds { log.old.places ≡ sys.now.seeds }
+        requires room { length sys.now.seeds + cell_count sys.now.area ≤ log.old.room }
         ensures goes { GrowsOn self.old self.new }
         ensures closed { IsClosedInBox sys.now self.new.grid.tiles }
         ensures seen { SamePlacements self.new.seat.scout.seen self.new.grid.tiles }
-        ensures order { GrewInOrder sys.now self.new.grid.tiles log.new.numbers }
+        ensures order { IsCanonical sys.now self.new.grid.tiles log.new.places }
         ensures cost { steps.new + length self.old.grid.tiles
             ≡ steps.old + length self.new.grid.tiles }
     {

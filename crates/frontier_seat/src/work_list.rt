@@ -59,6 +59,14 @@ impl WorkList {
         })
     }
 
+    // The number of sites of the box.
+    pub(crate) fn count(&self) -> u32
+        ensures count { result ≡ cell_count self.now.area }
+        ensures some { 0 < result }
+    {
+        self.area.width() * self.area.height()
+    }
+
     // The number of the next site to look at: where several work, one of the worker's own, if any
     // is left. It is looked for so many sites on.
     #[inline(always)]
@@ -208,6 +216,7 @@ impl WorkList {
     #[inline(always)]
     fn list_tile(&mut self, grid: &Grid, spot: Spot)
         requires near { IsNearSite spot.site }
+        requires area { grid.now.area ≡ self.old.area }
         requires spot { IsSpot self.old.area spot }
         requires empty { AreEmptySites self.old.area grid.now.tiles self.old.numbers }
         requires before { ListsFrontierTo self.old.area grid.now.tiles self.old.numbers
@@ -217,7 +226,7 @@ impl WorkList {
         ensures lists { ListsFrontierTo self.old.area grid.now.tiles self.new.numbers
             (spot.number + 1) }
     {
-        if grid.at(spot.site).is_none() {
+        if grid.tile(spot.number).is_none() {
             return;
         }
         let beside = grid.beside(spot.site);
@@ -226,6 +235,7 @@ impl WorkList {
 
     // Lists the empty sites of the box beside the tiles of one row.
     fn list_row(&mut self, grid: &Grid, row: u32)
+        requires area { grid.now.area ≡ self.old.area }
         requires row { row < height_of self.old.area }
         requires empty { AreEmptySites self.old.area grid.now.tiles self.old.numbers }
         requires before { ListsFrontierTo self.old.area grid.now.tiles self.old.numbers
@@ -247,7 +257,8 @@ impl WorkList {
 
     // Lists the empty sites of the box beside a tile, where no site is listed.
     pub(crate) fn list_frontier(&mut self, grid: &Grid)
-        requires { (n : ℕ) → ¬ IsIn self.old.numbers n }
+        requires area { grid.now.area ≡ self.old.area }
+        requires none { (n : ℕ) → ¬ IsIn self.old.numbers n }
         ensures area { self.new.area ≡ self.old.area }
         ensures empty { AreEmptySites self.old.area grid.now.tiles self.new.numbers }
         ensures lists { ListsFrontier self.old.area grid.now.tiles self.new.numbers }

@@ -1,17 +1,13 @@
 // Growth by one worker in canonical order.
-ghost use Rattle.std.specs.Prelude.{◌≡◌, ◌<◌, ◌-◌, ◌^◌, ◌++◌, [], All, map, IfOk, OnOk};
-ghost use Rattle.atam.specs.Sites.{IsBox};
+ghost use Rattle.std.specs.Prelude.{◌≡◌, ◌<◌, ◌-◌, ◌^◌, [], IfOk};
 ghost use Rattle.atam.specs.Placements.{SamePlacements};
 ghost use Rattle.atam.specs.Canonical.{IsCanonical};
-ghost use Rattle.assembly.specs.Cells.{cell_count};
 ghost use Rattle.site_table.specs.Seats.{IsSeatOf};
-ghost use Rattle.frontier_seat.specs.Orders.{GrewInOrder};
 ghost use Rattle.grow_workers.specs.Workers.{IsGrowth};
-ghost use Rattle.grow_workers.specs.Inner.Orders.{claimed_at};
 ghost use Rattle.grow_workers.specs.Inner.Wins.{PartedGrowth};
 
 use crate::alone::Part;
-use assembly::{Grid, Sequence, put_seeds, site_of_index};
+use assembly::{Grid, Sequence, put_seeds};
 use frontier_seat::{ClaimLog, RngChooser, Scout};
 use rand_pcg::Lcg64Xsh32;
 use site_table::{Grown, SiteSeat, SiteTable};
@@ -19,7 +15,7 @@ use std::alloc::Global;
 use std::marker::Brand;
 use std::sync::ledger::{Blank, Ledger};
 use tile_io::{Gate, Steps};
-use tile_system::{BoxArea, NoMemory, Place, Placed, System, TypeId};
+use tile_system::{NoMemory, System};
 
 fn sweep_logged<L: Ledger>(
     alloc: Global,
@@ -38,9 +34,9 @@ fn sweep_logged<L: Ledger>(
     requires start { SamePlacements sys.now.seeds seen.tiles }
     ensures grew { IfOk result (λ r.
         PartedGrowth sys.now seat seen r.0.seat r.0.grid r.0.won []) }
-    ensures order { IfOk result (λ r. GrewInOrder sys.now r.0.grid.tiles r.1.numbers) }
+    ensures order { IfOk result (λ r. IsCanonical sys.now r.0.grid.tiles r.1.places) }
 {
-    let mut log = ClaimLog::make(alloc, sys.area())?;
+    let mut log = ClaimLog::make(alloc, sys)?;
     let Ok(mut scout) = Scout::make(alloc, sys, seat, seen) else {
         return Err(NoMemory);
     };
@@ -70,57 +66,10 @@ fn work_in_order<G: Gate>(
     requires start { SamePlacements sys.now.seeds seen.tiles }
     ensures grew { IfOk result (λ r.
         PartedGrowth sys.now seat seen r.0.seat r.0.grid r.0.won []) }
-    ensures order { IfOk result (λ r. GrewInOrder sys.now r.0.grid.tiles r.1.numbers) }
+    ensures order { IfOk result (λ r. IsCanonical sys.now r.0.grid.tiles r.1.places) }
 {
     gate.arrive(0);
     sweep_logged::<Brand>(alloc, sys, table, seat, seen, Blank::new(1))
-}
-
-fn push_places(sequence: &mut Sequence, places: &[Place]) -> Result<(), NoMemory>
-    ensures { OnOk result (sequence.new ≡ sequence.old ++ places.now) }
-{
-    for place in places {
-        sequence.push(*place)?;
-    }
-    Ok(())
-}
-
-// Adds the tiles at the sites with these numbers. A tile stands at each.
-fn push_claims(
-    sequence: &mut Sequence,
-    area: BoxArea,
-    grid: &Grid,
-    numbers: &[u32],
-) -> Result<(), NoMemory>
-    requires limits { IsBox area }
-    requires within { All (λ n. n < cell_count area) numbers.now }
-    ensures { OnOk result (sequence.new
-        ≡ sequence.old ++ map (claimed_at area grid.now.tiles) numbers.now) }
-{
-    for number in numbers {
-        let site = site_of_index(&area, *number as usize);
-        let tile = grid.at(site).unwrap_or(TypeId(0));
-        sequence.push(Place { site, tile })?;
-    }
-    Ok(())
-}
-
-// The seeds, and the claims in their order.
-fn list_claims(
-    alloc: Global,
-    sys: &System,
-    grid: &Grid,
-    log: &ClaimLog,
-) -> Result<Sequence, NoMemory>
-    requires area { grid.now.area ≡ sys.now.area }
-    requires order { GrewInOrder sys.now grid.now.tiles log.now.numbers }
-    ensures { IfOk result (IsCanonical sys.now grid.now.tiles) }
-{
-    let _inside = grid.area();
-    let mut sequence = Sequence::make(alloc);
-    push_places(&mut sequence, sys.seeds())?;
-    push_claims(&mut sequence, sys.area(), grid, log.as_slice())?;
-    Ok(sequence)
 }
 
 /// What `grow` leaves with one worker and the choice 0, and its canonical sequence, which is the
@@ -142,8 +91,7 @@ pub fn grow_in_order<G: Gate>(
         mut grid,
         won: _,
     } = part;
-    let sequence = list_claims(alloc, sys, &grid, &log)?;
     let _grown = grid.area();
     grid.clear();
-    Ok((table.close(seat, grid), sequence))
+    Ok((table.close(seat, grid), log.into_sequence()))
 }

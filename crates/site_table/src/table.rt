@@ -1,6 +1,7 @@
 // The table itself.
 ghost use Rattle.std.specs.Prelude.{◌≡◌, ◌-◌, ◌+◌, ◌<◌, ◌%◌, ◌^◌, [], Some, None, IfSome, IfNone, IfOk, map};
 ghost use Rattle.atam.specs.Sites.{InBox};
+ghost use Rattle.assembly.specs.Cells.{cell_count, site_at};
 ghost use Rattle.atam.specs.declared.site.Site.{Site};
 ghost use Rattle.atam.specs.declared.place.TypeId.{TypeId};
 ghost use Rattle.atam.specs.TileSystem.{IsType, IsValid};
@@ -94,9 +95,32 @@ impl SiteTable {
         ensures kind { IsType self.now.sys (holder tile result) }
         ensures cost { steps.new ≡ steps.old + 1 }
     {
+        let index = site_index(&self.area, site);
+        self.claim_at(seat, site, index, tile, steps)
+    }
+
+    /// The same at a site whose number is known.
+    #[inline(always)]
+    pub fn claim_at<L: Ledger>(
+        &self,
+        seat: &mut SiteSeat,
+        site: Site,
+        index: usize,
+        tile: TypeId,
+        steps: &mut Steps<L>,
+    ) -> Claimed
+        requires seat { IsSeatOf self.now seat.old }
+        requires within { index < cell_count self.now.sys.area }
+        requires number { site_at self.now.sys.area index ≡ site }
+        requires supported { Supports self.now.sys seat.old.scout site tile }
+        ensures seat { GoesOn seat.old seat.new }
+        ensures claim { IsClaimOf seat.old.scout site tile result seat.new.scout }
+        ensures stands { tile_at seat.new.scout.seen site ≡ Some (holder tile result) }
+        ensures kind { IsType self.now.sys (holder tile result) }
+        ensures cost { steps.new ≡ steps.old + 1 }
+    {
         steps.tick();
         let word = code_of(tile, seat.number());
-        let index = site_index(&self.area, site);
         let found = self
             .table
             .shared

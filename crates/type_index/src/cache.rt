@@ -85,27 +85,38 @@ impl FacingCache {
         ensures known { AreFindings sys.now self.new }
     {
         let Some(key) = key_of(glues) else {
-            return index.sum_up(sys, glues);
+            return sum_up_apart(sys, index, *glues);
         };
         let finding = &self.findings[slot_of(key)];
         if finding.key == key {
             return finding.found;
         }
-        self.find_anew(sys, index, glues, key)
+        self.find_anew(sys, index, *glues, key)
     }
 
-    // Looks up what was not found before, and keeps it.
-    fn find_anew(&mut self, sys: &System, index: &TypeIndex, glues: &FacingGlues, key: u64) -> Found
+    // Looks up what was not found before, and keeps it. It takes the glues by value, so that the
+    // caller can hold them in registers.
+    #[inline(never)]
+    fn find_anew(&mut self, sys: &System, index: &TypeIndex, glues: FacingGlues, key: u64) -> Found
         requires known { AreFindings sys.now self.old }
         requires index { IsIndexOf sys.now index.now }
-        requires key { IsKeyOf glues.now key }
-        ensures found { SumsUpHeld sys.now glues.now result }
+        requires key { IsKeyOf glues key }
+        ensures found { SumsUpHeld sys.now glues result }
         ensures known { AreFindings sys.now self.new }
     {
-        let found = index.sum_up(sys, glues);
+        let found = index.sum_up(sys, &glues);
         self.findings[slot_of(key)] = Finding { key, found };
         found
     }
+}
+
+// What is found for glues without a key, by value for the same reason.
+#[inline(never)]
+fn sum_up_apart(sys: &System, index: &TypeIndex, glues: FacingGlues) -> Found
+    requires index { IsIndexOf sys.now index.now }
+    ensures { SumsUpHeld sys.now glues result }
+{
+    index.sum_up(sys, &glues)
 }
 
 // The slot of a key.

@@ -5,12 +5,12 @@ use Rattle.atam.specs.declared.place.TypeId.{TypeId}
 use Rattle.atam.specs.declared.place.Place.{Place}
 use Rattle.atam.specs.TileSystem.{TileSystem}
 use Rattle.atam.specs.Placements.{SamePlacements, HasDistinctSites, tile_at}
-use Rattle.atam.specs.Growth.{IsCandidate}
+use Rattle.atam.specs.Growth.{IsCandidate, IsLegal}
+use Rattle.atam.specs.LeastFirst.{FillsLeast}
 use Rattle.assembly.specs.Cells.{cell_count, site_at}
 use Rattle.grow_core.specs.Steps.{place}
 use Rattle.number_set.specs.Numbers.{Numbers, IsIn, count_below}
 use Rattle.frontier_seat.specs.declared.growing.Growing.{Growing}
-use Rattle.frontier_seat.specs.declared.work_list.Spot.{Spot}
 use Rattle.frontier_seat.specs.Growths.{IsGrowing, GrowsOn}
 use Rattle.frontier_seat.specs.Inner.Listings.{AreEmptySites}
 
@@ -58,6 +58,11 @@ pub record CatchesUp (sys : TileSystem) (old new : Growing) (numbers : Numbers) 
 abbrev pub IsOpenType : TileSystem → List Place → Site → Option TypeId → Type 0
 IsOpenType sys tiles m found = MatchOption found ((t : TypeId) → ¬ IsCandidate sys tiles m t) (IsCandidate sys tiles m)
 
+-- a type attaches at the site
+pub record HasCandidate (sys : TileSystem) (tiles : List Place) (m : Site) : Type 0 where
+  pub tile : TypeId
+  pub attaches : IsCandidate sys tiles m tile
+
 -- one look at a site that was listed: what may open is listed, and each new tile lists at most four sites
 pub record LooksAt (sys : TileSystem) (before after : Growing) (old new : Numbers) : Type 0 where
   pub growing : IsGrowing sys after
@@ -66,6 +71,17 @@ pub record LooksAt (sys : TileSystem) (before after : Growing) (old new : Number
   pub listed : AreEmptySites sys.area after.grid.tiles new
   pub work : (k : ℕ) → count_below new k + 4 * length before.grid.tiles ≤ count_below old k + 4 * length after.grid.tiles
 
--- a claim that is logged, or nothing
-abbrev pub LogsClaim : TileSystem → Spot → Growing → Growing → List ℕ → List ℕ → Type 0
-LogsClaim sys spot before after old new = (ClaimsAt sys spot.site before after × (new ≡ old ++ spot.number ∷ [])) ⊎ ((after ≡ before) × (new ≡ old))
+-- a claim that is logged
+pub record ClaimsLogged (sys : TileSystem) (site : Site) (before after : Growing) (old new : List Place) : Type 0 where
+  pub claim : ClaimsAt sys site before after
+  pub logged : new ≡ old ++ place site claim.tile ∷ []
+
+-- or nothing
+abbrev pub LogsClaim : TileSystem → Site → Growing → Growing → List Place → List Place → Type 0
+LogsClaim sys site before after old new = ClaimsLogged sys site before after old new ⊎ ((after ≡ before) × (new ≡ old))
+
+-- The tiles are those of a sequence that is legal and fills the least open site of the box at each step.
+pub record GrewInOrder (sys : TileSystem) (tiles order : List Place) : Type 0 where
+  pub legal : IsLegal sys order
+  pub least : FillsLeast sys order
+  pub same : SamePlacements order tiles

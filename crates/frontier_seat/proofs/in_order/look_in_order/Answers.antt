@@ -1,10 +1,12 @@
-use Rattle.std.proofs.Common.{◌≡◌, ◌∙◌, ℕ, List, length, inl, inr, sym, ap, subst, arith}
+use Rattle.std.proofs.Common.{◌≡◌, ◌∙◌, List, length, inl, inr, sym, ap, subst, arith}
 use Rattle.atam.specs.declared.area.BoxArea.{BoxArea}
+use Rattle.atam.specs.declared.place.Place.{Place}
 use Rattle.assembly.specs.Cells.{cell_count}
+use Rattle.grow_core.specs.Steps.{place}
 use Rattle.number_set.proofs.Counting.{count_below-removes}
 use Rattle.frontier_seat.specs.declared.growing.Growing.{Growing}
-use Rattle.frontier_seat.specs.Orders.{GrewInOrder}
 use Rattle.frontier_seat.specs.Inner.Listings.{AreEmptySites, ListsFrontier, TakesSpot}
+use Rattle.frontier_seat.specs.Inner.Looks.{GrewInOrder}
 use Rattle.frontier_seat.proofs.Listing.{closed_but_frontier, closed_none, closed_taken}
 use Rattle.frontier_seat.proofs.Looked.{few_tiles, goes_further, goes_nowhere, less_work}
 use Rattle.frontier_seat.proofs.Ordering.{least_listed, logged_more, logged_same, order_more, order_start}
@@ -17,7 +19,7 @@ loop-spot-init g c =
     let numbers = c.list_frontier.new.self.numbers in
     let lists = subst (λ (a : BoxArea). ListsFrontier a tiles numbers) c.requires.area c.list_frontier.ensures.lists in
     let valid = c.area-area.ensures.valid in
-    let none : length c.args.log.now.numbers ≡ 0 = ap length c.requires.empty in
+    let alone : length c.args.log.now.places ≡ length sys.seeds = ap length c.requires.seeds in
     record {
       growing = c.requires.growing;
       goes = goes_nowhere c.args.growing.now;
@@ -25,9 +27,9 @@ loop-spot-init g c =
       area = c.list_frontier.ensures.area;
       closed = closed_but_frontier sys tiles numbers valid.some_tau c.requires.growing.fits lists;
       listed = subst (λ (a : BoxArea). AreEmptySites a tiles numbers) c.requires.area c.list_frontier.ensures.empty;
-      order = order_start sys tiles c.args.log.now.numbers valid c.requires.start c.requires.empty;
+      order = order_start sys tiles c.args.log.now.places valid c.requires.start c.requires.seeds;
       room = λ _. c.args.log.now.room;
-      logged = omega (arith, none);
+      logged = omega (arith, alone);
       cost = omega arith;
     }
 
@@ -62,8 +64,8 @@ loop-spot-preserved g c =
     let inv = c.loop-spot.invariant in
     let before = c.loop-spot.growing in
     let after = c.look_logged.new.growing in
-    let old = c.loop-spot.log.numbers in
-    let new = c.look_logged.new.log.numbers in
+    let old = c.loop-spot.log.places in
+    let new = c.look_logged.new.log.places in
     let start = length c.args.growing.now.grid.tiles in
     let looks = c.look_logged.ensures.looks in
     let takes = subst (λ (a : BoxArea). TakesSpot a c.loop-spot.work.numbers c.take_least.new.self.numbers c.in-Some.spot) (inv.area ∙ c.requires.area) c.in-Some.ensures.takes in
@@ -77,14 +79,14 @@ loop-spot-preserved g c =
       closed = looks.closed;
       listed = looks.listed;
       order = elim c.look_logged.ensures.logs [
-        | inl logged ↦ order_more sys before after c.in-Some.spot old new inv.growing takes.spot (inv.goes.seat.owned ∙ c.requires.sole)
-            (least_listed sys before.grid.tiles c.loop-spot.work.numbers c.in-Some.spot c.area-area.ensures.valid.box takes.spot inv.closed c.in-Some.ensures.least) logged.0 logged.1 inv.order
-        | inr same ↦ subst (λ (g : Growing). GrewInOrder sys g.grid.tiles new) (sym same.0) (subst (λ (l : List ℕ). GrewInOrder sys before.grid.tiles l) (sym same.1) inv.order)
+        | inl logged ↦ order_more sys before after c.in-Some.spot.site old new inv.growing (inv.goes.seat.owned ∙ c.requires.sole)
+            (least_listed sys before.grid.tiles c.loop-spot.work.numbers c.in-Some.spot c.area-area.ensures.valid.box takes.spot inv.closed c.in-Some.ensures.least) logged inv.order
+        | inr same ↦ subst (λ (g : Growing). GrewInOrder sys g.grid.tiles new) (sym same.0) (subst (λ (l : List Place). GrewInOrder sys before.grid.tiles l) (sym same.1) inv.order)
       ];
       room = c.look_logged.ensures.room ∙ inv.room;
       logged = elim c.look_logged.ensures.logs [
-        | inl logged ↦ logged_more old new c.in-Some.spot.number start (length before.grid.tiles) (length after.grid.tiles) logged.1 logged.0.count inv.logged
-        | inr same ↦ logged_same old new start (length before.grid.tiles) (length after.grid.tiles) same.1 (ap (λ (g : Growing). length g.grid.tiles) same.0) inv.logged
+        | inl logged ↦ logged_more old new (place c.in-Some.spot.site logged.claim.tile) start (length sys.seeds) (length before.grid.tiles) (length after.grid.tiles) logged.logged logged.claim.count inv.logged
+        | inr same ↦ logged_same old new start (length sys.seeds) (length before.grid.tiles) (length after.grid.tiles) same.1 (ap (λ (g : Growing). length g.grid.tiles) same.0) inv.logged
       ];
       cost = omega (arith, cost, was);
     }

@@ -2,9 +2,8 @@ use Rattle.std.proofs.Common.{◌≡◌, ◌+◌, ◌-◌, ◌*◌, length}
 use Rattle.assembly.specs.Cells.{cell_count}
 use Rattle.number_set.specs.Numbers.{IsIn, count_below}
 use Rattle.frontier_seat.specs.Growths.{IsGrowing, GrowsOn}
-use Rattle.frontier_seat.specs.Orders.{GrewInOrder}
 use Rattle.frontier_seat.specs.Inner.Listings.{AreEmptySites}
-use Rattle.frontier_seat.specs.Inner.Looks.{IsClosedBut}
+use Rattle.frontier_seat.specs.Inner.Looks.{GrewInOrder, IsClosedBut}
 use Rattle.frontier_seat.specs.Inner.Pickers.{IsPickerOf}
 use Rattle.frontier_seat.proofs.in_order.look_in_order.Given as goal
 
@@ -17,9 +16,9 @@ invariant-loop-spot g l = record {
   area : l.work.area ≡ l.fn.work.area;
   closed : IsClosedBut l.sys l.growing.grid.tiles (IsIn l.work.numbers);
   listed : AreEmptySites l.sys.area l.growing.grid.tiles l.work.numbers;
-  order : GrewInOrder l.sys l.growing.grid.tiles l.log.numbers;
+  order : GrewInOrder l.sys l.growing.grid.tiles l.log.places;
   room : l.log.room ≡ l.fn.log.room;
-  logged : length l.log.numbers + length l.fn.growing.grid.tiles ≡ length l.growing.grid.tiles;
+  logged : length l.log.places + length l.fn.growing.grid.tiles ≡ length l.growing.grid.tiles + length l.sys.seeds;
   cost : l.steps + length l.fn.growing.grid.tiles ≡ l.fn.steps + length l.growing.grid.tiles;
 }
 

@@ -1,4 +1,5 @@
-use Rattle.std.proofs.Common.{[], ◌∷◌, subst, refl, arith}
+use Rattle.std.proofs.Common.{[], ◌∷◌, subst, sym, refl, arith}
+use Rattle.atam.specs.Canonical.{IsCanonical}
 use Rattle.atam.proofs.Canon.{canonical_too}
 use Rattle.site_table.specs.Seats.{Closes}
 use Rattle.grow_workers.proofs.Ordering.{grew_alone}
@@ -21,4 +22,5 @@ returns-clause-order g c =
     let part = c.in_ok-part.part in
     let grew = c.in_ok-part.ensures.grew in
     let closes : Closes sys part.seat.scout c.close.result = subst (λ z. Closes z part.seat.scout c.close.result) c.in_ok-table.ensures.table c.close.ensures in
-    canonical_too sys part.grid.tiles c.close.result.grid.tiles (grid_left sys part.seat part.grid c.close.result c.area-grown.ensures.distinct grew.seen grew.closed closes) c.in_ok-sequence.sequence c.in_ok-sequence.ensures
+    canonical_too sys part.grid.tiles c.close.result.grid.tiles (grid_left sys part.seat part.grid c.close.result c.area-grown.ensures.distinct grew.seen grew.closed closes) c.into_sequence.result
+    (subst (IsCanonical sys part.grid.tiles) (sym c.into_sequence.ensures) c.in_ok-part.ensures.order)

@@ -11,18 +11,17 @@ use Rattle.site_table.specs.Plays.{site_of, place_in}
 use Rattle.site_table.specs.Seats.{TableValue, SeatValue}
 use Rattle.site_table.proofs.Listed.{sees_there}
 use Rattle.site_table.proofs.Moves.{claims, claim_kind, claim_place}
-use Rattle.site_table.proofs.table.SiteTable.claim.Goals as goal
+use Rattle.site_table.proofs.table.SiteTable.claim_at.Goals as goal
 
 pub compare_exchange-found-requires : goal.compare_exchange-found-requires
 compare_exchange-found-requires g c =
     let v = c.seat.inside.seat.me.0 in
     let key = c.self.inside.table.shared.key in
-    let i = c.site_index-index.result in
+    let i = c.args.index in
     let same_key : key ≡ c.args.self.now.sys = ap (λ (t : TableValue). t.sys) c.self.view_is in
-    let area = c.self.invariant.0 in
     let live : 0 < v.owned = c.seat.invariant.2.scout.some_number in
-    let near : i < cell_count key.area = subst (λ a. i < cell_count a) area c.site_index-index.ensures.within in
-    let here : site_at key.area i ≡ c.args.site = subst (λ a. site_at a i ≡ c.args.site) area c.site_index-index.ensures.site in
+    let near : i < cell_count key.area = subst (λ (z : TileSystem). i < cell_count z.area) (sym same_key) c.requires.within in
+    let here : site_at key.area i ≡ c.args.site = subst (λ (z : TileSystem). site_at z.area i ≡ c.args.site) (sym same_key) c.requires.number in
     let given : Supports key c.args.seat.now.scout c.args.site c.args.tile = subst (λ (z : TileSystem). Supports z c.args.seat.now.scout c.args.site c.args.tile) (sym same_key) c.requires.supported in
     let held : Supports key (scout_of v) c.args.site c.args.tile = subst (λ (s : SeatValue). Supports key s.scout c.args.site c.args.tile) (sym c.seat.view_is) given in
     let number : c.number.result ≡ least v.owned = c.number.ensures.value ∙ ap (λ (s : SeatValue). least s.scout.owned) (sym c.seat.view_is) in
@@ -32,11 +31,11 @@ pub returns-then-found-eq0-clause-claim : goal.returns-then-found-eq0-clause-cla
 returns-then-found-eq0-clause-claim g c =
     let v = c.seat.inside.seat.me.0 in
     let key = c.self.inside.table.shared.key in
-    let i = c.site_index-index.result in
+    let i = c.args.index in
     let same_key : key ≡ c.args.self.now.sys = ap (λ (t : TableValue). t.sys) c.self.view_is in
     let one : scout_of v ≡ c.args.seat.now.scout = ap (λ (s : SeatValue). s.scout) c.seat.view_is in
     let sys : v.sys ≡ key = ap (λ (s : SeatValue). s.sys) c.seat.view_is ∙ (c.requires.seat.sys ∙ sym same_key) in
-    let here : site_at key.area i ≡ c.args.site = subst (λ a. site_at a i ≡ c.args.site) c.self.invariant.0 c.site_index-index.ensures.site in
+    let here : site_at key.area i ≡ c.args.site = subst (λ (z : TileSystem). site_at z.area i ≡ c.args.site) (sym same_key) c.requires.number in
     let held : Supports key c.args.seat.now.scout c.args.site c.args.tile = subst (λ (z : TileSystem). Supports z c.args.seat.now.scout c.args.site c.args.tile) (sym same_key) c.requires.supported in
     let kind = claim_kind key c.args.seat.now.scout c.args.site c.args.tile c.self.invariant.1 held in
     let is = claim_place key v i c.code_of-word.result c.number.result c.args.site c.args.tile c.self.invariant.1 kind sys here c.code_of-word.ensures in
@@ -51,10 +50,10 @@ pub returns-then-found-eq0-clause-stands : goal.returns-then-found-eq0-clause-st
 returns-then-found-eq0-clause-stands g c =
     let v = c.seat.inside.seat.me.0 in
     let key = c.self.inside.table.shared.key in
-    let i = c.site_index-index.result in
+    let i = c.args.index in
     let same_key : key ≡ c.args.self.now.sys = ap (λ (t : TableValue). t.sys) c.self.view_is in
     let sys : v.sys ≡ key = ap (λ (s : SeatValue). s.sys) c.seat.view_is ∙ (c.requires.seat.sys ∙ sym same_key) in
-    let here : site_at key.area i ≡ c.args.site = subst (λ a. site_at a i ≡ c.args.site) c.self.invariant.0 c.site_index-index.ensures.site in
+    let here : site_at key.area i ≡ c.args.site = subst (λ (z : TileSystem). site_at z.area i ≡ c.args.site) (sym same_key) c.requires.number in
     let held : Supports key c.args.seat.now.scout c.args.site c.args.tile = subst (λ (z : TileSystem). Supports z c.args.seat.now.scout c.args.site c.args.tile) (sym same_key) c.requires.supported in
     let kind = claim_kind key c.args.seat.now.scout c.args.site c.args.tile c.self.invariant.1 held in
     let is = claim_place key v i c.code_of-word.result c.number.result c.args.site c.args.tile c.self.invariant.1 kind sys here c.code_of-word.ensures in
@@ -71,9 +70,9 @@ pub returns-clause-stands : goal.returns-clause-stands
 returns-clause-stands g c =
     let v = c.seat.inside.seat.me.0 in
     let key = c.self.inside.table.shared.key in
-    let i = c.site_index-index.result in
-    let sys : v.sys ≡ key = ap (λ (s : SeatValue). s.sys) c.seat.view_is ∙ (c.requires.seat.sys ∙ sym (ap (λ (t : TableValue). t.sys) c.self.view_is)) in
-    let here : site_of v i ≡ c.args.site = ap (λ (z : TileSystem). site_at z.area i) sys ∙ (ap (λ a. site_at a i) (sym c.self.invariant.0) ∙ c.site_index-index.ensures.site) in
+    let i = c.args.index in
+    let sys : v.sys ≡ c.args.self.now.sys = ap (λ (s : SeatValue). s.sys) c.seat.view_is ∙ c.requires.seat.sys in
+    let here : site_of v i ≡ c.args.site = ap (λ (z : TileSystem). site_at z.area i) sys ∙ c.requires.number in
     let met = c.compare_exchange-found.ensures.2.lost c.if-found-eq0.false in
     subst (λ u. tile_at c.compare_exchange-found.new.seat.me.0.seen c.args.site ≡ Some u) (sym c.type_of.ensures)
     (subst (λ m. tile_at c.compare_exchange-found.new.seat.me.0.seen m ≡ Some (type_in c.compare_exchange-found.result)) here
