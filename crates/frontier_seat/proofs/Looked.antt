@@ -308,16 +308,17 @@ caught_up sys before after spot old mid new is empty lists removes claim around 
     record {
       growing = looks.growing;
       goes = looks.goes;
+      more = let count = claim.count in omega (arith, count);
       lists = record { empty = looks.listed; all = looks.closed };
     }
 
 -- step by step
 pub caught_more : (sys : TileSystem) (a b c : Growing) (one two : Numbers) → CatchesUp sys a b one → CatchesUp sys b c two → CatchesUp sys a c two
-caught_more sys a b c one two first second = record { growing = second.growing; goes = goes_further a b c first.goes second.goes; lists = second.lists }
+caught_more sys a b c one two first second = record { growing = second.growing; goes = goes_further a b c first.goes second.goes; more = le_trans first.more second.more; lists = second.lists }
 
 -- nothing was seen yet
 pub caught_none : (sys : TileSystem) (g : Growing) (numbers : Numbers) → IsGrowing sys g → ListsOpen sys g.grid.tiles numbers → CatchesUp sys g g numbers
-caught_none sys g numbers growing lists = record { growing = growing; goes = goes_nowhere g; lists = lists }
+caught_none sys g numbers growing lists = record { growing = growing; goes = goes_nowhere g; more = omega arith; lists = lists }
 
 -- how a burst ends, by whether a type attaches still
 pub ended_open : (sys : TileSystem) (old new : Growing) (most : ℕ) (numbers : Numbers) → ListsOpen sys new.grid.tiles numbers → ((n : ℕ) → ¬ IsIn numbers n) ⊎ (length new.grid.tiles ≡ length old.grid.tiles + most) →

@@ -224,6 +224,7 @@ impl Scout {
             ≡ steps.old + length self.new.grid.tiles }
         ensures few { steps.new ≤ steps.old + most }
         ensures fewer { steps.new < steps.old + cell_count sys.now.area }
+        ensures room { length self.new.grid.tiles ≤ cell_count sys.now.area }
     {
         let _area = sys.area();
         list(sys, &self.growing, self.listed, &mut self.work);
@@ -266,6 +267,7 @@ impl Scout {
         requires system { table.now.sys ≡ sys.now }
         ensures goes { GrowsOn self.old self.new }
         ensures seen { SamePlacements self.new.seat.scout.seen self.new.grid.tiles }
+        ensures more { length self.old.grid.tiles ≤ length self.new.grid.tiles }
     {
         list(sys, &self.growing, self.listed, &mut self.work);
         self.listed = true;

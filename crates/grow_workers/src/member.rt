@@ -1,5 +1,6 @@
 // A worker, from its first burst to its last.
-ghost use Rattle.std.specs.Prelude.{◌≡◌, ◌<◌, IfOk};
+ghost use Rattle.std.specs.Prelude.{◌≡◌, ◌<◌, ◌≤◌, length, IfOk};
+ghost use Rattle.assembly.specs.Cells.{cell_count};
 ghost use Rattle.atam.specs.Placements.{SamePlacements};
 ghost use Rattle.site_table.specs.Seats.{IsSeatOf};
 ghost use Rattle.frontier_seat.specs.Growths.{EndsBurst, GrowsOn};
@@ -56,6 +57,7 @@ fn burst_counted<L: Ledger>(
     requires share { share < of }
     ensures goes { GrowsOn scout.old scout.new }
     ensures ends { EndsBurst sys.now scout.old scout.new most result }
+    ensures few { length scout.new.grid.tiles ≤ cell_count sys.now.area }
 {
     let mut steps: Steps<L> = Steps::open(blank);
     scout.burst(sys, table, picks, share, of, most, &mut steps)

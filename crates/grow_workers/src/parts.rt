@@ -1,5 +1,5 @@
 // Many workers, each in a thread of its own.
-ghost use Rattle.std.specs.Prelude.{◌≡◌, ◌≤◌, ◌<◌, ◌+◌, ◌-◌, ◌^◌, All, length, IfOk};
+ghost use Rattle.std.specs.Prelude.{◌≡◌, ◌≤◌, ◌<◌, ◌+◌, ◌-◌, ◌^◌, [], All, length, IfOk};
 ghost use Rattle.std.specs.Thread.{IsSync};
 ghost use Rattle.atam.specs.Placements.{SamePlacements};
 ghost use Rattle.atam.specs.Growth.{IsClosedInBox};
@@ -147,7 +147,7 @@ fn start_first<G: Gate>(
     requires seen { SamePlacements seat.scout.seen seen.tiles }
     ensures team { IfOk result (λ crew. HasTeam sys.now seat seen crew.first crew.others.items) }
     ensures first { IfOk result (λ crew. IsFirst sys.now crew.first) }
-    ensures count { IfOk result (λ crew. length crew.others.items ≡ 0) }
+    ensures count { IfOk result (λ crew. crew.others.items ≡ []) }
 {
     let others = Vec::new(alloc);
     let first = start(alloc, sys, table, seat, seen, 0, BURST, choice, gate)?;
@@ -168,12 +168,12 @@ pub(crate) fn gather(
     requires closed { IsClosedInBox sys.now first.scout.grid.tiles }
     ensures seat { IfOk result (λ h. IsSeatOf table.now h.seat) }
     ensures grew { IfOk result (λ h. (seat : SeatValue) (grid : TileGrid) →
-        HasTeam sys.now seat grid first others.items →
+        IsSeatOf table.now seat → HasTeam sys.now seat grid first others.items →
         PartedGrowth sys.now seat grid h.seat h.grid h.first h.others.items) }
     ensures count { IfOk result (λ h. length h.others.items ≡ length others.items) }
 {
     let mut others = others;
-    if others.is_empty() {
+    if others.as_slice().is_empty() {
         return Ok(leave_first(alloc, first));
     }
     let member = others.remove(0);
@@ -203,7 +203,7 @@ fn leave_first(alloc: Global, first: Member) -> Harvest
     ensures seat { result.seat ≡ first.scout.seat }
     ensures grid { result.grid ≡ first.scout.grid }
     ensures won { result.first ≡ first.scout.won }
-    ensures none { length result.others.items ≡ 0 }
+    ensures none { result.others.items ≡ [] }
     ensures seen { SamePlacements result.seat.scout.seen result.grid.tiles }
 {
     let won = first.scout.won();

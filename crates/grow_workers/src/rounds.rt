@@ -1,7 +1,8 @@
 // Rounds of bursts.
-ghost use Rattle.std.specs.Prelude.{◌≡◌, ◌≤◌, ◌<◌, All, length, OnOk};
+ghost use Rattle.std.specs.Prelude.{◌≡◌, ◌≤◌, ◌<◌, ℕ, All, length, slice_index_or, IsTrue, OnOk};
+ghost use Rattle.grow_workers.specs.declared.member.Member.{Member};
 ghost use Rattle.site_table.specs.Seats.{IsSeatOf};
-ghost use Rattle.grow_workers.specs.Inner.Teams.{AllTurn, Advances, IsOver, IsLed, Turns, TurnsOn};
+ghost use Rattle.grow_workers.specs.Inner.Teams.{AllTurn, IsLed, IsOver, is_quiet, TurnsOn};
 
 use crate::member::{BURST, Member, Round, play};
 use site_table::SiteTable;
@@ -62,7 +63,9 @@ impl Pace {
 }
 
 // Whether worker 0 found the box closed.
-fn is_over(team: &[Member]) -> bool {
+fn is_over(team: &[Member]) -> bool
+    ensures { result ≡ is_quiet team.now }
+{
     match team.first() {
         Some(first) => first.is_quiet,
         None => true,
@@ -94,8 +97,9 @@ fn play_round<R: Threads + Sync>(
     requires seats { All (λ m. IsSeatOf table.now m.scout.seat) team.old.items }
     requires system { table.now.sys ≡ sys.now }
     requires some { 0 < round.workers }
-    ensures turns { AllTurn sys.now team.old.items team.new.items }
-    ensures first { Advances team.old.items team.new.items }
+    ensures count { length team.new.items ≡ length team.old.items }
+    ensures each { (i : ℕ) (d : Member) → i < length team.old.items →
+        TurnsOn sys.now (slice_index_or team.old.items i d) (slice_index_or team.new.items i d) }
 {
     let threads = if round.is_alone {
         1

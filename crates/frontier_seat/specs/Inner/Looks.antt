@@ -52,6 +52,7 @@ MayList sys tiles listed numbers = MatchBool listed (ListsOpen sys tiles numbers
 pub record CatchesUp (sys : TileSystem) (old new : Growing) (numbers : Numbers) : Type 0 where
   pub growing : IsGrowing sys new
   pub goes : GrowsOn old new
+  pub more : length old.grid.tiles ≤ length new.grid.tiles
   pub lists : ListsOpen sys new.grid.tiles numbers
 
 -- a type that attaches at the site; none exactly where none does

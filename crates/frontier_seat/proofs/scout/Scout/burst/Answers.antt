@@ -41,3 +41,6 @@ returns-clause-ends g c =
       | else-open w ↦ subst (before c.self.inside.growing) (sym w.result-is)
           (subst (λ (b : Bool). MatchBool b (¬ closed) closed) w.if-open.false c.is_open-open.ensures.open)
     ])
+
+pub returns-clause-room : goal.returns-clause-room
+returns-clause-room g c = few_tiles c.args.sys.now c.spend.new.growing c.spend.ensures.growing
