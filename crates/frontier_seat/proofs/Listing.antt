@@ -26,7 +26,7 @@ use Rattle.number_set.specs.Numbers.{Numbers, IsIn, Adds, Removes}
 use Rattle.number_set.proofs.Counting.{count_below-adds}
 use Rattle.frontier_seat.specs.declared.work_list.Spot.{Spot}
 use Rattle.frontier_seat.specs.Inner.Listings.{AreEmptySites, ListsAround, ListsFrontier, ListsFrontierTo, ListsSide, IsSpot}
-use Rattle.frontier_seat.specs.Inner.Looks.{IsClosedBut}
+use Rattle.frontier_seat.specs.Inner.Looks.{IsClosedBut, ListsOpen}
 
 -- the number of a site by its row and column
 abbrev cell : BoxArea → Site → ℕ
@@ -236,3 +236,12 @@ closed_taken sys tiles old new k removes closed n t within grows = elim (cases_e
   | inl same ↦ inr same
   | inr other ↦ inl ((removes n).1 (closed n t within grows, other))
 ]
+
+-- and listed again, it leaves what was
+pub lists_again : (sys : TileSystem) (tiles : List Place) (old mid new : Numbers) (k : ℕ) → IsIn old k → Removes old mid k → Adds mid new k → ListsOpen sys tiles old → ListsOpen sys tiles new
+lists_again sys tiles old mid new k was removes adds lists =
+    let before : (n : ℕ) → IsIn new n → IsIn old n = λ n still. elim ((adds n).0 still) [ inl rest ↦ ((removes n).0 rest).0 | inr here ↦ subst (IsIn old) (sym here) was ] in
+    record {
+      empty = λ n still. lists.empty n (before n still);
+      all = λ n t within grows. elim (closed_taken sys tiles old mid k removes lists.all n t within grows) [ inl rest ↦ (adds n).1 (inl rest) | inr here ↦ (adds n).1 (inr here) ];
+    }

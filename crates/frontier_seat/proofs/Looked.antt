@@ -31,13 +31,16 @@ use Rattle.site_table.specs.Seats.{SeatValue, GoesOn}
 use Rattle.site_table.specs.Rule.{IsPossible}
 use Rattle.site_table.proofs.Seen.{seen_fits}
 use Rattle.frontier_seat.specs.declared.growing.Growing.{Growing}
-use Rattle.frontier_seat.specs.Growths.{IsGrowing, GrowsOn}
-use Rattle.frontier_seat.specs.Inner.Looks.{Puts, ClaimsAt, IsClosedBut, LooksAt}
-use Rattle.number_set.specs.Numbers.{Numbers, IsIn}
+use Rattle.frontier_seat.specs.Growths.{EndsBurst, IsGrowing, GrowsOn}
+use Rattle.frontier_seat.specs.declared.bursting.Burst.{Burst}
+use Rattle.frontier_seat.specs.declared.bursting.Burst.TheVariants.{Quiet, Spent}
+use Rattle.frontier_seat.specs.Inner.Looks.{CatchesUp, Puts, ClaimsAt, IsClosedBut, ListsOpen, LooksAt}
+use Rattle.number_set.specs.Numbers.{Numbers, IsIn, Removes}
 use Rattle.assembly.specs.Cells.{cell_count, site_at}
 use Rattle.assembly.proofs.Cells.{site_at-injective}
 use Rattle.frontier_seat.specs.declared.work_list.Spot.{Spot}
 use Rattle.frontier_seat.specs.Inner.Listings.{AreEmptySites, ListsAround, IsSpot}
+use Rattle.frontier_seat.proofs.Listing.{closed_none, closed_taken}
 
 -- a site is not beside itself
 neighbor_differs : (m : Site) (d : Side) → m ≢ neighbor m d
@@ -290,3 +293,37 @@ closed_same sys a b distinct_a distinct_b same closed m t inside grows =
 -- where the grid is closed, so is what the seat has seen
 pub closed_seen : (sys : TileSystem) (g : Growing) → IsGrowing sys g → HasDistinctSites g.seat.scout.seen → IsClosedInBox sys g.grid.tiles → IsClosedInBox sys g.seat.scout.seen
 closed_seen sys g growing distinct closed = closed_same sys g.seat.scout.seen g.grid.tiles distinct growing.distinct growing.seen closed
+
+-- a burst that made fewer claims than it may ended with a closed box
+pub ended_quiet : (sys : TileSystem) (old new : Growing) (most : ℕ) (burst : Burst) → length new.grid.tiles < length old.grid.tiles + most → EndsBurst sys old new most burst → IsClosedInBox sys new.grid.tiles
+ended_quiet sys old new most Quiet fewer ends = ends
+ended_quiet sys old new most Spent fewer ends = let all = ends.1 in absurd (omega (arith, fewer, all))
+
+-- what another placed at a site is seen, and the listed sites follow
+pub caught_up : (sys : TileSystem) (before after : Growing) (spot : Spot) (old mid new : Numbers) → IsSpot sys.area spot → tile_at before.grid.tiles spot.site ≡ None → ListsOpen sys before.grid.tiles old → Removes old mid spot.number →
+    ClaimsAt sys spot.site before after → ListsAround sys.area after.grid.tiles spot.site mid new → CatchesUp sys before after new
+caught_up sys before after spot old mid new is empty lists removes claim around =
+    let gone : ¬ IsIn mid spot.number = λ still. ((removes spot.number).0 still).1 refl in
+    let looks = looked_at_some sys before after spot mid new is (closed_taken sys before.grid.tiles old mid spot.number removes lists.all) gone (λ n still. lists.empty n ((removes n).0 still).0) empty claim around in
+    record {
+      growing = looks.growing;
+      goes = looks.goes;
+      more = let count = claim.count in omega (arith, count);
+      lists = record { empty = looks.listed; all = looks.closed };
+    }
+
+-- step by step
+pub caught_more : (sys : TileSystem) (a b c : Growing) (one two : Numbers) → CatchesUp sys a b one → CatchesUp sys b c two → CatchesUp sys a c two
+caught_more sys a b c one two first second = record { growing = second.growing; goes = goes_further a b c first.goes second.goes; more = le_trans first.more second.more; lists = second.lists }
+
+-- nothing was seen yet
+pub caught_none : (sys : TileSystem) (g : Growing) (numbers : Numbers) → IsGrowing sys g → ListsOpen sys g.grid.tiles numbers → CatchesUp sys g g numbers
+caught_none sys g numbers growing lists = record { growing = growing; goes = goes_nowhere g; more = omega arith; lists = lists }
+
+-- how a burst ends, by whether a type attaches still
+pub ended_open : (sys : TileSystem) (old new : Growing) (most : ℕ) (numbers : Numbers) → ListsOpen sys new.grid.tiles numbers → ((n : ℕ) → ¬ IsIn numbers n) ⊎ (length new.grid.tiles ≡ length old.grid.tiles + most) →
+    (¬ IsClosedInBox sys new.grid.tiles) → EndsBurst sys old new most Spent
+ended_open sys old new most numbers lists done more = elim done [
+  | inl none ↦ absurd (more (closed_none sys new.grid.tiles numbers none lists.all))
+  | inr all ↦ (more, all)
+]

@@ -1,12 +1,15 @@
 -- What a scout makes of its seat.
-use Rattle.std.specs.Prelude.{◌≡◌, ◌+◌, ◌≤◌, List, ◌++◌, length, All}
+use Rattle.std.specs.Prelude.{◌≡◌, ℕ, ◌+◌, ◌≤◌, List, ◌++◌, length, All}
 use Rattle.atam.specs.TileSystem.{TileSystem}
 use Rattle.atam.specs.Placements.{SamePlacements, IsPartOf, HasDistinctSites}
 use Rattle.atam.specs.Assembly.{Fits}
 use Rattle.grow_core.specs.declared.placed_tile.PlacedTile.{PlacedTile}
 use Rattle.grow_core.specs.Core.{least}
 use Rattle.site_table.specs.Seats.{GoesOn}
+use Rattle.atam.specs.Growth.{IsClosedInBox}
 use Rattle.frontier_seat.specs.declared.growing.Growing.{Growing}
+use Rattle.frontier_seat.specs.declared.bursting.Burst.{Burst}
+use Rattle.frontier_seat.specs.declared.bursting.Burst.TheVariants.{Quiet, Spent}
 
 -- the grid is what the seat has seen, over the box of its system
 pub record IsGrowing (sys : TileSystem) (g : Growing) : Type 0 where
@@ -27,3 +30,8 @@ pub record GrowsOn (old new : Growing) : Type 0 where
   pub mine : new.seat.scout.mine ≡ old.seat.scout.mine ++ wins
   pub placer : All (λ t. t.placer ≡ least old.seat.scout.owned) wins
   pub won : new.won ≡ old.won + length wins
+
+-- how a burst of at most so many claims ends: quiet exactly where the box is closed, and else all claims were made, of which each added a site
+abbrev pub EndsBurst : TileSystem → Growing → Growing → ℕ → Burst → Type 0
+EndsBurst sys old new most Quiet = IsClosedInBox sys new.grid.tiles
+EndsBurst sys old new most Spent = (¬ IsClosedInBox sys new.grid.tiles) × (length new.grid.tiles ≡ length old.grid.tiles + most)

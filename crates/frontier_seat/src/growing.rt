@@ -1,5 +1,5 @@
 // A seat, and the grid of what it has seen.
-ghost use Rattle.std.specs.Prelude.{◌≡◌, ◌<◌, ◌+◌, None};
+ghost use Rattle.std.specs.Prelude.{◌≡◌, ◌<◌, ◌+◌, None, MatchBool};
 ghost use Rattle.atam.specs.Placements.{tile_at};
 ghost use Rattle.atam.specs.Growth.{IsCandidate};
 ghost use Rattle.assembly.specs.Cells.{cell_count, site_at};
@@ -68,5 +68,28 @@ impl Growing {
                 self.put(Place { site, tile: there }, number)
             }
         }
+    }
+
+    // One look at an empty site of the grid, without a claim. It tells whether a tile stands there,
+    // which is seen then.
+    #[inline(always)]
+    pub(crate) fn see(&mut self, sys: &System, table: &SiteTable, spot: Spot) -> bool
+        requires seat { IsSeatOf table.now self.old.seat }
+        requires system { table.now.sys ≡ sys.now }
+        requires growing { IsGrowing sys.now self.old }
+        requires spot { IsSpot sys.now.area spot }
+        requires empty { tile_at self.old.grid.tiles spot.site ≡ None }
+        ensures { MatchBool result (ClaimsAt sys.now spot.site self.old self.new)
+            (self.new ≡ self.old) }
+    {
+        let _owned = self.seat.owned();
+        let _area = sys.area();
+        let Spot { site, number } = spot;
+        let Some(tile) = table.look(&mut self.seat, site) else {
+            return false;
+        };
+        let _owned = self.seat.owned();
+        self.put(Place { site, tile }, number);
+        true
     }
 }

@@ -2,14 +2,18 @@
 //! and among the types that attach there.
 #![tactic(auto)]
 
+mod bursting;
+mod catching;
 mod chooser;
 mod claim_log;
 mod growing;
 mod in_order;
 mod picking;
 mod scout;
+mod share;
 mod work_list;
 
+pub use bursting::Burst;
 pub use chooser::{Chooser, First, RngChooser, Wanderer};
 pub use claim_log::ClaimLog;
 pub use growing::Growing;

@@ -7,16 +7,18 @@ ghost use Rattle.atam.specs.Canonical.{IsCanonical};
 ghost use Rattle.assembly.specs.Cells.{cell_count};
 ghost use Rattle.site_table.specs.Seats.{IsSeatOf};
 ghost use Rattle.site_table.specs.Laws.{IsFinal};
-ghost use Rattle.frontier_seat.specs.Growths.{IsGrowing, GrowsOn};
+ghost use Rattle.frontier_seat.specs.Growths.{EndsBurst, IsGrowing, GrowsOn};
 ghost use Rattle.number_set.specs.Numbers.{IsIn};
 ghost use Rattle.frontier_seat.specs.Inner.Listings.{AreEmptySites, IsSpot};
-ghost use Rattle.frontier_seat.specs.Inner.Looks.{ClaimsAt, IsClosedBut, LooksAt};
+ghost use Rattle.frontier_seat.specs.Inner.Looks.{ClaimsAt, IsClosedBut, ListsOpen, LooksAt, MayList};
 ghost use Rattle.frontier_seat.specs.Inner.Pickers.{IsPickerOf};
 
+use crate::bursting::{is_open, spend};
+use crate::catching::see_all;
 use crate::in_order::look_in_order;
 use crate::picking::Picker;
 use crate::work_list::{Spot, WorkList};
-use crate::{Chooser, ClaimLog, Growing};
+use crate::{Burst, Chooser, ClaimLog, Growing};
 use assembly::Grid;
 use site_table::{SiteSeat, SiteTable};
 use std::alloc::Global;
@@ -25,13 +27,18 @@ use std::sync::ledger::Ledger;
 use tile_io::Steps;
 use tile_system::System;
 
-/// A seat with the grid of what it has seen, an index of types, and room to work: with the grid, two
-/// bytes and an eighth a site.
+// More claims than a box has sites.
+const MOST_CLAIMS: u32 = u32::MAX;
+
+/// A seat with the grid of what it has seen, an index of types, and room to work: with the grid, six
+/// bytes and a quarter a site.
 #[derive(Drop)]
 pub struct Scout {
     growing: Growing,
     picker: Picker,
     work: WorkList,
+    listed: bool,
+    wins: Vec<u32>,
 }
 
 impl Model for Scout {
@@ -39,8 +46,7 @@ impl Model for Scout {
     ghost use Rattle.frontier_seat.specs.declared.growing.Growing.{Growing};
     ghost use Rattle.frontier_seat.specs.Growths.{IsGrowing};
     ghost use Rattle.frontier_seat.specs.Inner.Pickers.{IsPickerOf};
-    ghost use Rattle.std.specs.Prelude.{ℕ};
-    ghost use Rattle.number_set.specs.Numbers.{IsIn};
+    ghost use Rattle.frontier_seat.specs.Inner.Looks.{MayList};
 
     ghost Value = { Growing };
 
@@ -49,7 +55,7 @@ impl Model for Scout {
     ghost invariant = { λ s. IsGrowing s.growing.seat.sys s.growing
         × IsPickerOf s.growing.seat.sys s.picker
         × (s.work.area ≡ s.growing.seat.sys.area)
-        × ((n : ℕ) → ¬ IsIn s.work.numbers n) };
+        × MayList s.growing.seat.sys s.growing.grid.tiles s.listed s.work.numbers };
 }
 
 // Looks at one empty site that is listed no longer, and claims it for a type that attaches. It
@@ -94,38 +100,19 @@ pub(crate) fn look<C: Chooser, L: Ledger>(
     true
 }
 
-// Looks at the empty sites beside what was seen, and at those beside each tile that comes.
-fn look_around<C: Chooser, L: Ledger>(
-    sys: &System,
-    table: &SiteTable,
-    growing: &mut Growing,
-    chooser: &mut C,
-    picker: &mut Picker,
-    work: &mut WorkList,
-    steps: &mut Steps<L>,
-)
-    requires seat { IsSeatOf table.now growing.old.seat }
-    requires system { table.now.sys ≡ sys.now }
-    requires growing { IsGrowing sys.now growing.old }
-    requires picker { IsPickerOf sys.now picker.old }
+// Lists the empty sites beside what was seen, if that wasn't done before.
+fn list(sys: &System, growing: &Growing, listed: bool, work: &mut WorkList)
+    requires growing { IsGrowing sys.now growing.now }
     requires area { work.old.area ≡ sys.now.area }
-    requires none { (n : ℕ) → ¬ IsIn work.old.numbers n }
-    ensures valid { IsValid sys.now }
-    ensures growing { IsGrowing sys.now growing.new }
-    ensures goes { GrowsOn growing.old growing.new }
-    ensures closed { IsClosedInBox sys.now growing.new.grid.tiles }
-    ensures picker { IsPickerOf sys.now picker.new }
+    requires may { MayList sys.now growing.now.grid.tiles listed work.old.numbers }
     ensures area { work.new.area ≡ work.old.area }
-    ensures none { (n : ℕ) → ¬ IsIn work.new.numbers n }
-    ensures cost { steps.new + length growing.old.grid.tiles
-        ≡ steps.old + length growing.new.grid.tiles }
+    ensures lists { ListsOpen sys.now growing.now.grid.tiles work.new.numbers }
 {
-    let area = sys.area();
-    let count = area.width() * area.height();
-    work.list_frontier(&growing.grid);
-    while let Some(spot) = work.take(chooser.start(count)) {
-        look(sys, table, growing, chooser, picker, spot, work, steps);
+    let _area = sys.area();
+    if listed {
+        return;
     }
+    work.list_frontier(&growing.grid);
 }
 
 impl Scout {
@@ -152,6 +139,10 @@ impl Scout {
         let Ok(work) = WorkList::make(alloc, area) else {
             return Err((seat, seen));
         };
+        let Ok(wins) = Vec::with_capacity(alloc, area.width() as usize * area.height() as usize)
+        else {
+            return Err((seat, seen));
+        };
         let growing = Growing {
             seat,
             grid: seen,
@@ -161,6 +152,8 @@ impl Scout {
             growing,
             picker,
             work,
+            listed: false,
+            wins,
         })
     }
 
@@ -200,17 +193,85 @@ impl Scout {
             ≡ steps.old + length self.new.grid.tiles }
         ensures few { steps.new < steps.old + cell_count sys.now.area }
     {
-        look_around(
+        let _area = sys.area();
+        self.burst(sys, table, chooser, 0, 1, MOST_CLAIMS, steps);
+    }
+
+    /// Claims as a sweep does, at most so many times, and says whether the box is closed then. Of
+    /// `of` workers that share the listed sites the one with the number `share` begins with its run
+    /// of them, goes on beside its own claims, and only then looks elsewhere; no clause says so. The
+    /// first time it looks at each site for those beside what was seen, and later at none: the sites
+    /// at which a type may attach stay listed. It takes no memory.
+    pub fn burst<C: Chooser, L: Ledger>(
+        &mut self,
+        sys: &System,
+        table: &SiteTable,
+        chooser: &mut C,
+        share: u32,
+        of: u32,
+        most: u32,
+        steps: &mut Steps<L>,
+    ) -> Burst
+        requires seat { IsSeatOf table.now self.old.seat }
+        requires system { table.now.sys ≡ sys.now }
+        requires share { share < of }
+        ensures goes { GrowsOn self.old self.new }
+        ensures ends { EndsBurst sys.now self.old self.new most result }
+        ensures seen { SamePlacements self.new.seat.scout.seen self.new.grid.tiles }
+        ensures last { IsClosedInBox sys.now self.new.grid.tiles →
+            IsFinal sys.now self.new.seat.scout }
+        ensures cost { steps.new + length self.old.grid.tiles
+            ≡ steps.old + length self.new.grid.tiles }
+        ensures few { steps.new ≤ steps.old + most }
+        ensures fewer { steps.new < steps.old + cell_count sys.now.area }
+        ensures room { length self.new.grid.tiles ≤ cell_count sys.now.area }
+    {
+        let _area = sys.area();
+        list(sys, &self.growing, self.listed, &mut self.work);
+        self.listed = true;
+        self.wins.clear();
+        self.work.cut(share, of);
+        spend(
             sys,
             table,
             &mut self.growing,
             chooser,
             &mut self.picker,
             &mut self.work,
+            most,
+            &mut self.wins,
             steps,
         );
-        let _area = sys.area();
+        let open = is_open(
+            sys,
+            &self.growing,
+            chooser,
+            &mut self.picker,
+            &mut self.work,
+        );
+        self.work.make_whole();
         let _owned = self.growing.seat.owned();
+        if open { Burst::Spent } else { Burst::Quiet }
+    }
+
+    /// The numbers of the sites that the last burst has won. They say where others may look, so no
+    /// clause says more of them.
+    pub fn wins(&self) -> &[u32] {
+        self.wins.as_slice()
+    }
+
+    /// Looks at the sites with these numbers, but those where a tile was seen: what stands there is
+    /// seen then. Nothing is claimed.
+    pub fn catch_up(&mut self, sys: &System, table: &SiteTable, numbers: &[u32])
+        requires seat { IsSeatOf table.now self.old.seat }
+        requires system { table.now.sys ≡ sys.now }
+        ensures goes { GrowsOn self.old self.new }
+        ensures seen { SamePlacements self.new.seat.scout.seen self.new.grid.tiles }
+        ensures more { length self.old.grid.tiles ≤ length self.new.grid.tiles }
+    {
+        list(sys, &self.growing, self.listed, &mut self.work);
+        self.listed = true;
+        see_all(sys, table, &mut self.growing, &mut self.work, numbers);
     }
 
     /// The same for who owns all numbers and has seen the seeds alone, always at the least site at
@@ -237,6 +298,8 @@ impl Scout {
         ensures cost { steps.new + length self.old.grid.tiles
             ≡ steps.old + length self.new.grid.tiles }
     {
+        self.work.clear();
+        self.listed = false;
         look_in_order(
             sys,
             table,

@@ -4,9 +4,10 @@ ghost use Rattle.atam.specs.Sites.{IsBox, IsNearSite, neighbor, width_of, height
 ghost use Rattle.atam.specs.Placements.{tile_at};
 ghost use Rattle.assembly.specs.Cells.{cell_count};
 ghost use Rattle.tile_system.specs.Neighbors.{StandBeside};
-ghost use Rattle.number_set.specs.Numbers.{IsIn, IsLeastOf};
+ghost use Rattle.number_set.specs.Numbers.{Adds, IsIn, IsLeastOf, Removes};
 ghost use Rattle.frontier_seat.specs.Inner.Listings.{AreEmptySites, ListsAround, ListsFrontier, ListsFrontierTo, ListsSide, IsSpot, IsSpotBeside, TakesSpot};
 
+use crate::share::{Share, empty};
 use assembly::{Grid, site_of_index};
 use number_set::NumberSet;
 use std::alloc::Global;
@@ -20,11 +21,13 @@ pub(crate) struct Spot {
     pub(crate) number: usize,
 }
 
-// Sites of a box, each listed at most once, with room for all: an eighth of a byte a site.
+// Sites of a box, each listed at most once, with room for all, and which of them are looked at
+// first: a quarter of a byte a site.
 #[derive(Drop)]
 pub(crate) struct WorkList {
     area: BoxArea,
     numbers: NumberSet,
+    share: Share,
 }
 
 impl Model for WorkList {
@@ -37,7 +40,8 @@ impl Model for WorkList {
 
     ghost view = { λ w. record { area = w.area; numbers = w.numbers } };
 
-    ghost invariant = { λ w. IsBox w.area × (w.numbers.bound ≡ cell_count w.area) };
+    ghost invariant = { λ w. IsBox w.area × (w.numbers.bound ≡ cell_count w.area)
+        × (w.share ≡ cell_count w.area) };
 }
 
 impl WorkList {
@@ -51,39 +55,112 @@ impl WorkList {
         Ok(WorkList {
             area,
             numbers: NumberSet::make(alloc, count)?,
+            share: Share::make(alloc, count)?,
         })
+    }
+
+    // The number of sites of the box.
+    pub(crate) fn count(&self) -> u32
+        ensures count { result ≡ cell_count self.now.area }
+        ensures some { 0 < result }
+    {
+        self.area.width() * self.area.height()
+    }
+
+    // The number of the next site to look at: where several work, one of the worker's own, if any
+    // is left. It is looked for so many sites on.
+    #[inline(always)]
+    fn next(&self, ahead: u32) -> Option<usize>
+        requires { ahead < cell_count self.now.area }
+        ensures within { IfSome result (λ n. n < cell_count self.now.area) }
+        ensures listed { IfSome result (IsIn self.now.numbers) }
+        ensures none { IfNone result ((n : ℕ) → ¬ IsIn self.now.numbers n) }
+    {
+        if self.share.is_whole() {
+            return self.next_from(ahead as usize);
+        }
+        let from = self.share.start(ahead);
+        if let Some(number) = self.share.next(from) {
+            if self.numbers.contains(number) {
+                return Some(number);
+            }
+        }
+        self.next_from(from)
     }
 
     // The number of the least site that is listed at or after this one, else of the least one.
     #[inline(always)]
-    fn next(&self, from: u32) -> Option<usize>
+    fn next_from(&self, from: usize) -> Option<usize>
         requires { from < cell_count self.now.area }
         ensures within { IfSome result (λ n. n < cell_count self.now.area) }
         ensures listed { IfSome result (IsIn self.now.numbers) }
         ensures none { IfNone result ((n : ℕ) → ¬ IsIn self.now.numbers n) }
     {
         if from > 0 {
-            if let Some(number) = self.numbers.least_from(from as usize) {
+            if let Some(number) = self.numbers.least_from(from) {
                 return Some(number);
             }
         }
         self.numbers.least()
     }
 
-    // Takes the least site that is listed at or after the one with this number, else the least one.
+    // Takes the next site to look at, which is looked for so many sites on.
     #[inline(always)]
-    pub(crate) fn take(&mut self, from: u32) -> Option<Spot>
-        requires { from < cell_count self.old.area }
+    pub(crate) fn take(&mut self, ahead: u32) -> Option<Spot>
+        requires { ahead < cell_count self.old.area }
         ensures area { self.new.area ≡ self.old.area }
         ensures takes { IfSome result
             (TakesSpot self.old.area self.old.numbers self.new.numbers) }
         ensures none { IfNone result ((n : ℕ) → ¬ IsIn self.old.numbers n) }
         ensures same { IfNone result (self.new ≡ self.old) }
     {
-        let number = self.next(from)?;
+        let number = self.next(ahead)?;
         self.numbers.remove(number);
+        self.share.leave(number);
         let site = site_of_index(&self.area, number);
         Some(Spot { site, number })
+    }
+
+    // Lists a site that was taken.
+    pub(crate) fn put_back(&mut self, spot: Spot)
+        requires { IsSpot self.old.area spot }
+        ensures area { self.new.area ≡ self.old.area }
+        ensures adds { Adds self.old.numbers self.new.numbers spot.number }
+    {
+        self.numbers.insert(spot.number);
+    }
+
+    // A site that is to be looked at no longer.
+    #[inline(always)]
+    pub(crate) fn drop_site(&mut self, number: usize)
+        requires { number < cell_count self.old.area }
+        ensures area { self.new.area ≡ self.old.area }
+        ensures removes { Removes self.old.numbers self.new.numbers number }
+    {
+        self.numbers.remove(number);
+    }
+
+    // Makes one of `of` equal runs of the listed sites the worker's own.
+    pub(crate) fn cut(&mut self, share: u32, of: u32)
+        requires { share < of }
+        ensures { self.new ≡ self.old }
+    {
+        self.share.cut(&self.numbers, share, of);
+    }
+
+    // From now on all sites are the worker's own.
+    pub(crate) fn make_whole(&mut self)
+        ensures { self.new ≡ self.old }
+    {
+        self.share.make_whole();
+    }
+
+    // Lists no site.
+    pub(crate) fn clear(&mut self)
+        ensures area { self.new.area ≡ self.old.area }
+        ensures none { (n : ℕ) → ¬ IsIn self.new.numbers n }
+    {
+        empty(&mut self.numbers);
     }
 
     // Takes the least site that is listed.
@@ -115,6 +192,7 @@ impl WorkList {
         }
         if let Some(number) = number_beside(&self.area, spot, side) {
             self.numbers.insert(number);
+            self.share.add(number);
         }
     }
 

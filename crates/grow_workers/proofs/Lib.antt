@@ -1,3 +1,4 @@
 pub mod Numbering
 pub mod Winning
 pub mod Ordering
+pub mod Teaming

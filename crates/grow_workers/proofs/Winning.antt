@@ -67,6 +67,17 @@ alone_grew sys old start before after seat grid none area goes seen closed =
           ∙ append-nil (placed_by n old.scout.mine)));
     }
 
+-- what a worker has won from its start on
+pub start_gains : (seat : SeatValue) (grid : TileGrid) (after : Growing) → GrowsOn (record { seat = seat; grid = grid; won = 0 }) after → Gains seat.scout.mine after.seat.scout.mine (least seat.scout.owned) after.won
+start_gains seat grid after goes =
+    let n = least seat.scout.owned in
+    let won = goes.won in
+    record {
+      wins = goes.wins;
+      order = ap (placed_by n) goes.mine ∙ (by-append n seat.scout.mine goes.wins ∙ ap (λ l. placed_by n seat.scout.mine ++ l) (by_all n goes.wins goes.placer));
+      many = omega (arith, won);
+    }
+
 -- what is won under a number depends on the tiles of this number alone
 gains-same : (a b c d : List PlacedTile) (n k : ℕ) → placed_by n c ≡ placed_by n a → placed_by n d ≡ placed_by n b → Gains a b n k → Gains c d n k
 gains-same a b c d n k one two gains = record { wins = gains.wins; order = two ∙ (gains.order ∙ ap (λ l. l ++ gains.wins) (sym one)); many = gains.many }
@@ -120,11 +131,11 @@ two_numbers (suc zero) owned many has = let never : ⊥ = omega (arith, many) in
 two_numbers (suc (suc k)) owned many has = let e : suc (suc k) - 1 ≡ suc k = omega arith in (has.0, subst (λ n. HasNumbers n (owned - 2 ^ greatest owned)) (sym e) has.1)
 
 -- Workers on the kept part of a seat and one on the given part are workers on the whole.
-module _ (sys : TileSystem) (old kept0 kept1 given0 given1 new : SeatValue) (start copy grid left : TileGrid) (first won : ℕ) (others : List ℕ)
+module _ (sys : TileSystem) (old kept0 kept1 given0 given1 new : SeatValue) (start grid : TileGrid) (first won : ℕ) (others : List ℕ)
     (real : IsPossible sys old.scout) (two : OwnsTwoOrMore old.scout.owned)
     (is_kept : IsScoutOf (old.scout.owned - 2 ^ greatest old.scout.owned) old.scout.seen (kept_tiles (greatest old.scout.owned) old.scout.mine) kept0.scout)
     (is_given : IsScoutOf (2 ^ greatest old.scout.owned) old.scout.seen (placed_by (greatest old.scout.owned) old.scout.mine) given0.scout)
-    (rest : PartedGrowth sys kept0 start kept1 grid first others) (part : PartedGrowth sys given0 copy given1 left won []) (real_kept : IsPossible sys kept1.scout) (real_given : IsPossible sys given1.scout) (distinct : HasDistinctSites grid.tiles)
+    (rest : PartedGrowth sys kept0 start kept1 grid first others) (part_seat : GoesOn given0 given1) (part_wins : Gains given0.scout.mine given1.scout.mine (least given0.scout.owned) won) (real_kept : IsPossible sys kept1.scout) (real_given : IsPossible sys given1.scout) (distinct : HasDistinctSites grid.tiles)
     (real_new : IsPossible sys new.scout) (table : new.table ≡ old.table) (system : new.sys ≡ old.sys)
     (joined : IsScoutOf (bit_or kept1.scout.owned given1.scout.owned) (kept1.scout.seen ++ given1.scout.seen) (kept1.scout.mine ++ given1.scout.mine) new.scout) where
   abbrev owned : ℕ
@@ -146,7 +157,7 @@ module _ (sys : TileSystem) (old kept0 kept1 given0 given1 new : SeatValue) (sta
   kept_owned = rest.seat.owned ∙ is_kept.owned
 
   given_owned : given1.scout.owned ≡ 2 ^ g
-  given_owned = part.seat.owned ∙ is_given.owned
+  given_owned = part_seat.owned ∙ is_given.owned
 
   same_owned : new.scout.owned ≡ owned
   same_owned = joined.owned ∙ ((λ i. bit_or (kept_owned i) (given_owned i)) ∙ rejoined-owned owned some small)
@@ -178,7 +189,7 @@ module _ (sys : TileSystem) (old kept0 kept1 given0 given1 new : SeatValue) (sta
       gains-same given0.scout.mine given1.scout.mine old.scout.mine new.scout.mine g won
       (sym (ap (placed_by g) is_given.mine ∙ by_itself g old.scout.mine))
       (mine_by g ∙ ap (λ l. l ++ placed_by g given1.scout.mine) kept_rests)
-      (subst (λ n. Gains given0.scout.mine given1.scout.mine n won) name part.first_wins)
+      (subst (λ n. Gains given0.scout.mine given1.scout.mine n won) name part_wins)
 
   rest_some : 0 < owned - 2 ^ g
   rest_some = some_rest owned some small two

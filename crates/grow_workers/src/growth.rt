@@ -4,7 +4,8 @@ ghost use Rattle.atam.specs.Placements.{SamePlacements};
 ghost use Rattle.site_table.specs.Seats.{IsSeatOf};
 ghost use Rattle.grow_workers.specs.Workers.{OwnsAtLeast, GrewOn, IsGrowth};
 
-use crate::parts::{Harvest, grow_from};
+use crate::parts::{Crew, Harvest, gather, start_from};
+use crate::rounds::grow_in_rounds;
 use assembly::{Grid, put_seeds};
 use site_table::{Grown, SiteSeat, SiteTable};
 use std::alloc::Global;
@@ -41,12 +42,19 @@ pub fn grow_on<R: Threads + Sync, G: Gate>(
     ensures count { IfOk result (λ r. length r.2.items ≡ workers) }
 {
     let _owned = seat.owned();
+    let Crew {
+        first,
+        others: mut team,
+    } = start_from(rt, alloc, sys, table, seat, seen, 1, workers, choice, gate)?;
+    team.insert(0, first)?;
+    grow_in_rounds(rt, alloc, sys, table, &mut team, workers)?;
+    let first = team.remove(0);
     let Harvest {
         seat,
         grid,
         first,
         others: mut wins,
-    } = grow_from(rt, alloc, sys, table, seat, seen, 1, workers, choice, gate)?;
+    } = gather(alloc, sys, table, first, team)?;
     wins.insert(0, first)?;
     Ok((seat, grid, wins))
 }

@@ -1,19 +1,29 @@
 // Many workers, each in a thread of its own.
-ghost use Rattle.std.specs.Prelude.{◌≡◌, ◌≤◌, ◌<◌, ◌+◌, ◌-◌, ◌^◌, [], length, IfOk};
+ghost use Rattle.std.specs.Prelude.{◌≡◌, ◌≤◌, ◌<◌, ◌+◌, ◌-◌, ◌^◌, [], All, length, IfOk};
 ghost use Rattle.std.specs.Thread.{IsSync};
 ghost use Rattle.atam.specs.Placements.{SamePlacements};
+ghost use Rattle.atam.specs.Growth.{IsClosedInBox};
+ghost use Rattle.assembly.specs.Grids.{TileGrid};
 ghost use Rattle.grow_core.specs.Core.{OwnsTwoOrMore};
 ghost use Rattle.grow_core.specs.Steps.{IsKeptPart, IsGivenPart};
-ghost use Rattle.site_table.specs.Seats.{IsSeatOf};
+ghost use Rattle.site_table.specs.Seats.{IsSeatOf, SeatValue};
+ghost use Rattle.grow_workers.specs.Inner.Teams.{HasTeam, IsFirst, IsStart};
 ghost use Rattle.grow_workers.specs.Inner.Wins.{PartedGrowth, HasNumbers};
 
-use crate::alone::{Part, work_alone};
+use crate::member::{BURST, FIRST_BURST, Member, start};
 use assembly::Grid;
 use site_table::{SiteSeat, SiteTable};
 use std::alloc::Global;
 use std::thread::{self, Threads};
 use tile_io::Gate;
 use tile_system::{NoMemory, System};
+
+// Worker 0 and the others, in their order.
+#[derive(Drop)]
+pub(crate) struct Crew {
+    pub first: Member,
+    pub others: Vec<Member>,
+}
 
 // What workers leave: a seat, what it has seen, and how often worker 0 and the others have won.
 #[derive(Drop)]
@@ -24,8 +34,8 @@ pub(crate) struct Harvest {
     pub others: Vec<u32>,
 }
 
-// The workers from `next` on, of which `left` are left with worker 0.
-pub(crate) fn grow_from<R: Threads + Sync, G: Gate>(
+// The first burst of each worker from `next` on, of which `left` are left with worker 0.
+pub(crate) fn start_from<R: Threads + Sync, G: Gate>(
     rt: &R,
     alloc: Global,
     sys: &System,
@@ -36,7 +46,7 @@ pub(crate) fn grow_from<R: Threads + Sync, G: Gate>(
     left: u32,
     choice: u64,
     gate: &G,
-) -> Result<Harvest, NoMemory>
+) -> Result<Crew, NoMemory>
     requires some { 1 ≤ left }
     requires few { left ≤ 16 }
     requires next { next + left ≤ 17 }
@@ -45,28 +55,29 @@ pub(crate) fn grow_from<R: Threads + Sync, G: Gate>(
     requires system { table.now.sys ≡ sys.now }
     requires area { seen.area ≡ sys.now.area }
     requires seen { SamePlacements seat.scout.seen seen.tiles }
-    ensures grew { IfOk result (λ h.
-        PartedGrowth sys.now seat seen h.seat h.grid h.first h.others.items) }
-    ensures count { IfOk result (λ h. length h.others.items + 1 ≡ left) }
+    ensures team { IfOk result (λ crew. HasTeam sys.now seat seen crew.first crew.others.items) }
+    ensures first { IfOk result (λ crew. IsFirst sys.now crew.first) }
+    ensures count { IfOk result (λ crew. length crew.others.items + 1 ≡ left) }
 {
     if left == 1 {
-        return work_first(alloc, sys, table, seat, seen, choice, gate);
+        return start_first(alloc, sys, table, seat, seen, choice, gate);
     }
     let _owned = seat.owned();
     let copy = seen.copy()?;
     let (kept, given) = part_off(table, seat, &seen, left);
-    let (rest, part) = thread::join(
+    let (rest, member) = thread::join(
         rt,
-        move || -> Result<Harvest, NoMemory>
+        move || -> Result<Crew, NoMemory>
             requires { IsSync R.row × (1 ≤ left - 1) × (left - 1 ≤ 16)
                 × (next + 1 + (left - 1) ≤ 17) × HasNumbers (left - 1) kept.scout.owned
                 × IsSeatOf table.now kept × (table.now.sys ≡ sys.now)
                 × (seen.area ≡ sys.now.area) × SamePlacements kept.scout.seen seen.tiles }
-            ensures { IfOk result (λ h.
-                PartedGrowth sys.entry.now kept seen h.seat h.grid h.first h.others.items
-                × (length h.others.items + 1 ≡ left - 1)) }
+            ensures { IfOk result (λ crew.
+                HasTeam sys.entry.now kept seen crew.first crew.others.items
+                × IsFirst sys.entry.now crew.first
+                × (length crew.others.items + 1 ≡ left - 1)) }
         {
-            grow_from(
+            start_from(
                 rt,
                 alloc,
                 sys,
@@ -79,36 +90,27 @@ pub(crate) fn grow_from<R: Threads + Sync, G: Gate>(
                 gate,
             )
         },
-        move || -> Result<Part, NoMemory>
+        move || -> Result<Member, NoMemory>
             requires { IsSeatOf table.now given × (table.now.sys ≡ sys.now)
                 × (copy.area ≡ sys.now.area) × SamePlacements given.scout.seen copy.tiles }
-            ensures { IfOk result (λ part.
-                PartedGrowth sys.entry.now given copy part.seat part.grid part.won []) }
-        { work_alone(alloc, sys, table, given, copy, next, choice, gate) },
+            ensures { IfOk result (IsStart sys.entry.now given copy) }
+        {
+            start(
+                alloc,
+                sys,
+                table,
+                given,
+                copy,
+                next,
+                FIRST_BURST,
+                choice,
+                gate,
+            )
+        },
     );
-    let Harvest {
-        seat: kept,
-        grid,
-        first,
-        mut others,
-    } = rest?;
-    let Part {
-        seat: given,
-        grid: _,
-        won,
-    } = part?;
-    let _kept_owned = kept.owned();
-    let _given_owned = given.owned();
-    let _area = grid.area();
-    let seat = table.join(kept, given);
-    let _joined_owned = seat.owned();
-    others.insert(0, won)?;
-    Ok(Harvest {
-        seat,
-        grid,
-        first,
-        others,
-    })
+    let Crew { first, mut others } = rest?;
+    others.insert(0, member?)?;
+    Ok(Crew { first, others })
 }
 
 // The seat of all workers but one, and the seat of this one.
@@ -129,8 +131,8 @@ fn part_off(table: &SiteTable, seat: SiteSeat, seen: &Grid, left: u32) -> (SiteS
     table.split(seat)
 }
 
-// Worker 0.
-fn work_first<G: Gate>(
+// The first burst of worker 0.
+fn start_first<G: Gate>(
     alloc: Global,
     sys: &System,
     table: &SiteTable,
@@ -138,21 +140,78 @@ fn work_first<G: Gate>(
     seen: Grid,
     choice: u64,
     gate: &G,
-) -> Result<Harvest, NoMemory>
+) -> Result<Crew, NoMemory>
     requires seat { IsSeatOf table.now seat }
     requires system { table.now.sys ≡ sys.now }
     requires area { seen.area ≡ sys.now.area }
     requires seen { SamePlacements seat.scout.seen seen.tiles }
-    ensures grew { IfOk result (λ h.
-        PartedGrowth sys.now seat seen h.seat h.grid h.first h.others.items) }
-    ensures count { IfOk result (λ h. h.others.items ≡ []) }
+    ensures team { IfOk result (λ crew. HasTeam sys.now seat seen crew.first crew.others.items) }
+    ensures first { IfOk result (λ crew. IsFirst sys.now crew.first) }
+    ensures count { IfOk result (λ crew. crew.others.items ≡ []) }
 {
     let others = Vec::new(alloc);
-    let Part { seat, grid, won } = work_alone(alloc, sys, table, seat, seen, 0, choice, gate)?;
+    let first = start(alloc, sys, table, seat, seen, 0, BURST, choice, gate)?;
+    Ok(Crew { first, others })
+}
+
+// The seats of all workers, joined again.
+pub(crate) fn gather(
+    alloc: Global,
+    sys: &System,
+    table: &SiteTable,
+    first: Member,
+    others: Vec<Member>,
+) -> Result<Harvest, NoMemory>
+    requires system { table.now.sys ≡ sys.now }
+    requires first { IsSeatOf table.now first.scout.seat }
+    requires seats { All (λ m. IsSeatOf table.now m.scout.seat) others.items }
+    requires closed { IsClosedInBox sys.now first.scout.grid.tiles }
+    ensures seat { IfOk result (λ h. IsSeatOf table.now h.seat) }
+    ensures grew { IfOk result (λ h. (seat : SeatValue) (grid : TileGrid) →
+        IsSeatOf table.now seat → HasTeam sys.now seat grid first others.items →
+        PartedGrowth sys.now seat grid h.seat h.grid h.first h.others.items) }
+    ensures count { IfOk result (λ h. length h.others.items ≡ length others.items) }
+{
+    let mut others = others;
+    if others.as_slice().is_empty() {
+        return Ok(leave_first(alloc, first));
+    }
+    let member = others.remove(0);
+    let Harvest {
+        seat: kept,
+        grid,
+        first,
+        others: mut wins,
+    } = gather(alloc, sys, table, first, others)?;
+    wins.insert(0, member.scout.won())?;
+    let (given, _grid) = member.scout.end();
+    let _kept_owned = kept.owned();
+    let _given_owned = given.owned();
+    let _area = grid.area();
+    let seat = table.join(kept, given);
+    let _joined_owned = seat.owned();
     Ok(Harvest {
         seat,
         grid,
-        first: won,
-        others,
+        first,
+        others: wins,
     })
+}
+
+// What worker 0 leaves.
+fn leave_first(alloc: Global, first: Member) -> Harvest
+    ensures seat { result.seat ≡ first.scout.seat }
+    ensures grid { result.grid ≡ first.scout.grid }
+    ensures won { result.first ≡ first.scout.won }
+    ensures none { result.others.items ≡ [] }
+    ensures seen { SamePlacements result.seat.scout.seen result.grid.tiles }
+{
+    let won = first.scout.won();
+    let (seat, grid) = first.scout.end();
+    Harvest {
+        seat,
+        grid,
+        first: won,
+        others: Vec::new(alloc),
+    }
 }

@@ -32,6 +32,10 @@ pub const SIERPINSKI: &str =
 /// One type that binds on all sides.
 pub const FULL: &str = "tiles 1\ntau 1\nglue a 1\ntile T a a a a\nbox 0 0 63 63\nseed 0 0 T\nend\n";
 
+/// The same in a box that takes several rounds.
+pub const WIDE: &str =
+    "tiles 1\ntau 1\nglue a 1\ntile T a a a a\nbox 0 0 127 127\nseed 0 0 T\nend\n";
+
 /// A tile that two sides hold beside a third that mismatches.
 pub const MISMATCH: &str =
     "tiles 1\ntau 2\nglue a 2\nglue c 2\nglue p 2\nglue q 2\nglue u 1\nglue w 1\n\

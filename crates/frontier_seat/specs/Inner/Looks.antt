@@ -1,5 +1,5 @@
 -- One look at a site, and the claim there.
-use Rattle.std.specs.Prelude.{◌≡◌, ℕ, ◌+◌, ◌-◌, ◌*◌, ◌^◌, ◌≤◌, ◌<◌, ◌⊎◌, List, [], ◌∷◌, ◌++◌, length, Option, MatchOption}
+use Rattle.std.specs.Prelude.{◌≡◌, ℕ, ◌+◌, ◌-◌, ◌*◌, ◌^◌, ◌≤◌, ◌<◌, ◌⊎◌, List, [], ◌∷◌, ◌++◌, length, Bool, MatchBool, Option, MatchOption}
 use Rattle.atam.specs.declared.site.Site.{Site}
 use Rattle.atam.specs.declared.place.TypeId.{TypeId}
 use Rattle.atam.specs.declared.place.Place.{Place}
@@ -39,9 +39,30 @@ pub record ClaimsAt (sys : TileSystem) (site : Site) (old new : Growing) : Type 
 abbrev pub IsClosedBut : TileSystem → List Place → (ℕ → Type 0) → Type 0
 IsClosedBut sys tiles Listed = (n : ℕ) (t : TypeId) → n < cell_count sys.area → IsCandidate sys tiles (site_at sys.area n) t → Listed n
 
+-- the listed sites are empty, and each site of the box at which a type attaches is listed
+pub record ListsOpen (sys : TileSystem) (tiles : List Place) (numbers : Numbers) : Type 0 where
+  pub empty : AreEmptySites sys.area tiles numbers
+  pub all : IsClosedBut sys tiles (IsIn numbers)
+
+-- the same where the frontier was listed, and else no site is listed
+abbrev pub MayList : TileSystem → List Place → Bool → Numbers → Type 0
+MayList sys tiles listed numbers = MatchBool listed (ListsOpen sys tiles numbers) ((n : ℕ) → ¬ IsIn numbers n)
+
+-- what others placed is seen, and the listed sites follow
+pub record CatchesUp (sys : TileSystem) (old new : Growing) (numbers : Numbers) : Type 0 where
+  pub growing : IsGrowing sys new
+  pub goes : GrowsOn old new
+  pub more : length old.grid.tiles ≤ length new.grid.tiles
+  pub lists : ListsOpen sys new.grid.tiles numbers
+
 -- a type that attaches at the site; none exactly where none does
 abbrev pub IsOpenType : TileSystem → List Place → Site → Option TypeId → Type 0
 IsOpenType sys tiles m found = MatchOption found ((t : TypeId) → ¬ IsCandidate sys tiles m t) (IsCandidate sys tiles m)
+
+-- a type attaches at the site
+pub record HasCandidate (sys : TileSystem) (tiles : List Place) (m : Site) : Type 0 where
+  pub tile : TypeId
+  pub attaches : IsCandidate sys tiles m tile
 
 -- one look at a site that was listed: what may open is listed, and each new tile lists at most four sites
 pub record LooksAt (sys : TileSystem) (before after : Growing) (old new : Numbers) : Type 0 where

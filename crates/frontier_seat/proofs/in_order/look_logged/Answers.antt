@@ -1,9 +1,4 @@
 use Rattle.std.proofs.Common.{◌≡◌, ◌∙◌, Bool, MatchBool, inl, sym, subst}
-use Rattle.atam.specs.declared.area.BoxArea.{BoxArea}
-use Rattle.atam.specs.declared.place.TypeId.{TypeId}
-use Rattle.atam.specs.Placements.{tile_at}
-use Rattle.assembly.specs.Cells.{site_at}
-use Rattle.frontier_seat.specs.declared.growing.Growing.{Growing}
 use Rattle.frontier_seat.specs.Inner.Looks.{ClaimsAt}
 use Rattle.frontier_seat.proofs.Ordering.{claimed_stands, logs_claim, read_at}
 use Rattle.frontier_seat.proofs.in_order.look_logged.Goals as goal

@@ -1,0 +1,88 @@
+use Rattle.std.proofs.Common.{◌≡◌, ◌<◌, ◌∙◌, Bool, MatchBool, length, ap, subst, arith}
+use Rattle.atam.specs.declared.area.BoxArea.{BoxArea}
+use Rattle.assembly.specs.Cells.{cell_count}
+use Rattle.assembly.proofs.Cells.{cell_count-most}
+use Rattle.number_set.proofs.Counting.{count_below-removes}
+use Rattle.frontier_seat.specs.declared.growing.Growing.{Growing}
+use Rattle.frontier_seat.specs.Inner.Listings.{TakesSpot}
+use Rattle.frontier_seat.specs.Inner.Looks.{ClaimsAt}
+use Rattle.frontier_seat.proofs.Looked.{few_tiles, goes_further, goes_nowhere, less_work}
+use Rattle.frontier_seat.proofs.bursting.spend.Goals as goal
+
+pub loop-left-init : goal.loop-left-init
+loop-left-init g c = record {
+  growing = c.requires.growing;
+  goes = goes_nowhere c.args.growing.now;
+  picker = c.requires.picker;
+  area = λ _. c.args.work.now.area;
+  lists = c.requires.lists;
+  made = omega arith;
+  cost = omega arith;
+}
+
+pub overflow_cast-spot : goal.overflow_cast-spot
+overflow_cast-spot g c =
+    let within = subst (λ (a : BoxArea). c.in-Some.spot.number < cell_count a) (c.loop-left.invariant.area ∙ c.requires.area) c.in-Some.ensures.takes.spot.within in
+    let most = cell_count-most c.args.sys.now.area c.area-area.ensures.valid.box in
+    omega (arith, within, most)
+
+pub loop-left-smaller-then-look : goal.loop-left-smaller-then-look
+loop-left-smaller-then-look g c =
+    let sys = c.args.sys.now in
+    let n = cell_count sys.area in
+    let looks = c.look.ensures.looks in
+    let takes = subst (λ (a : BoxArea). TakesSpot a c.loop-left.work.numbers c.take.new.self.numbers c.in-Some.spot) (c.loop-left.invariant.area ∙ c.requires.area) c.in-Some.ensures.takes in
+    less_work n (length c.loop-left.growing.grid.tiles) (length c.look.new.growing.grid.tiles) _ _ _
+    (few_tiles sys c.look.new.growing looks.growing)
+    (count_below-removes c.loop-left.work.numbers c.take.new.self.numbers c.in-Some.spot.number n takes.removed takes.listed takes.spot.within)
+    (looks.work n)
+
+pub loop-left-smaller : goal.loop-left-smaller
+loop-left-smaller g c =
+    let sys = c.args.sys.now in
+    let n = cell_count sys.area in
+    let looks = c.look.ensures.looks in
+    let takes = subst (λ (a : BoxArea). TakesSpot a c.loop-left.work.numbers c.take.new.self.numbers c.in-Some.spot) (c.loop-left.invariant.area ∙ c.requires.area) c.in-Some.ensures.takes in
+    less_work n (length c.loop-left.growing.grid.tiles) (length c.look.new.growing.grid.tiles) _ _ _
+    (few_tiles sys c.look.new.growing looks.growing)
+    (count_below-removes c.loop-left.work.numbers c.take.new.self.numbers c.in-Some.spot.number n takes.removed takes.listed takes.spot.within)
+    (looks.work n)
+
+pub loop-left-preserved-then-look : goal.loop-left-preserved-then-look
+loop-left-preserved-then-look g c =
+    let inv = c.loop-left.invariant in
+    let looks = c.look.ensures.looks in
+    let cost = c.look.ensures.cost in
+    let before = inv.cost in
+    let made = inv.made in
+    let some = c.loop-left-test.true in
+    let claim = subst (λ (b : Bool). MatchBool b (ClaimsAt c.args.sys.now c.in-Some.spot.site c.loop-left.growing c.look.new.growing) (c.look.new.growing ≡ c.loop-left.growing)) c.if-look.true c.look.ensures.claims in
+    let count = claim.count in
+    record {
+      growing = looks.growing;
+      goes = goes_further c.args.growing.now c.loop-left.growing c.look.new.growing inv.goes looks.goes;
+      picker = c.look.ensures.picker;
+      area = c.look.ensures.area ∙ (c.take.ensures.area ∙ inv.area);
+      lists = record { empty = looks.listed; all = looks.closed };
+      made = omega (arith, made, count, some);
+      cost = omega (arith, cost, before);
+    }
+
+pub loop-left-preserved : goal.loop-left-preserved
+loop-left-preserved g c =
+    let inv = c.loop-left.invariant in
+    let looks = c.look.ensures.looks in
+    let cost = c.look.ensures.cost in
+    let before = inv.cost in
+    let made = inv.made in
+    let same : c.look.new.growing ≡ c.loop-left.growing = subst (λ (b : Bool). MatchBool b (ClaimsAt c.args.sys.now c.in-Some.spot.site c.loop-left.growing c.look.new.growing) (c.look.new.growing ≡ c.loop-left.growing)) c.if-look.false c.look.ensures.claims in
+    let count = ap (λ (h : Growing). length h.grid.tiles) same in
+    record {
+      growing = looks.growing;
+      goes = goes_further c.args.growing.now c.loop-left.growing c.look.new.growing inv.goes looks.goes;
+      picker = c.look.ensures.picker;
+      area = c.look.ensures.area ∙ (c.take.ensures.area ∙ inv.area);
+      lists = record { empty = looks.listed; all = looks.closed };
+      made = omega (arith, made, count);
+      cost = omega (arith, cost, before);
+    }

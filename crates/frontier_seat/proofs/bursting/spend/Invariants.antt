@@ -1,0 +1,23 @@
+use Rattle.std.proofs.Common.{◌≡◌, ◌+◌, ◌-◌, ◌*◌, length}
+use Rattle.assembly.specs.Cells.{cell_count}
+use Rattle.number_set.specs.Numbers.{count_below}
+use Rattle.frontier_seat.specs.Growths.{IsGrowing, GrowsOn}
+use Rattle.frontier_seat.specs.Inner.Looks.{ListsOpen}
+use Rattle.frontier_seat.specs.Inner.Pickers.{IsPickerOf}
+use Rattle.frontier_seat.proofs.bursting.spend.Given as goal
+
+-- what may be open is listed, and each claim that was made added a tile
+abbrev pub invariant-loop-left : goal.invariant-loop-left
+invariant-loop-left g l = record {
+  growing : IsGrowing l.sys l.growing;
+  goes : GrowsOn l.fn.growing l.growing;
+  picker : IsPickerOf l.sys l.picker;
+  area : l.work.area ≡ l.fn.work.area;
+  lists : ListsOpen l.sys l.growing.grid.tiles l.work.numbers;
+  made : length l.growing.grid.tiles + l.left ≡ length l.fn.growing.grid.tiles + l.most;
+  cost : l.steps + length l.fn.growing.grid.tiles ≡ l.fn.steps + length l.growing.grid.tiles;
+}
+
+-- the sites that are listed, and four for each tile that may come
+abbrev pub decreases-loop-left : goal.decreases-loop-left
+decreases-loop-left g l = 4 * (cell_count l.sys.area - length l.growing.grid.tiles) + count_below l.work.numbers (cell_count l.sys.area)

@@ -1,0 +1,46 @@
+use Rattle.std.proofs.Common.{Bool, MatchBool, arith, sym, subst}
+use Rattle.atam.specs.Growth.{IsClosedInBox}
+use Rattle.frontier_seat.specs.declared.bursting.Burst.{Burst}
+use Rattle.frontier_seat.specs.declared.growing.Growing.{Growing}
+use Rattle.frontier_seat.specs.Growths.{EndsBurst, GrowsOn}
+use Rattle.site_table.specs.Rule.{IsPossible}
+use Rattle.site_table.proofs.Closing.{finally}
+use Rattle.frontier_seat.proofs.Looked.{few_tiles, closed_seen, ended_open}
+use Rattle.frontier_seat.proofs.scout.Scout.burst.Goals as goal
+use Rattle.frontier_seat.proofs.scout.Scout.burst.Goals.{then-open, else-open}
+
+pub returns-clause-last : goal.returns-clause-last
+returns-clause-last g c closed =
+    let sys = c.args.sys.now in
+    let new = c.spend.new.growing in
+    let growing = c.spend.ensures.growing in
+    let real : IsPossible sys new.seat.scout = subst (λ z. IsPossible z new.seat.scout) growing.system c.owned-owned.ensures.possible in
+    finally sys new.seat.scout real.valid (closed_seen sys new growing real.scout.distinct closed)
+
+pub returns-clause-fewer : goal.returns-clause-fewer
+returns-clause-fewer g c =
+    let few = few_tiles c.args.sys.now c.spend.new.growing c.spend.ensures.growing in
+    let some = c.self.invariant.0.some_tile in
+    let cost = c.spend.ensures.cost in
+    omega (arith, few, some, cost)
+
+pub returns-clause-goes : goal.returns-clause-goes
+returns-clause-goes g c = subst (λ (h : Growing). GrowsOn h c.spend.new.growing) c.self.view_is c.spend.ensures.goes
+
+pub returns-clause-ends : goal.returns-clause-ends
+returns-clause-ends g c =
+    let sys = c.args.sys.now in
+    let new = c.spend.new.growing in
+    let before : Growing → Burst → Type 0 = λ h b. EndsBurst sys h new c.args.most b in
+    let closed = IsClosedInBox sys new.grid.tiles in
+    subst (λ (h : Growing). before h c.if-open.result) c.self.view_is
+    (elim c.if-open.branch [
+      | then-open w ↦ subst (before c.self.inside.growing) (sym w.result-is)
+          (ended_open sys c.self.inside.growing new c.args.most c.spend.new.work.numbers c.spend.ensures.lists c.spend.ensures.done
+          (subst (λ (b : Bool). MatchBool b (¬ closed) closed) w.if-open.true c.is_open-open.ensures.open))
+      | else-open w ↦ subst (before c.self.inside.growing) (sym w.result-is)
+          (subst (λ (b : Bool). MatchBool b (¬ closed) closed) w.if-open.false c.is_open-open.ensures.open)
+    ])
+
+pub returns-clause-room : goal.returns-clause-room
+returns-clause-room g c = few_tiles c.args.sys.now c.spend.new.growing c.spend.ensures.growing

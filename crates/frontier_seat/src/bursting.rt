@@ -1,0 +1,138 @@
+// Claims up to a bound, and whether a type attaches still.
+ghost use Rattle.std.specs.Prelude.{◌≡◌, ◌⊎◌, ◌≤◌, ◌+◌, ℕ, length, None, MatchBool};
+ghost use Rattle.atam.specs.TileSystem.{IsValid};
+ghost use Rattle.atam.specs.declared.place.TypeId.{TypeId};
+ghost use Rattle.atam.specs.Placements.{tile_at};
+ghost use Rattle.atam.specs.Growth.{IsCandidate, IsClosedInBox};
+ghost use Rattle.site_table.specs.Seats.{IsSeatOf};
+ghost use Rattle.number_set.specs.Numbers.{IsIn};
+ghost use Rattle.frontier_seat.specs.Growths.{IsGrowing, GrowsOn};
+ghost use Rattle.frontier_seat.specs.Inner.Listings.{IsSpot};
+ghost use Rattle.frontier_seat.specs.Inner.Looks.{HasCandidate, ListsOpen};
+ghost use Rattle.frontier_seat.specs.Inner.Pickers.{IsPickerOf};
+
+use crate::picking::Picker;
+use crate::scout::look;
+use crate::work_list::{Spot, WorkList};
+use crate::{Chooser, Growing};
+use site_table::SiteTable;
+use std::sync::ledger::Ledger;
+use tile_io::Steps;
+use tile_system::System;
+
+/// How a burst ended.
+#[derive(Clone, Copy, Debug, PartialEq, Eq)]
+pub enum Burst {
+    /// No type attaches in the box to what was seen.
+    Quiet,
+    /// One attaches, and all claims that were allowed are made.
+    Spent,
+}
+
+// Notes a site if it was won, where there is room left.
+#[inline(always)]
+fn note(wins: &mut Vec<u32>, is_won: bool, number: u32) {
+    if is_won && wins.len() < wins.capacity() {
+        wins.push_reserved(number);
+    }
+}
+
+// Looks at the sites that are listed, and at those beside each tile that comes, until so many
+// claims are made or no site is left. Sites that are won are noted.
+pub(crate) fn spend<C: Chooser, L: Ledger>(
+    sys: &System,
+    table: &SiteTable,
+    growing: &mut Growing,
+    chooser: &mut C,
+    picker: &mut Picker,
+    work: &mut WorkList,
+    most: u32,
+    wins: &mut Vec<u32>,
+    steps: &mut Steps<L>,
+)
+    requires seat { IsSeatOf table.now growing.old.seat }
+    requires system { table.now.sys ≡ sys.now }
+    requires growing { IsGrowing sys.now growing.old }
+    requires picker { IsPickerOf sys.now picker.old }
+    requires area { work.old.area ≡ sys.now.area }
+    requires lists { ListsOpen sys.now growing.old.grid.tiles work.old.numbers }
+    ensures valid { IsValid sys.now }
+    ensures growing { IsGrowing sys.now growing.new }
+    ensures goes { GrowsOn growing.old growing.new }
+    ensures picker { IsPickerOf sys.now picker.new }
+    ensures area { work.new.area ≡ work.old.area }
+    ensures lists { ListsOpen sys.now growing.new.grid.tiles work.new.numbers }
+    ensures done { ((n : ℕ) → ¬ IsIn work.new.numbers n)
+        ⊎ (length growing.new.grid.tiles ≡ length growing.old.grid.tiles + most) }
+    ensures most { length growing.new.grid.tiles ≤ length growing.old.grid.tiles + most }
+    ensures cost { steps.new + length growing.old.grid.tiles
+        ≡ steps.old + length growing.new.grid.tiles }
+{
+    let _area = sys.area();
+    let count = work.count();
+    let mut left = most;
+    while left > 0 {
+        let Some(spot) = work.take(chooser.start(count)) else {
+            return;
+        };
+        let won = growing.won;
+        if look(sys, table, growing, chooser, picker, spot, work, steps) {
+            left -= 1;
+            note(wins, growing.won > won, spot.number as u32);
+        }
+    }
+}
+
+// Whether a type attaches at a listed site. Sites at which none does are listed no longer.
+pub(crate) fn is_open<C: Chooser>(
+    sys: &System,
+    growing: &Growing,
+    chooser: &mut C,
+    picker: &mut Picker,
+    work: &mut WorkList,
+) -> bool
+    requires growing { IsGrowing sys.now growing.now }
+    requires picker { IsPickerOf sys.now picker.old }
+    requires area { work.old.area ≡ sys.now.area }
+    requires lists { ListsOpen sys.now growing.now.grid.tiles work.old.numbers }
+    ensures picker { IsPickerOf sys.now picker.new }
+    ensures area { work.new.area ≡ work.old.area }
+    ensures lists { ListsOpen sys.now growing.now.grid.tiles work.new.numbers }
+    ensures open { MatchBool result (¬ IsClosedInBox sys.now growing.now.grid.tiles)
+        (IsClosedInBox sys.now growing.now.grid.tiles) }
+{
+    let _area = sys.area();
+    let count = work.count();
+    while let Some(spot) = work.take(chooser.start(count)) {
+        if attaches(sys, growing, chooser, picker, spot) {
+            work.put_back(spot);
+            return true;
+        }
+    }
+    false
+}
+
+// Whether a type attaches at an empty site.
+fn attaches<C: Chooser>(
+    sys: &System,
+    growing: &Growing,
+    chooser: &mut C,
+    picker: &mut Picker,
+    spot: Spot,
+) -> bool
+    requires growing { IsGrowing sys.now growing.now }
+    requires picker { IsPickerOf sys.now picker.old }
+    requires spot { IsSpot sys.now.area spot }
+    requires empty { tile_at growing.now.grid.tiles spot.site ≡ None }
+    ensures picker { IsPickerOf sys.now picker.new }
+    ensures open { MatchBool result (HasCandidate sys.now growing.now.grid.tiles spot.site)
+        ((t : TypeId) → ¬ IsCandidate sys.now growing.now.grid.tiles spot.site t) }
+{
+    let _area = sys.area();
+    let beside = growing.grid.beside_at(spot.site, spot.number);
+    let found = picker.pick(sys, &growing.grid, spot.site, &beside, chooser);
+    if let Some(_tile) = found {
+        return true;
+    }
+    false
+}
