@@ -1,5 +1,5 @@
 -- Workers that stay through the rounds.
-use Rattle.std.proofs.Common.{◌≡◌, ◌==◌, ◌<◌, ◌≤◌, ◌+◌, ◌-◌, ◌∙◌, if◌then◌else◌, Result, Ok, Err, IfOk, ℕ, zero, suc, List, [], ◌∷◌, All, length, remove, slice_index_or, Bool, true, false, true≢false, ne_eqb, refl, sym, ap, subst, arith}
+use Rattle.std.proofs.Common.{◌≡◌, ◌==◌, ◌<◌, ◌≤◌, ◌+◌, ◌-◌, ◌∙◌, if◌then◌else◌, Result, Ok, Err, IfOk, ℕ, suc, List, [], ◌∷◌, All, length, remove, slice_index_or, Bool, true, false, true≢false, ne_eqb, refl, sym, subst, arith}
 use Rattle.std.proofs.lemmas.List.Elements.{All-nil, All-cons, All-head, All-tail}
 use Rattle.atam.specs.TileSystem.{TileSystem}
 use Rattle.atam.specs.Placements.{SamePlacements}
@@ -12,7 +12,7 @@ use Rattle.tile_system.specs.declared.memory.NoMemory.{NoMemory}
 use Rattle.grow_workers.specs.declared.member.Member.{Member}
 use Rattle.grow_workers.specs.declared.parts.Crew.{Crew}
 use Rattle.grow_workers.specs.declared.parts.Harvest.{Harvest}
-use Rattle.grow_workers.specs.Inner.Teams.{AllTurn, HasTeam, IsFirst, IsLed, IsOver, IsParted, IsStart, Turns, TurnsOn, first_seen, is_quiet}
+use Rattle.grow_workers.specs.Inner.Teams.{AllTurn, HasTeam, IsLed, IsOver, IsStart, Turns, TurnsOn, first_seen, is_quiet}
 use Rattle.grow_workers.specs.Inner.Wins.{PartedGrowth}
 use Rattle.grow_workers.proofs.Winning.{alone_grew}
 

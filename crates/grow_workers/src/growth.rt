@@ -14,12 +14,14 @@ use tile_io::Gate;
 use tile_system::{NoMemory, System};
 
 /// Grows with so many workers, from what the seat has seen, each in a thread of its own but worker
-/// 0. The list has what each worker has won. Where several types attach, worker w chooses by PCG's
-/// generator of state `choice` and stream w. With the choice 0 it claims the least site of those at
-/// which it has to look; with any other the generator says where in the box it looks for the next
-/// one, so that each of them may come first. It calls the gate once before its first claim. No
-/// clause says more of either. Where memory is wanting the seats are dropped, and the table stays
-/// usable.
+/// 0. The list has what each worker has won. They grow in rounds: each makes a burst of at most 4096
+/// claims, of several workers at its part of the frontier first, and then looks at what the others
+/// have won; worker 0 goes on alone for some rounds where the others win little. Where several types
+/// attach, worker w chooses by PCG's generator of state `choice` and stream w. With the choice 0 one
+/// worker claims the least site of those at which it has to look, and several go along the
+/// frontier; with any other the generator says where in the box the next one is looked for, so that
+/// each of them may come first. A worker calls the gate once, before its first claim. No clause says
+/// more of either. Where memory is wanting the seats are dropped, and the table stays usable.
 pub fn grow_on<R: Threads + Sync, G: Gate>(
     rt: &R,
     alloc: Global,

@@ -1,5 +1,5 @@
 -- Workers that stay through the rounds.
-use Rattle.std.specs.Prelude.{◌≡◌, ℕ, ◌+◌, ◌-◌, ◌^◌, ◌≤◌, List, [], ◌∷◌, length, Bool, true, false}
+use Rattle.std.specs.Prelude.{◌≡◌, ℕ, ◌+◌, ◌≤◌, List, [], ◌∷◌, length, Bool, true, false}
 use Rattle.atam.specs.TileSystem.{TileSystem}
 use Rattle.atam.specs.Growth.{IsClosedInBox}
 use Rattle.assembly.specs.Cells.{cell_count}

@@ -1,7 +1,6 @@
-use Rattle.std.proofs.Common.{◌≡◌, ◌==◌, ◌<◌, ◌∷◌, ◌∙◌, ℕ, [], List, All, if◌then◌else◌, length, ap, subst, sym, arith}
+use Rattle.std.proofs.Common.{◌≡◌, ◌==◌, ◌∷◌, ◌∙◌, ℕ, [], List, All, if◌then◌else◌, length, ap, subst, sym, arith}
 use Rattle.std.proofs.lemmas.List.Elements.{All-head, All-tail}
 use Rattle.std.specs.Result.{is_ok}
-use Rattle.assembly.specs.Grids.{TileGrid}
 use Rattle.site_table.specs.Seats.{SeatValue, GoesOn, IsSeatOf}
 use Rattle.site_table.specs.Rule.{IsPossible}
 use Rattle.grow_core.specs.Core.{least}

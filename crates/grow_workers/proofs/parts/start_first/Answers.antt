@@ -1,4 +1,4 @@
-use Rattle.std.proofs.Common.{[], List, sym, subst}
+use Rattle.std.proofs.Common.{List, sym, subst}
 use Rattle.grow_workers.specs.declared.member.Member.{Member}
 use Rattle.grow_workers.specs.Inner.Teams.{HasTeam}
 use Rattle.grow_workers.proofs.parts.start_first.Goals as goal

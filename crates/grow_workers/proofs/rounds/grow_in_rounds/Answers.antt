@@ -1,7 +1,7 @@
 use Rattle.std.proofs.Common.{◌≡◌, ◌∙◌, false, sym, ap}
 use Rattle.assembly.specs.Cells.{cell_count}
 use Rattle.grow_workers.specs.Inner.Teams.{first_seen, is_quiet}
-use Rattle.grow_workers.proofs.Teaming.{all_more, all_none, all_turned, is_over, led_more, rounds_fall, seats_more, sees_more}
+use Rattle.grow_workers.proofs.Teaming.{all_more, all_none, all_turned, led_more, rounds_fall, seats_more, sees_more}
 use Rattle.grow_workers.proofs.rounds.grow_in_rounds.Goals as goal
 
 pub loop-pace-init : goal.loop-pace-init

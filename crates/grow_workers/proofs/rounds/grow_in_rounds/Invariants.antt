@@ -1,4 +1,4 @@
-use Rattle.std.proofs.Common.{◌≡◌, ◌≤◌, ◌-◌, ◌+◌, All, Bool, true, false, if◌then◌else◌}
+use Rattle.std.proofs.Common.{◌≡◌, ◌-◌, ◌+◌, All, if◌then◌else◌}
 use Rattle.assembly.specs.Cells.{cell_count}
 use Rattle.site_table.specs.Seats.{IsSeatOf}
 use Rattle.grow_workers.specs.Inner.Teams.{AllTurn, IsLed, first_seen, is_quiet}
