@@ -12,8 +12,8 @@ use crate::line_reader::LineReader;
 use crate::mark::Mark;
 use crate::stretch::{Stretch, read_lines};
 
-// The fewest bytes for which a stretch is read.
-const LEAST_STRETCH: usize = 65_536;
+// The fewest bytes that a stretch has behind which others follow.
+const LEAST_STRETCH: usize = 524_288;
 
 /// Reads the lines of a text, up to its own end line or the end of the input.
 pub fn read_text<R: LineReader>(reader: &mut R, text: &[u8], from: Mark) -> Result<Mark, TextStop>

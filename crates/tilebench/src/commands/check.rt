@@ -127,7 +127,8 @@ fn legality_of(alloc: Global, sys: &System, sequence: &Sequence) -> Result<Legal
     requires fits { Fits sys.now sequence.now }
     requires short { length sequence.now < 2 ^ 32 }
     ensures answer { IfOk result (IsLegalityAnswer sys.now sequence.now) }
-    ensures legal { IfOk result (λ legality. (legality ≡ Legality.Legal) ↔ IsLegal sys.now sequence.now) }
+    ensures legal { IfOk result (λ legality.
+        (legality ≡ Legality.Legal) ↔ IsLegal sys.now sequence.now) }
 {
     let mut scratch = Grid::make(alloc, sys.area())?;
     Ok(check_legal(sys, sequence, &mut scratch))

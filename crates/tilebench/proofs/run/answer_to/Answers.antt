@@ -1,6 +1,4 @@
-use Rattle.std.proofs.Common.{List, ℕ, subst}
 use Rattle.tilebench.specs.Growing.{TellsNoGrowth}
-use Rattle.tilebench.specs.Inner.Gives.{GivesGrowth}
 use Rattle.tilebench.proofs.Sources.{from_source}
 use Rattle.tilebench.proofs.run.answer_to.Goals as goal
 
