@@ -23,14 +23,12 @@ pub(crate) const BURST: u32 = 4096;
 // sites.
 pub(crate) const FIRST_BURST: u32 = 512;
 
-// A worker that stays through the rounds. How many of the sites that others have won it has looked
-// at, and whether its last burst ended with a closed box.
+// A worker that stays through the rounds, and whether its last burst ended with a closed box.
 #[derive(Drop)]
 pub(crate) struct Member {
     pub scout: Scout,
     pub picks: Picks,
     pub worker: u32,
-    pub known: usize,
     pub is_quiet: bool,
 }
 
@@ -115,29 +113,20 @@ pub(crate) fn start<G: Gate>(
         scout,
         picks: Picks::make(choice, worker),
         worker,
-        known: 0,
         is_quiet: false,
     };
     burst(sys, table, &mut member, 1, most);
     Ok(member)
 }
 
-// A later burst, once it was looked at the sites that others have won.
-pub(crate) fn play(
-    sys: &System,
-    table: &SiteTable,
-    member: &mut Member,
-    history: &[u32],
-    round: Round,
-)
+// A later burst, once it was looked at the sites that were won in the round before.
+pub(crate) fn play(sys: &System, table: &SiteTable, member: &mut Member, won: &[u32], round: Round)
     requires seat { IsSeatOf table.now member.old.scout.seat }
     requires system { table.now.sys ≡ sys.now }
     requires some { 0 < round.workers }
     ensures { Plays sys.now 4096 member.old member.new }
 {
-    let known = member.known.min(history.len());
-    member.scout.catch_up(sys, table, &history[known..]);
-    member.known = if round.is_alone { history.len() } else { 0 };
+    member.scout.catch_up(sys, table, won);
     let of = if round.is_alone { 1 } else { round.workers };
     burst(sys, table, member, of, BURST);
 }

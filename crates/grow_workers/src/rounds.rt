@@ -10,55 +10,17 @@ use std::alloc::Global;
 use std::thread::{self, Threads};
 use tile_system::{NoMemory, System};
 
-// Where the others win less than this part of what they may claim, worker 0 goes on alone.
-const WORTH: u32 = 8;
-
-// The most rounds in which worker 0 goes on alone before the others are tried again.
-const MOST_PATIENCE: u32 = 64;
-
-// For how many rounds worker 0 goes on alone still, and for how many the next time.
-#[derive(Drop)]
-struct Pace {
-    left: u32,
-    patience: u32,
-}
-
-impl Pace {
-    fn start() -> Pace {
-        Pace {
-            left: 0,
-            patience: 1,
-        }
-    }
-
-    // What the next round is, after one that won so many sites.
-    fn next(&mut self, last: Round, won: usize) -> Round
-        requires { last.workers ≤ 16 }
-        ensures { result.workers ≡ last.workers }
-    {
-        if !last.is_alone {
-            self.judge(last.workers, won);
-        }
-        let is_alone = last.workers == 1 || self.left > 0;
-        self.left = self.left.saturating_sub(1);
-        Round {
-            is_alone,
-            workers: last.workers,
-        }
-    }
-
-    fn judge(&mut self, workers: u32, won: usize)
-        requires { workers ≤ 16 }
-    {
-        let wanted = BURST + workers.saturating_sub(1) * (BURST / WORTH);
-        if won >= wanted as usize {
-            self.patience = 1;
-            return;
-        }
-        self.left = self.patience;
-        if self.patience < MOST_PATIENCE {
-            self.patience *= 2;
-        }
+// What the next round is, after one that won so many sites. Where a claim was lost, worker 0 goes on
+// alone to the end: to look at a site that another has won takes a worker about as long as to claim
+// it, and each round starts a thread for each other worker besides.
+fn next_round(last: Round, won: usize) -> Round
+    requires { last.workers ≤ 16 }
+    ensures { result.workers ≡ last.workers }
+{
+    let claims = last.workers * BURST;
+    Round {
+        is_alone: won < claims as usize,
+        workers: last.workers,
     }
 }
 
@@ -73,7 +35,7 @@ fn is_over(team: &[Member]) -> bool
 }
 
 // One worker's part of a round.
-fn take_turn(sys: &System, table: &SiteTable, member: &mut Member, history: &[u32], round: Round)
+fn take_turn(sys: &System, table: &SiteTable, member: &mut Member, won: &[u32], round: Round)
     requires seat { IsSeatOf table.now member.old.scout.seat }
     requires system { table.now.sys ≡ sys.now }
     requires some { 0 < round.workers }
@@ -82,7 +44,7 @@ fn take_turn(sys: &System, table: &SiteTable, member: &mut Member, history: &[u3
     if round.is_alone && member.worker > 0 {
         return;
     }
-    play(sys, table, member, history, round);
+    play(sys, table, member, won, round);
 }
 
 // One round, of each worker in a thread of its own, or of worker 0 alone.
@@ -91,7 +53,7 @@ fn play_round<R: Threads + Sync>(
     sys: &System,
     table: &SiteTable,
     team: &mut Vec<Member>,
-    history: &[u32],
+    won: &[u32],
     round: Round,
 )
     requires seats { All (λ m. IsSeatOf table.now m.scout.seat) team.old.items }
@@ -110,17 +72,15 @@ fn play_round<R: Threads + Sync>(
         rt,
         team.as_mut_slice(),
         threads,
-        &|_index, member| take_turn(sys, table, member, history, round),
+        &|_index, member| take_turn(sys, table, member, won, round),
     );
 }
 
-// Adds what was won in the last round.
-fn add_wins(team: &[Member], round: Round, history: &mut Vec<u32>) -> Result<(), NoMemory> {
+// Lists what was won in the last bursts.
+fn list_wins(team: &[Member], wins: &mut Vec<u32>) -> Result<(), NoMemory> {
+    wins.clear();
     for member in team {
-        if round.is_alone && member.worker > 0 {
-            continue;
-        }
-        history.extend_from_slice(member.scout.wins())?;
+        wins.extend_from_slice(member.scout.wins())?;
     }
     Ok(())
 }
@@ -143,18 +103,18 @@ pub(crate) fn grow_in_rounds<R: Threads + Sync>(
     ensures turns { OnOk result (AllTurn sys.now team.old.items team.new.items) }
     ensures over { OnOk result (IsOver sys.now team.new.items) }
 {
-    let mut history = Vec::new(alloc);
-    let mut pace = Pace::start();
+    let mut won = Vec::new(alloc);
     let mut round = Round {
-        is_alone: false,
+        is_alone: workers == 1,
         workers,
     };
+    list_wins(team.as_slice(), &mut won)?;
     while !is_over(team.as_slice()) {
-        add_wins(team.as_slice(), round, &mut history)?;
-        round = pace.next(round, history.len());
-        play_round(rt, sys, table, team, history.as_slice(), round);
+        play_round(rt, sys, table, team, won.as_slice(), round);
+        won.clear();
         if !round.is_alone {
-            history.clear();
+            list_wins(team.as_slice(), &mut won)?;
+            round = next_round(round, won.len());
         }
     }
     Ok(())

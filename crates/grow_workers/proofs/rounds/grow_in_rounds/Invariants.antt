@@ -5,8 +5,8 @@ use Rattle.grow_workers.specs.Inner.Teams.{AllTurn, IsLed, first_seen, is_quiet}
 use Rattle.grow_workers.proofs.rounds.grow_in_rounds.Given as goal
 
 -- the seats are the table's, and worker 0 comes first
-abbrev pub invariant-loop-pace : goal.invariant-loop-pace
-invariant-loop-pace g l = record {
+abbrev pub invariant-loop-round : goal.invariant-loop-round
+invariant-loop-round g l = record {
   turns : AllTurn l.sys l.fn.team.items l.team.items;
   seats : All (λ m. IsSeatOf l.table m.scout.seat) l.team.items;
   led : IsLed l.sys l.team.items;
@@ -14,5 +14,5 @@ invariant-loop-pace g l = record {
 }
 
 -- the sites that worker 0 may see still, and one round more
-abbrev pub decreases-loop-pace : goal.decreases-loop-pace
-decreases-loop-pace g l = if is_quiet l.team.items then 0 else cell_count l.sys.area - first_seen l.team.items + 1
+abbrev pub decreases-loop-round : goal.decreases-loop-round
+decreases-loop-round g l = if is_quiet l.team.items then 0 else cell_count l.sys.area - first_seen l.team.items + 1
