@@ -13,6 +13,9 @@ use tile_system::{NoMemory, System};
 // Where the others win less than this part of what they may claim, worker 0 goes on alone.
 const WORTH: u32 = 8;
 
+// For how many rounds worker 0 goes on alone the first time.
+const FIRST_PATIENCE: u32 = 4;
+
 // The most rounds in which worker 0 goes on alone before the others are tried again.
 const MOST_PATIENCE: u32 = 64;
 
@@ -27,7 +30,7 @@ impl Pace {
     fn start() -> Pace {
         Pace {
             left: 0,
-            patience: 1,
+            patience: FIRST_PATIENCE,
         }
     }
 
@@ -52,7 +55,7 @@ impl Pace {
     {
         let wanted = BURST + workers.saturating_sub(1) * (BURST / WORTH);
         if won >= wanted as usize {
-            self.patience = 1;
+            self.patience = FIRST_PATIENCE;
             return;
         }
         self.left = self.patience;
