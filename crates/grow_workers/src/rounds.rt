@@ -4,23 +4,21 @@ ghost use Rattle.grow_workers.specs.declared.member.Member.{Member};
 ghost use Rattle.site_table.specs.Seats.{IsSeatOf};
 ghost use Rattle.grow_workers.specs.Inner.Teams.{AllTurn, IsLed, IsOver, is_quiet, TurnsOn};
 
-use crate::member::{BURST, Member, Round, play};
+use crate::member::{BURST, FIRST_BURST, Member, Round, play};
 use site_table::SiteTable;
 use std::alloc::Global;
 use std::thread::{self, Threads};
 use tile_system::{NoMemory, System};
 
-// What the next round is, after one that won so many sites. Where a claim was lost, worker 0 goes on
-// alone to the end: to look at a site that another has won takes a worker about as long as to claim
-// it, and each round starts a thread for each other worker besides.
-fn next_round(last: Round, won: usize) -> Round
-    requires { last.workers ≤ 16 }
-    ensures { result.workers ≡ last.workers }
+// What the next round is, after one of so many claims at most, which won so many sites. Where a claim
+// was lost, worker 0 goes on alone to the end: to look at a site that another has won takes a worker
+// about as long as to claim it, and each round starts a thread for each other worker besides.
+fn next_round(workers: u32, claims: u32, won: usize) -> Round
+    ensures { result.workers ≡ workers }
 {
-    let claims = last.workers * BURST;
     Round {
-        is_alone: won < claims as usize,
-        workers: last.workers,
+        is_alone: workers == 1 || won < claims as usize,
+        workers,
     }
 }
 
@@ -104,17 +102,15 @@ pub(crate) fn grow_in_rounds<R: Threads + Sync>(
     ensures over { OnOk result (IsOver sys.now team.new.items) }
 {
     let mut won = Vec::new(alloc);
-    let mut round = Round {
-        is_alone: workers == 1,
-        workers,
-    };
     list_wins(team.as_slice(), &mut won)?;
+    let first_claims = BURST + (workers - 1) * FIRST_BURST;
+    let mut round = next_round(workers, first_claims, won.len());
     while !is_over(team.as_slice()) {
         play_round(rt, sys, table, team, won.as_slice(), round);
         won.clear();
         if !round.is_alone {
             list_wins(team.as_slice(), &mut won)?;
-            round = next_round(round, won.len());
+            round = next_round(workers, workers * BURST, won.len());
         }
     }
     Ok(())

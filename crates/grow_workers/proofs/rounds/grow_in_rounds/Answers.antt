@@ -9,7 +9,7 @@ loop-round-init g c = record {
   turns = all_none c.args.sys.now c.args.team.now.items;
   seats = c.requires.seats;
   led = c.requires.led;
-  workers = λ _. c.args.workers;
+  workers = c.next_round-round.ensures;
 }
 
 pub loop-round-smaller-then-not-round : goal.loop-round-smaller-then-not-round
@@ -39,7 +39,7 @@ loop-round-preserved-then-not-round g c =
       turns = all_more sys c.args.team.now.items old new inv.turns turned;
       seats = seats_more c.args.table.now sys old new turned inv.seats;
       led = led_more sys old new turned inv.led;
-      workers = c.next_round-round.ensures ∙ inv.workers;
+      workers = c.next_round-round-then-not-round.ensures;
     }
 
 pub loop-round-preserved : goal.loop-round-preserved
