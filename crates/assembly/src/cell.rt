@@ -13,8 +13,8 @@ pub fn site_index(area: &BoxArea, site: Site) -> usize
     ensures site { site_at area.now result ≡ site }
     ensures within { result < cell_count area.now }
 {
-    let column = (site.x - area.x0) as usize;
-    let row = (site.y - area.y0) as usize;
+    let column = (site.x - area.x0) as u32 as usize;
+    let row = (site.y - area.y0) as u32 as usize;
     row * area.width() as usize + column
 }
 

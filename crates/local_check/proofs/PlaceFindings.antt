@@ -1,6 +1,5 @@
 -- What was found at places, with what is found at one place more.
-use Rattle.std.proofs.Common.{◌≡◌, ◌<◌, ◌≤◌, ◌+◌, ◌∙◌, ℕ, nat_lt, Bool, true, false, ◌&&◌, if◌then◌else◌, List, length, set, replicate, slice_get, Option, Some, None, refl, sym, ap, subst, inl, inr, arith}
-use Rattle.std.proofs.Math.Bool.{beq}
+use Rattle.std.proofs.Common.{◌≡◌, ◌<◌, ◌≤◌, ◌+◌, ◌∙◌, ℕ, nat_lt, Bool, true, false, if◌then◌else◌, List, length, set, replicate, slice_get, Option, Some, None, refl, sym, ap, subst, inl, inr, arith}
 use Rattle.std.proofs.lemmas.Bool.{cases_eq}
 use Rattle.std.proofs.lemmas.List.{get_or-replicate, length-replicate}
 use Rattle.std.proofs.lemmas.Option.{same_Some, slice_get_within, get_or_from_slice_get}
@@ -30,28 +29,6 @@ none_set = record { north = false; east = false; south = false; west = false }
 on_none : (on : Bool) (glue : Option GlueId) → glue ≡ None → (if on then glue else None) ≡ None
 on_none true glue none = none
 on_none false glue none = refl
-
--- sides that a test finds equal are the same
-and_both : (a b : Bool) → true ≡ (a && b) → (a ≡ true) × (true ≡ b)
-and_both true b both = (refl, both)
-and_both false b both = absurd (cc both)
-
-same_bool : (a b : Bool) → beq a b ≡ true → a ≡ b
-same_bool true true same = refl
-same_bool false false same = refl
-same_bool true false same = absurd (cc same)
-same_bool false true same = absurd (cc same)
-
-pub same_sides : (a b : SideSet) → true ≡ (beq a.north b.north && (beq a.east b.east && (beq a.south b.south && beq a.west b.west))) → a ≡ b
-same_sides a b same =
-    let north = and_both (beq a.north b.north) (beq a.east b.east && (beq a.south b.south && beq a.west b.west)) same in
-    let east = and_both (beq a.east b.east) (beq a.south b.south && beq a.west b.west) north.1 in
-    let south = and_both (beq a.south b.south) (beq a.west b.west) east.1 in
-    let n = same_bool a.north b.north north.0 in
-    let e = same_bool a.east b.east east.0 in
-    let s = same_bool a.south b.south south.0 in
-    let w = same_bool a.west b.west (sym south.1) in
-    λ k. record { north = n k; east = e k; south = s k; west = w k }
 
 -- the glues that face a site are one choice
 pub same_facing : (sys : TileSystem) (tiles : List Place) (m : Site) (f g : FacingGlues) → FacesSite sys tiles m f → FacesSite sys tiles m g → f ≡ g

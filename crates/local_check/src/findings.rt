@@ -15,7 +15,7 @@ use attach_rule::{facing_bonds, glues_facing};
 use std::alloc::Global;
 use std::marker::Model;
 use tile_system::{NoMemory, Place, Side, Site, System, TypeId};
-use type_index::{FacingCache, TypeIndex, key_of_codes, side_code};
+use type_index::{FacingCache, TypeIndex, key_of_codes};
 
 // What is found at a place, where tiles stood beside some sides before: the sides that interact
 // with those tiles, their pull, the other sides that interact, and the first rival.
@@ -84,7 +84,7 @@ impl Findings {
         types: &TypeIndex,
         whole: &Grid,
         place: Place,
-        before: SideSet,
+        before: &SideSet,
     ) -> Finding
         requires valid { IsValid sys.now }
         requires known { ArePlaceFindings sys.now self.old }
@@ -92,16 +92,16 @@ impl Findings {
         requires fits { Fits sys.now whole.now.tiles }
         requires kind { IsType sys.now place.tile }
         requires inside { InBox whole.now.area place.site }
-        ensures finding { IsFinding sys.now whole.now.tiles place.site place.tile before result }
+        ensures finding { IsFinding sys.now whole.now.tiles place.site place.tile before.now result }
         ensures known { ArePlaceFindings sys.now self.new }
     {
         let Place { site, tile } = place;
-        let key = key_inside(sys, whole, site);
+        let key = key_inside(sys, types, whole, site);
         let last = &self.last[tile.0 as usize];
-        if last.key == key && last.before == before {
+        if last.key == key && last.before.is(before) {
             return last.finding;
         }
-        self.find(sys, types, whole, site, tile, before, key);
+        self.find(sys, types, whole, site, tile, *before, key);
         self.last[tile.0 as usize].finding
     }
 
@@ -154,7 +154,8 @@ impl Findings {
 // glue before it looks at the next tile, so that what it holds at a time fits in registers.
 #[inline(always)]
 #[tactic(auto, using(attach_rule::proofs::Held::kind_beside))]
-fn key_inside(sys: &System, whole: &Grid, site: Site) -> u64
+fn key_inside(sys: &System, types: &TypeIndex, whole: &Grid, site: Site) -> u64
+    requires index { IsIndexOf sys.now types.now }
     requires valid { IsValid sys.now }
     requires fits { Fits sys.now whole.now.tiles }
     requires inside { InBox whole.now.area site }
@@ -163,9 +164,9 @@ fn key_inside(sys: &System, whole: &Grid, site: Site) -> u64
 {
     let area = whole.area();
     let index = site_index(&area, site);
-    let north = side_code(sys, whole.beside_at(site, index).north, Side::South);
-    let east = side_code(sys, whole.beside_at(site, index).east, Side::West);
-    let south = side_code(sys, whole.beside_at(site, index).south, Side::North);
-    let west = side_code(sys, whole.beside_at(site, index).west, Side::East);
+    let north = types.side_code(sys, whole.beside_at(site, index).north, Side::South);
+    let east = types.side_code(sys, whole.beside_at(site, index).east, Side::West);
+    let south = types.side_code(sys, whole.beside_at(site, index).south, Side::North);
+    let west = types.side_code(sys, whole.beside_at(site, index).west, Side::East);
     key_of_codes(north, east, south, west)
 }

@@ -1,15 +1,15 @@
 // A set of sides.
-ghost use Rattle.std.specs.Prelude.{◌≡◌, ◌≤◌};
+ghost use Rattle.std.specs.Prelude.{◌≡◌, ◌≤◌, IsTrue};
 ghost use Rattle.atam.specs.declared.limits.TheConstants.{MOST_STRENGTH};
 ghost use Rattle.attach_rule.specs.Bonds.{AreStrengths};
 ghost use Rattle.local_check.specs.SideSets.{has};
-ghost use Rattle.local_check.specs.Inner.Sides.{bound_by, standing, intersection, difference, complement, bond_if, sum_on, glues_on};
+ghost use Rattle.local_check.specs.Inner.Sides.{bound_by, standing, number_of, intersection, difference, complement, bond_if, sum_on, glues_on};
 
 use attach_rule::{FacingGlues, Strengths};
 use tile_system::{Beside, Side};
 
 // The sides of a tile that something holds of.
-#[derive(Clone, Copy, PartialEq, Eq)]
+#[derive(Clone, Copy)]
 pub(crate) struct SideSet {
     pub(crate) north: bool,
     pub(crate) east: bool,
@@ -62,6 +62,25 @@ impl SideSet {
             Side::South => self.south,
             Side::West => self.west,
         }
+    }
+
+    // Whether the other set has the same sides. It is one comparison of two numbers.
+    #[inline(always)]
+    pub(crate) fn is(&self, other: &SideSet) -> bool
+        ensures { IsTrue result → self.now ≡ other.now }
+    {
+        self.number() == other.number()
+    }
+
+    // A number for the set.
+    #[inline(always)]
+    fn number(&self) -> u32
+        ensures { result ≡ number_of self.now }
+    {
+        u32::from(self.north)
+            + 0x100 * u32::from(self.east)
+            + 0x1_0000 * u32::from(self.south)
+            + 0x100_0000 * u32::from(self.west)
     }
 
     // The sides that aren't in the set.

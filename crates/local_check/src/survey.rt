@@ -60,9 +60,9 @@ pub(crate) fn survey_places(
     let seed_count = sys.seeds().len();
     for index in 0..seq.len() {
         let place = seq.get(index);
-        let finding = findings.at(sys, types, whole, place, earlier[index]);
+        let finding = findings.at(sys, types, whole, place, &earlier[index]);
         earlier[index] = finding.earlier;
-        outputs.push(finding.outputs)?;
+        outputs.push_reserved(finding.outputs);
         if index >= seed_count {
             breaches.see(sys, seq, index, finding.sum, finding.rival);
         }
@@ -97,7 +97,7 @@ pub(crate) fn put_places(alloc: Global, sys: &System, seq: &Sequence) -> Result<
     let first = sys.seeds().len();
     for index in 0..seq.len() {
         let place = seq.get(index);
-        before.push(sides_standing(&grid, place.site))?;
+        before.push_reserved(sides_standing(&grid, place.site));
         if index >= first {
             grid.put(place);
         }

@@ -7,7 +7,8 @@ use Rattle.atam.specs.TileSystem.{TileSystem}
 use Rattle.attach_rule.specs.declared.facing.FacingGlues.{FacingGlues}
 use Rattle.type_index.specs.declared.found.Found.{Found}
 use Rattle.type_index.specs.declared.cache.Finding.{Finding}
-use Rattle.type_index.specs.Findings.{AreFindings, IsKeyOf, SumsUpHeld, code_of}
+use Rattle.type_index.specs.Codes.{code_of}
+use Rattle.type_index.specs.Findings.{AreFindings, IsKeyOf, SumsUpHeld}
 
 first_digit : (a b x y : ℕ) → a < 65536 → b < 65536 → a + 65536 * x ≡ b + 65536 * y → (a ≡ b) × (x ≡ y)
 first_digit a b x y a_small b_small same = (omega (arith, same), omega (arith, same))

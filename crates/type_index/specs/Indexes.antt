@@ -5,6 +5,7 @@ use Rattle.atam.specs.declared.site.Side.TheVariants.{North, East, South, West}
 use Rattle.atam.specs.declared.place.GlueId.{GlueId}
 use Rattle.atam.specs.declared.place.TypeId.{TypeId}
 use Rattle.atam.specs.TileSystem.{TileSystem, IsType, side_glue}
+use Rattle.type_index.specs.Codes.{code_of}
 
 -- a type has the glue on this side
 abbrev pub Bears : TileSystem → Side → GlueId → TypeId → Type 0
@@ -17,17 +18,22 @@ pub record IsNextBearer (sys : TileSystem) (d : Side) (g : GlueId) (from found :
   pub none_between : (t : TypeId) → from ≤ t.0 → t.0 < found → ¬ Bears sys d g t
   pub here : found < length sys.types → Bears sys d g (record { 0 = found })
 
--- for each glue a first type, and for each type a next one
+-- for each glue a first type, and for each type a next one; a code for no tile, and behind it one for each type
 pub record SideLinks : Type 0 where
   pub first : List ℕ
   pub next : List ℕ
+  pub codes : List ℕ
 
--- for each glue the list of the types from an index on that have it on this side: the first of them, and behind each the next
+-- For each glue the list of the types from an index on that have it on this side: the first of them, and behind each the next. And the codes
+-- of the glues that these types have on this side; those before are 0.
 pub record AreListsFrom (sys : TileSystem) (d : Side) (from : ℕ) (links : SideLinks) : Type 0 where
   pub glues : length links.first ≡ length sys.glues
   pub types : length links.next ≡ length sys.types
   pub first : (g : GlueId) → g.0 < length sys.glues → IsNextBearer sys d g from (slice_index links.first g.0)
   pub next : (t : TypeId) (g : GlueId) → from ≤ t.0 → IsType sys t → Bears sys d g t → IsNextBearer sys d g (t.0 + 1) (slice_index links.next t.0)
+  pub tiles : length links.codes ≡ length sys.types + 1
+  pub none : (k : ℕ) → k ≤ from → slice_index links.codes k ≡ 0
+  pub code : (t : TypeId) → from ≤ t.0 → IsType sys t → slice_index links.codes (t.0 + 1) ≡ code_of (side_glue sys t d)
 
 -- the same of all types
 abbrev pub AreListsOf : TileSystem → Side → SideLinks → Type 0

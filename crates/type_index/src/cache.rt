@@ -6,7 +6,8 @@ ghost use Rattle.tile_system.specs.Neighbors.{StandBeside};
 ghost use Rattle.atam.specs.Assembly.{Fits};
 ghost use Rattle.attach_rule.specs.declared.facing.FacingGlues.{FacingGlues};
 ghost use Rattle.type_index.specs.Indexes.{IsIndexOf};
-ghost use Rattle.type_index.specs.Findings.{AreFindings, IsKeyOf, SumsUpHeld, SumsUpCandidates, code_of};
+ghost use Rattle.type_index.specs.Codes.{code_of};
+ghost use Rattle.type_index.specs.Findings.{AreFindings, IsKeyOf, SumsUpHeld, SumsUpCandidates};
 
 use crate::codes::key_beside;
 use crate::{Found, TypeIndex};
@@ -113,7 +114,7 @@ impl FacingCache {
         ensures found { SumsUpCandidates sys.now (P.placements placed.now) site result }
         ensures known { AreFindings sys.now self.new }
     {
-        let key = key_beside(sys, placed, site, beside);
+        let key = key_beside(sys, index, placed, site, beside);
         if let Some(found) = self.recall(sys, key) {
             return found;
         }

@@ -1,7 +1,8 @@
 // The index of a system's types.
-ghost use Rattle.std.specs.Prelude.{◌≡◌, ◌<◌, ◌≤◌, ◌+◌, ◌^◌, length, IfOk};
-ghost use Rattle.atam.specs.TileSystem.{IsValid};
+ghost use Rattle.std.specs.Prelude.{◌≡◌, ◌<◌, ◌≤◌, ◌+◌, ◌^◌, length, IfOk, IfSome, option_and_then};
+ghost use Rattle.atam.specs.TileSystem.{IsType, IsValid, side_glue};
 ghost use Rattle.attach_rule.specs.declared.facing.FacingGlues.{FacingGlues};
+ghost use Rattle.type_index.specs.Codes.{code_of};
 ghost use Rattle.type_index.specs.Indexes.{IsIndexOf};
 ghost use Rattle.type_index.specs.Inner.Cursors.{IsWalk};
 ghost use Rattle.type_index.specs.HeldTypes.{NextHeld};
@@ -13,7 +14,8 @@ use std::alloc::Global;
 use std::marker::Model;
 use tile_system::{NoMemory, Side, System, TypeId};
 
-/// The types of a system by the glue on each side: eight bytes a type and eight a glue.
+/// The types of a system by the glue on each side, and the glues by the type: sixteen bytes a type
+/// and eight a glue.
 #[derive(Drop)]
 pub struct TypeIndex {
     north: SideLists,
@@ -41,6 +43,24 @@ impl TypeIndex {
             south: SideLists::build(alloc, sys, Side::South)?,
             west: SideLists::build(alloc, sys, Side::West)?,
         })
+    }
+
+    /// The code of the glue on a side of a tile, if there is a tile: one more than the glue's
+    /// number, and 0 for none. It is looked up, so that nothing is worked out.
+    #[inline(always)]
+    pub fn side_code(&self, sys: &System, tile: Option<TypeId>, side: Side) -> u32
+        requires index { IsIndexOf sys.now self.now }
+        requires kind { IfSome tile (IsType sys.now) }
+        ensures code { result ≡ code_of (option_and_then (λ t. side_glue sys.now t side) tile) }
+        ensures small { result < 65536 }
+    {
+        let _valid = sys.tau();
+        match side {
+            Side::North => self.north.code(tile),
+            Side::East => self.east.code(tile),
+            Side::South => self.south.code(tile),
+            Side::West => self.west.code(tile),
+        }
     }
 
     // A walk along the types that interact with these glues.

@@ -11,6 +11,6 @@ mod side_lists;
 mod sites;
 
 pub use cache::FacingCache;
-pub use codes::{key_of_codes, side_code};
+pub use codes::key_of_codes;
 pub use found::Found;
 pub use index::TypeIndex;

@@ -1,5 +1,5 @@
 -- Sides that interact with the tiles beside them, and the glues on some sides.
-use Rattle.std.specs.Prelude.{◌≡◌, ℕ, ◌<◌, ◌≤◌, ◌+◌, Bool, is_some, not, ◌&&◌, nat_lt, if◌then◌else◌, List, length, slice_get, take, max, Some, None}
+use Rattle.std.specs.Prelude.{◌≡◌, ℕ, ◌<◌, ◌≤◌, ◌+◌, ◌*◌, Bool, is_some, not, ◌&&◌, nat_lt, if◌then◌else◌, List, length, slice_get, take, max, Some, None}
 use Rattle.atam.specs.declared.site.Side.{Side}
 use Rattle.atam.specs.declared.site.Side.TheVariants.{North, East, South, West}
 use Rattle.atam.specs.declared.site.Site.{Site}
@@ -41,6 +41,13 @@ sides_beside tiles m = record {
   south = is_some (tile_at tiles (neighbor m South));
   west = is_some (tile_at tiles (neighbor m West));
 }
+
+-- a number for a set: a byte for each side
+abbrev pub digit : Bool → ℕ
+digit b = if b then 1 else 0
+
+abbrev pub number_of : SideSet → ℕ
+number_of a = digit a.north + 0x100 * digit a.east + 0x10000 * digit a.south + 0x1000000 * digit a.west
 
 -- the sides that both sets have
 abbrev pub intersection : SideSet → SideSet → SideSet

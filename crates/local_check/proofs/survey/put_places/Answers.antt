@@ -74,9 +74,9 @@ loop-index-preserved c =
             let still : max n i ≡ max n (i + 1) = omega (arith, seed) in
             subst (Placed (max n (i + 1))) (sym (ap (λ g. g.tiles) w.grid-is)) (subst (λ j. Placed j grid) still c.loop-index.invariant.placed)
       ];
-      count = ap length c.in_ok-push.ensures.items ∙ length-push sets c.sides_standing.result ∙ ap (λ j. j + 1) c.loop-index.invariant.count;
+      count = ap length c.push_reserved.ensures.items ∙ length-push sets c.sides_standing.result ∙ ap (λ j. j + 1) c.loop-index.invariant.count;
       before =
-          subst Before (sym c.in_ok-push.ensures.items)
+          subst Before (sym c.push_reserved.ensures.items)
           (before_more sys s sets p c.sides_standing.result there c.loop-index.invariant.before
           (c.sides_standing.ensures
           ∙ sym (sides_beside-same (take k s) grid p.site same)

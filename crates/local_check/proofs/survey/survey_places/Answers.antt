@@ -106,9 +106,9 @@ loop-index-preserved c =
       count = sets.0;
       earlier = sets.1;
       before = sets.2;
-      output_count = ap length c.in_ok-push.ensures.items ∙ length-push output_sets found.outputs ∙ ap (λ j. j + 1) c.loop-index.invariant.output_count;
+      output_count = ap length c.push_reserved.ensures.items ∙ length-push output_sets found.outputs ∙ ap (λ j. j + 1) c.loop-index.invariant.output_count;
       outputs =
-          subst Outputs (sym c.in_ok-push.ensures.items)
+          subst Outputs (sym c.push_reserved.ensures.items)
           (outputs_more sys s output_sets found.outputs c.loop-index.invariant.outputs (λ d. here d ∙ ap (λ j. is_output sys s j d) (sym c.loop-index.invariant.output_count)));
       known = c.at-finding.ensures.known;
       inexact = elim c.if-index-seed_count.branch [

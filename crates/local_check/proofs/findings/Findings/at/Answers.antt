@@ -1,4 +1,4 @@
-use Rattle.std.proofs.Common.{◌≡◌, IfSome, Option, slice_get, length, refl, sym, subst, arith}
+use Rattle.std.proofs.Common.{◌≡◌, IfSome, Option, slice_get, length, refl, sym, subst, arith, rules}
 use Rattle.std.proofs.lemmas.Option.{slice_get_read}
 use Rattle.atam.specs.declared.site.Side.TheVariants.{North, East, South, West}
 use Rattle.atam.specs.Sites.{neighbor}
@@ -9,11 +9,10 @@ use Rattle.type_index.specs.Findings.{IsKeyOf}
 use Rattle.local_check.specs.declared.side_set.SideSet.{SideSet}
 use Rattle.local_check.specs.declared.findings.Known.{Known}
 use Rattle.local_check.specs.Inner.PlaceFindings.{FindingTable, IsFinding, ArePlaceFindings}
-use Rattle.local_check.proofs.PlaceFindings.{same_sides}
 use Rattle.local_check.proofs.findings.Findings.at.Goals as goal
 
-pub returns-then-eq-clause-finding : goal.returns-then-eq-clause-finding
-returns-then-eq-clause-finding c =
+pub returns-then-is-clause-finding : goal.returns-then-is-clause-finding
+returns-then-is-clause-finding c =
     let sys = c.args.sys.now in
     let whole = c.args.whole.now.tiles in
     let site = c.args.place.site in
@@ -30,7 +29,7 @@ returns-then-eq-clause-finding c =
       west = glue_at sys whole (neighbor site West) East;
     } in
     let faces : FacesSite sys whole site glues = record { north = refl; east = refl; south = refl; west = refl } in
-    let stood : last.before ≡ c.args.before = same_sides last.before c.args.before c.if-eq.ensures in
+    let stood : last.before ≡ c.args.before.now = c.if-is.ensures search rules in
     let Stood : SideSet → Type 0 = λ sides. IsFinding sys whole site tile sides last.finding in
     subst Stood stood (known.each tile last read whole site glues faces (subst (IsKeyOf glues) (sym c.if-last-key.true) (c.key_inside-key.ensures glues faces)))
 
@@ -41,7 +40,7 @@ returns-clause-finding c =
     let site = c.args.place.site in
     let tile = c.args.place.tile in
     let Table : FindingTable → Type 0 = λ table. ArePlaceFindings sys table in
-    let Here : Option Known → Type 0 = λ found. IfSome found (λ k. IsFinding sys whole site tile c.args.before k.finding) in
+    let Here : Option Known → Type 0 = λ found. IfSome found (λ k. IsFinding sys whole site tile c.args.before.now k.finding) in
     let There : FindingTable → Type 0 = λ table. Here (slice_get table.last tile.0) in
     let known = subst Table (sym c.self-2.view_is) c.find.ensures.known in
     let items = c.self-2.inside.last.items in
