@@ -25,8 +25,8 @@ use tile_io::{
 use tile_system::{NoMemory, Place, Placed, Site, System};
 use tile_text::{read_place, read_site};
 
-/// Reads a growth text to the end of the input, as the sequence of its places, in time that grows with its length and the
-/// logarithm of the number of types.
+/// Reads a growth text to the end of the input, as the sequence of its places, in time that grows
+/// with its length, where types are found by a few comparisons of names each (`System::find_type`).
 pub fn read_sequence(
     alloc: Global,
     sys: &System,

@@ -16,8 +16,9 @@ use tile_io::{
 use tile_system::System;
 use tile_text::{read_place, read_site};
 
-/// Reads a schedule text to the end of the input, in time that grows with its length and the logarithm of the number of
-/// types. Neither the scouts nor the sites of its events need to be there.
+/// Reads a schedule text to the end of the input, in time that grows with its length, where types
+/// are found by a few comparisons of names each (`System::find_type`). Neither the scouts nor the
+/// sites of its events need to be there.
 pub fn read_events(
     alloc: Global,
     sys: &System,

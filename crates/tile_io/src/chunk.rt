@@ -12,7 +12,8 @@ use std::marker::Model;
 /// How many bytes are held back at most.
 pub const CHUNK_ROOM: usize = 8192;
 
-/// The bytes that are held back, on the stack. After a failure nothing is held, since it may be out already.
+/// The bytes that are held back, on the stack. After a failure nothing is held, since it may be out
+/// already.
 #[derive(Drop)]
 pub struct Chunk {
     bytes: [u8; 8192],

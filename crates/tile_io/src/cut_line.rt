@@ -10,8 +10,8 @@ use std::marker::Model;
 // How many words are at hand.
 const AT_HAND: usize = 8;
 
-/// The words of a line, by index. A line is cut once: the first eight words are at hand, and the others are looked for
-/// where they are asked for.
+/// The words of a line, by index. A line is cut once: the first eight words are at hand, and the
+/// others are looked for where they are asked for.
 #[derive(Drop)]
 pub struct LineWords<'a> {
     line: &'a [u8],
