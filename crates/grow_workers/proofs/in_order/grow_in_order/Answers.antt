@@ -1,7 +1,4 @@
-use Rattle.std.proofs.Common.{◌≡◌, List, length, ap, subst, sym, arith}
-use Rattle.atam.specs.declared.place.Place.{Place}
-use Rattle.atam.specs.Canonical.{IsCanonical}
-use Rattle.assembly.specs.Grids.{TileGrid}
+use Rattle.std.proofs.Common.{◌≡◌, length, ap, arith}
 use Rattle.grow_workers.proofs.Ordering.{few_seeds, grew_alone}
 use Rattle.grow_workers.proofs.in_order.grow_in_order.Goals as goal
 
