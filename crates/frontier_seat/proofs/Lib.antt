@@ -1,3 +1,5 @@
+pub mod Filling
 pub mod Looked
 pub mod Listing
 pub mod Ordering
+pub mod Rows

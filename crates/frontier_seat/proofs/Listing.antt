@@ -29,7 +29,7 @@ use Rattle.frontier_seat.specs.Inner.Listings.{AreEmptySites, ListsAround, Lists
 use Rattle.frontier_seat.specs.Inner.Looks.{IsClosedBut, ListsOpen}
 
 -- the number of a site by its row and column
-abbrev cell : BoxArea → Site → ℕ
+abbrev pub cell : BoxArea → Site → ℕ
 cell area m = nat_abs (m.y -ℤ area.y0) * width_of area + nat_abs (m.x -ℤ area.x0)
 
 site_at-number : (area : BoxArea) (m : Site) → InBox area m → (site_at area (cell area m) ≡ m) × (cell area m < cell_count area)
@@ -38,10 +38,10 @@ site_at-number area m inside =
     let left = inside.left in
     at_cell area m (nat_abs (m.y -ℤ area.y0)) (nat_abs (m.x -ℤ area.x0)) (width_of area) inside refl (omega (arith, ints, bottom)) (omega (arith, ints, left))
 
-spot_number : (area : BoxArea) (spot : Spot) → IsSpot area spot → spot.number ≡ cell area spot.site
+pub spot_number : (area : BoxArea) (spot : Spot) → IsSpot area spot → spot.number ≡ cell area spot.site
 spot_number area spot is = site_at-injective area spot.number (cell area spot.site) (is.site ∙ sym (site_at-number area spot.site is.inside).0)
 
-spot_of : (area : BoxArea) (m : Site) (n : ℕ) → InBox area m → n ≡ cell area m → IsSpot area (record { site = m; number = n })
+pub spot_of : (area : BoxArea) (m : Site) (n : ℕ) → InBox area m → n ≡ cell area m → IsSpot area (record { site = m; number = n })
 spot_of area m n inside same =
     let at = site_at-number area m inside in
     record {

@@ -1,15 +1,12 @@
 -- One look at a site, and the lists of sites.
-use Rattle.std.proofs.Common.{◌≡◌, ◌≢◌, ◌⊎◌, ◌<◌, ◌≤◌, ◌+◌, ◌-◌, ◌*◌, ◌^◌, ◌++◌, ℕ, List, [], ◌∷◌, length, length-append, Some, None, All, Contains, append-nil, append_assoc, get_or, pos, ◌+ℤ◌, ◌-ℤ◌, refl, sym, ◌∙◌, ap, subst, inl, inr, arith}
-use Rattle.std.proofs.lemmas.List.Elements.{Contains-append_left, All-nil, All-cons, All-append, Contains-get_or, Contains-push, Contains-append_cases}
-use Rattle.std.proofs.lemmas.Int.{ints}
+use Rattle.std.proofs.Common.{◌≡◌, ◌≢◌, ◌⊎◌, ◌<◌, ◌≤◌, ◌+◌, ◌-◌, ◌*◌, ◌++◌, ℕ, List, [], ◌∷◌, length, length-append, Some, None, All, Contains, append-nil, append_assoc, get_or, pos, refl, sym, ◌∙◌, ap, subst, inl, inr, arith}
+use Rattle.std.proofs.lemmas.List.Elements.{Contains-append_left, All-nil, All-cons, All-append, Contains-get_or}
 use Rattle.std.proofs.lemmas.Option.{none-some}
 use Rattle.std.proofs.Math.Nat.{le_trans}
 use Rattle.atam.specs.declared.site.Site.{Site}
 use Rattle.atam.specs.declared.place.TypeId.{TypeId}
 use Rattle.atam.specs.declared.place.Place.{Place}
-use Rattle.atam.specs.declared.site.Side.{Side}
-use Rattle.atam.specs.declared.site.Side.TheVariants.{North, East, South, West}
-use Rattle.atam.specs.Sites.{InBox, neighbor}
+use Rattle.atam.specs.Sites.{InBox}
 use Rattle.tile_system.specs.declared.placed.Beside.{Beside}
 use Rattle.tile_system.specs.Neighbors.{StandBeside}
 use Rattle.atam.specs.Placements.{SamePlacements, HasDistinctSites, tile_at}
@@ -18,14 +15,13 @@ use Rattle.atam.specs.Growth.{IsCandidate, IsClosedInBox}
 use Rattle.atam.proofs.Bonds.{pull-mono}
 use Rattle.atam.proofs.Count.{count_in_box}
 use Rattle.atam.proofs.Lists.{some_or_none}
-use Rattle.atam.proofs.Placements.{Extends, Extends-IsPartOf, Contains-tile_at, empty_in_part, same_tiles}
+use Rattle.atam.proofs.Placements.{Extends, Extends-IsPartOf, same_tiles}
 use Rattle.atam.proofs.Sequences.{Fits-push}
-use Rattle.atam.proofs.Tiles.{tile_at-push_other, same_back, SameTiles-put, SamePlacements-push, SamePlacements-trans}
+use Rattle.atam.proofs.Tiles.{same_back, SameTiles-put, SamePlacements-push, SamePlacements-trans}
 use Rattle.assembly.specs.Grids.{TileGrid}
-use Rattle.atam.proofs.Opening.{IsCandidate-same, IsCandidate-push, Fits-part}
+use Rattle.atam.proofs.Opening.{IsCandidate-same, Fits-part}
 use Rattle.grow_core.specs.declared.placed_tile.PlacedTile.{PlacedTile}
-use Rattle.grow_core.specs.Core.{ScoutState, least, places}
-use Rattle.grow_core.proofs.Listed.{unplaced, whole_place}
+use Rattle.grow_core.specs.Core.{ScoutState, least}
 use Rattle.grow_core.specs.Steps.{place, tile_of, Supports, Sees, Wins}
 use Rattle.site_table.specs.Seats.{SeatValue, GoesOn}
 use Rattle.site_table.specs.Rule.{IsPossible}
@@ -36,31 +32,15 @@ use Rattle.frontier_seat.specs.declared.bursting.Burst.{Burst}
 use Rattle.frontier_seat.specs.declared.bursting.Burst.TheVariants.{Quiet, Spent}
 use Rattle.frontier_seat.specs.Inner.Looks.{CatchesUp, Puts, ClaimsAt, IsClosedBut, ListsOpen, LooksAt}
 use Rattle.number_set.specs.Numbers.{Numbers, IsIn, Removes}
-use Rattle.assembly.specs.Cells.{cell_count, site_at}
-use Rattle.assembly.proofs.Cells.{site_at-injective}
+use Rattle.assembly.specs.Cells.{cell_count}
 use Rattle.frontier_seat.specs.declared.work_list.Spot.{Spot}
 use Rattle.frontier_seat.specs.Inner.Listings.{AreEmptySites, ListsAround, IsSpot}
 use Rattle.frontier_seat.proofs.Listing.{closed_none, closed_taken}
+use Rattle.frontier_seat.proofs.Filling.{beside_still, lists_filled, lists_unfilled}
 
--- a site is not beside itself
-neighbor_differs : (m : Site) (d : Side) → m ≢ neighbor m d
-neighbor_differs m North same = let up : m.y ≡ m.y +ℤ pos 1 = ap (λ (s : Site). s.y) same in let never : ⊥ = omega (arith, ints, up) in never
-neighbor_differs m East same = let up : m.x ≡ m.x +ℤ pos 1 = ap (λ (s : Site). s.x) same in let never : ⊥ = omega (arith, ints, up) in never
-neighbor_differs m South same = let down : m.y ≡ m.y -ℤ pos 1 = ap (λ (s : Site). s.y) same in let never : ⊥ = omega (arith, ints, down) in never
-neighbor_differs m West same = let down : m.x ≡ m.x -ℤ pos 1 = ap (λ (s : Site). s.x) same in let never : ⊥ = omega (arith, ints, down) in never
-
--- so a claim leaves what stands beside its site
+-- a claim leaves what stands beside its site
 pub still_beside : (sys : TileSystem) (old new : Growing) (m : Site) (beside : Beside) → ClaimsAt sys m old new → StandBeside old.grid.tiles m beside → StandBeside new.grid.tiles m beside
-still_beside sys old new m beside claim stand =
-    let same : (d : Side) → tile_at old.grid.tiles (neighbor m d) ≡ tile_at new.grid.tiles (neighbor m d) = λ d.
-    sym (claim.tiles (neighbor m d) ∙ tile_at-push_other old.grid.tiles (place m claim.tile) (neighbor m d) (neighbor_differs m d))
-    in
-    record {
-      north = stand.north ∙ same North;
-      east = stand.east ∙ same East;
-      south = stand.south ∙ same South;
-      west = stand.west ∙ same West;
-    }
+still_beside sys old new m beside claim stand = beside_still old.grid.tiles new.grid.tiles m claim.tile beside claim.tiles stand
 
 -- the tiles of a grid over a box are few
 pub few_tiles : (sys : TileSystem) (g : Growing) → IsGrowing sys g → length g.grid.tiles ≤ cell_count sys.area
@@ -106,16 +86,14 @@ goes_by old mid new site t wins goes grid puts mine placer won = record {
   won = puts.won ∙ won;
 }
 
-pub claimed_by : (sys : TileSystem) (old mid new : Growing) (site : Site) (t : TypeId) → mid.grid ≡ old.grid → Puts (place site t) mid new → IsGrowing sys new → GrowsOn old new →
-    (old.seat.scout.owned ≡ 2 ^ 64 - 1 → IsCandidate sys old.grid.tiles site t) → ClaimsAt sys site old new
-claimed_by sys old mid new site t grid puts growing goes sole = record {
+pub claimed_by : (sys : TileSystem) (old mid new : Growing) (site : Site) (t : TypeId) → mid.grid ≡ old.grid → Puts (place site t) mid new → IsGrowing sys new → GrowsOn old new → ClaimsAt sys site old new
+claimed_by sys old mid new site t grid puts growing goes = record {
   growing = growing;
   goes = goes;
   tile = t;
   tiles = λ m. puts.tiles m ∙ ap (λ g. tile_at (g.tiles ++ place site t ∷ []) m) grid;
   placements = subst (λ g. SamePlacements (g.tiles ++ place site t ∷ []) new.grid.tiles) grid puts.placements;
   count = puts.count ∙ ap (λ g. length g.tiles + 1) grid;
-  sole = sole;
 }
 
 -- a seat that did nothing
@@ -152,43 +130,16 @@ pub looked_at_some : (sys : TileSystem) (before after : Growing) (spot : Spot) (
     IsClosedBut sys before.grid.tiles (λ n. IsIn old n ⊎ (n ≡ spot.number)) → ¬ IsIn old spot.number → AreEmptySites sys.area before.grid.tiles old →
     tile_at before.grid.tiles spot.site ≡ None → ClaimsAt sys spot.site before after → ListsAround sys.area after.grid.tiles spot.site old new → LooksAt sys before after old new
 looked_at_some sys before after spot old new is closed gone listed empty claim around =
-    let p : Place = place spot.site claim.tile in
-    let other : (n : ℕ) → site_at sys.area n ≡ spot.site → n ≡ spot.number = λ n here. site_at-injective sys.area n spot.number (here ∙ sym is.site) in
-    record {
-      growing = claim.growing;
-      goes = claim.goes;
-      closed = λ n t within grows.
-          let m = site_at sys.area n in
-          elim (IsCandidate-push sys before.grid.tiles p m t empty (IsCandidate-same sys after.grid.tiles (before.grid.tiles ++ p ∷ []) m t claim.tiles grows)) [
-            | inl beside ↦ around.added n beside.0 within (sym beside.1) (subst (λ (k : Site). tile_at after.grid.tiles k ≡ None) (sym beside.1) grows.attaches.empty)
-            | inr far ↦ elim (closed n t within far.1) [
-              | inl in_old ↦ around.kept n in_old
-              | inr one ↦ absurd (far.0 (sym (ap (site_at sys.area) one ∙ is.site)))
-            ]
-          ];
-      listed = λ n in_new. elim (around.only n in_new) [
-        | inl in_old ↦
-            let differs : spot.site ≢ site_at sys.area n = λ same. gone (subst (IsIn old) (other n (sym same)) in_old) in
-            claim.tiles (site_at sys.area n) ∙ (tile_at-push_other before.grid.tiles p (site_at sys.area n) differs ∙ listed n in_old)
-        | inr bare ↦ bare
-      ];
-      work = λ k. let few = around.few k in let count = claim.count in omega (arith, count, few);
-    }
+    let on = lists_filled sys before.grid.tiles after.grid.tiles spot claim.tile old new is closed gone listed empty claim.tiles claim.count around in
+    record { growing = claim.growing; goes = claim.goes; closed = on.lists.all; listed = on.lists.empty; work = on.work }
 
 -- where no type attaches
 pub looked_at_none : (sys : TileSystem) (g : Growing) (spot : Spot) (old : Numbers) → IsGrowing sys g → IsSpot sys.area spot →
     IsClosedBut sys g.grid.tiles (λ n. IsIn old n ⊎ (n ≡ spot.number)) → AreEmptySites sys.area g.grid.tiles old →
     ((t : TypeId) → ¬ IsCandidate sys g.grid.tiles spot.site t) → LooksAt sys g g old old
-looked_at_none sys g spot old growing is closed listed none = record {
-  growing = growing;
-  goes = goes_nowhere g;
-  closed = λ n t within grows. elim (closed n t within grows) [
-    | inl in_old ↦ in_old
-    | inr one ↦ absurd (none t (subst (λ (m : Site). IsCandidate sys g.grid.tiles m t) (ap (site_at sys.area) one ∙ is.site) grows))
-  ];
-  listed = listed;
-  work = λ k. omega arith;
-}
+looked_at_none sys g spot old growing is closed listed none =
+    let on = lists_unfilled sys g.grid.tiles spot old is closed listed none in
+    record { growing = growing; goes = goes_nowhere g; closed = on.lists.all; listed = on.lists.empty; work = on.work }
 
 -- the work that is left
 pub less_work : (cells before after rest new all : ℕ) → after ≤ cells → rest + 1 ≤ all → new + 4 * before ≤ rest + 4 * after →
@@ -221,45 +172,23 @@ tile_put old grid p area empty here others placements distinct count = record {
 
 -- a claim that is won
 pub claim_won : (sys : TileSystem) (old mid new : Growing) (site : Site) (t : TypeId) → IsGrowing sys old → InBox sys.area site → IsType sys t → GoesOn old.seat mid.seat → mid.grid ≡ old.grid →
-    mid.won ≡ old.won + 1 → Wins old.seat.scout (place site t) mid.seat.scout → Puts (place site t) mid new → IsCandidate sys old.grid.tiles site t → ClaimsAt sys site old new
-claim_won sys old mid new site t growing inside kind goes grid won wins puts grows =
+    mid.won ≡ old.won + 1 → Wins old.seat.scout (place site t) mid.seat.scout → Puts (place site t) mid new → ClaimsAt sys site old new
+claim_won sys old mid new site t growing inside kind goes grid won wins puts =
     let few = growing.few_wins in
     let n = least old.seat.scout.owned in
     claimed_by sys old mid new site t grid puts
     (grown_by sys old mid new site t growing inside kind goes grid wins.seen puts (omega (arith, won, few)))
     (goes_by old mid new site t (tile_of (place site t) n ∷ []) goes grid puts wins.mine
     (All-cons (λ (u : PlacedTile). u.placer ≡ n) (tile_of (place site t) n) [] refl (All-nil (λ (u : PlacedTile). u.placer ≡ n))) (omega (arith, won)))
-    (λ _. grows)
 
 -- and one that is lost
 pub claim_lost : (sys : TileSystem) (old mid new : Growing) (site : Site) (t : TypeId) → IsGrowing sys old → InBox sys.area site → IsType sys t → GoesOn old.seat mid.seat → mid.grid ≡ old.grid →
-    mid.won ≡ old.won → Sees old.seat.scout (place site t) mid.seat.scout → Puts (place site t) mid new → (old.seat.scout.owned ≢ 2 ^ 64 - 1) → ClaimsAt sys site old new
-claim_lost sys old mid new site t growing inside kind goes grid won sees puts shared =
+    mid.won ≡ old.won → Sees old.seat.scout (place site t) mid.seat.scout → Puts (place site t) mid new → ClaimsAt sys site old new
+claim_lost sys old mid new site t growing inside kind goes grid won sees puts =
     let few = growing.few_wins in
     claimed_by sys old mid new site t grid puts
     (grown_by sys old mid new site t growing inside kind goes grid sees.seen puts (omega (arith, won, few)))
     (goes_by old mid new site t [] goes grid puts (sees.mine ∙ sym (append-nil old.seat.scout.mine)) (All-nil (λ (u : PlacedTile). u.placer ≡ least old.seat.scout.owned)) (omega (arith, won)))
-    (λ all. absurd (shared all))
-
--- who owns all numbers has seen each tile that stands, and no claim is lost
-pub never_held : (sys : TileSystem) (v w : ScoutState) (m : Site) (t : TypeId) → IsPossible sys v → IsPossible sys w → tile_at v.seen m ≡ None → Sees v (place m t) w → v.owned ≢ 2 ^ 64 - 1
-never_held sys v w m t before after empty sees all =
-    let p : Place = place m t in
-    let seen : Contains w.seen p = sees.seen.part p (Contains-push v.seen p) in
-    let unseen : ¬ Contains v.seen p = λ c. none-some t (sym empty ∙ Contains-tile_at v.seen p before.scout.distinct c) in
-    elim (Contains-append_cases sys.seeds (places w.mine) p (whole_place sys after.tiles w after.history after.scout (sees.owned ∙ all) p (after.scout.part p seen))) [
-      | inl seed ↦ unseen (before.scout.seeds p seed)
-      | inr won ↦
-          let tile = unplaced w.mine p won in
-          unseen (subst (Contains v.seen) tile.2 (before.scout.mine_seen tile.0 (subst (λ (l : List PlacedTile). Contains l tile.0) sees.mine tile.1)))
-    ]
-
--- so it is at a site that is empty in the grid
-pub never_lost : (sys : TileSystem) (old : Growing) (w : ScoutState) (m : Site) (t : TypeId) → IsGrowing sys old → IsPossible sys old.seat.scout → IsPossible sys w → tile_at old.grid.tiles m ≡ None → Sees old.seat.scout (place m t) w → old.seat.scout.owned ≢ 2 ^ 64 - 1
-never_lost sys old w m t growing before after empty sees =
-    let seen = old.seat.scout.seen in
-    let same = same_tiles seen old.grid.tiles before.scout.distinct growing.distinct growing.seen in
-    never_held sys old.seat.scout w m t before after (empty_in_part seen old.grid.tiles m same.0 empty) sees
 
 -- a growth starts
 pub growth_start : (sys : TileSystem) (seat : SeatValue) (grid : TileGrid) → seat.sys ≡ sys → grid.area ≡ sys.area → SamePlacements seat.scout.seen grid.tiles → HasDistinctSites grid.tiles → IsPossible seat.sys seat.scout →

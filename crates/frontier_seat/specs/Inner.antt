@@ -1,4 +1,7 @@
 -- Definitions that only private functions cite.
 pub mod Listings
 pub mod Looks
+pub mod Fillings
+pub mod Logs
+pub mod Rows
 pub mod Pickers

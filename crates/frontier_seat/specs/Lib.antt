@@ -1,3 +1,2 @@
 pub mod Growths
-pub mod Orders
 pub mod Inner

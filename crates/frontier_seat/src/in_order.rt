@@ -1,104 +1,136 @@
-// Growth that always claims the least open site, and logs its claims.
-ghost use Rattle.std.specs.Prelude.{◌≡◌, ◌⊎◌, ◌<◌, ◌≤◌, ◌+◌, ◌-◌, ◌^◌, ℕ, [], None, length};
-ghost use Rattle.atam.specs.TileSystem.{IsValid};
+// Growth by one worker alone, which always fills the least open site and logs its tiles.
+ghost use Rattle.std.specs.Prelude.{◌≡◌, ◌⊎◌, ◌<◌, ◌≤◌, ◌+◌, ℕ, None, length, IfOk};
 ghost use Rattle.atam.specs.Placements.{SamePlacements, tile_at};
-ghost use Rattle.atam.specs.Growth.{IsClosedInBox};
+ghost use Rattle.atam.specs.Growth.{IsClosedInBox, IsFullGrowth};
+ghost use Rattle.atam.specs.Canonical.{IsCanonical};
 ghost use Rattle.assembly.specs.Cells.{cell_count};
-ghost use Rattle.site_table.specs.Seats.{IsSeatOf};
 ghost use Rattle.number_set.specs.Numbers.{IsIn};
-ghost use Rattle.frontier_seat.specs.Growths.{IsGrowing, GrowsOn};
+ghost use Rattle.frontier_seat.specs.Inner.Fillings.{GrewInOrder, IsFilling, ListsOn, MayFill};
 ghost use Rattle.frontier_seat.specs.Inner.Listings.{AreEmptySites, IsSpot};
-ghost use Rattle.frontier_seat.specs.Inner.Looks.{GrewInOrder, IsClosedBut, LogsClaim, LooksAt};
+ghost use Rattle.frontier_seat.specs.Inner.Looks.{IsClosedBut, ListsOpen};
 ghost use Rattle.frontier_seat.specs.Inner.Pickers.{IsPickerOf};
 
+use crate::Chooser;
 use crate::picking::Picker;
-use crate::scout::look;
+use crate::place_log::PlaceLog;
+use crate::row::Row;
 use crate::work_list::{Spot, WorkList};
-use crate::{Chooser, ClaimLog, Growing};
-use site_table::SiteTable;
-use std::sync::ledger::Ledger;
-use tile_io::Steps;
-use tile_system::{Place, System};
+use assembly::{Grid, Sequence, put_seeds, site_index};
+use std::alloc::Global;
+use tile_system::{NoMemory, Place, System};
 
-// Looks at one site, and logs the claim there.
+// Lists the empty sites beside the seeds, which are all that stands.
+fn list_beside_seeds(sys: &System, grid: &Grid, work: &mut WorkList)
+    requires filling { IsFilling sys.now grid.now }
+    requires start { SamePlacements sys.now.seeds grid.now.tiles }
+    requires area { work.old.area ≡ sys.now.area }
+    requires none { (n : ℕ) → ¬ IsIn work.old.numbers n }
+    ensures area { work.new.area ≡ work.old.area }
+    ensures lists { ListsOpen sys.now grid.now.tiles work.new.numbers }
+{
+    let area = sys.area();
+    for seed in sys.seeds() {
+        let site = seed.site;
+        let number = site_index(&area, site);
+        let beside = grid.beside_at(site, number);
+        work.list_around(grid, Spot { site, number }, &beside);
+    }
+}
+
+// Looks at one empty site that is listed no longer. A type that attaches there fills it, and the
+// tile is logged.
 #[inline(always)]
-fn look_logged<C: Chooser, L: Ledger>(
+fn fill<C: Chooser>(
     sys: &System,
-    table: &SiteTable,
-    growing: &mut Growing,
+    grid: &mut Grid,
     chooser: &mut C,
     picker: &mut Picker,
     spot: Spot,
     work: &mut WorkList,
-    steps: &mut Steps<L>,
-    log: &mut ClaimLog,
+    log: &mut PlaceLog,
 )
-    requires seat { IsSeatOf table.now growing.old.seat }
-    requires system { table.now.sys ≡ sys.now }
-    requires growing { IsGrowing sys.now growing.old }
+    requires filling { IsFilling sys.now grid.old }
     requires picker { IsPickerOf sys.now picker.old }
     requires area { work.old.area ≡ sys.now.area }
     requires spot { IsSpot sys.now.area spot }
     requires gone { ¬ IsIn work.old.numbers spot.number }
-    requires empty { tile_at growing.old.grid.tiles spot.site ≡ None }
-    requires listed { AreEmptySites sys.now.area growing.old.grid.tiles work.old.numbers }
-    requires closed { IsClosedBut sys.now growing.old.grid.tiles
+    requires empty { tile_at grid.old.tiles spot.site ≡ None }
+    requires listed { AreEmptySites sys.now.area grid.old.tiles work.old.numbers }
+    requires closed { IsClosedBut sys.now grid.old.tiles
         (λ n. IsIn work.old.numbers n ⊎ (n ≡ spot.number)) }
     requires room { length log.old.places < log.old.room }
-    ensures looks { LooksAt sys.now growing.old growing.new work.old.numbers work.new.numbers }
-    ensures logs { LogsClaim sys.now spot.site growing.old growing.new
-        log.old.places log.new.places }
+    ensures filling { IsFilling sys.now grid.new }
+    ensures lists { ListsOn sys.now grid.old.tiles grid.new.tiles work.old.numbers
+        work.new.numbers }
+    ensures fills { MayFill sys.now spot.site grid.old.tiles grid.new.tiles log.old.places
+        log.new.places }
     ensures picker { IsPickerOf sys.now picker.new }
     ensures area { work.new.area ≡ work.old.area }
     ensures room { log.new.room ≡ log.old.room }
-    ensures cost { steps.new + length growing.old.grid.tiles
-        ≡ steps.old + length growing.new.grid.tiles }
 {
-    if !look(sys, table, growing, chooser, picker, spot, work, steps) {
+    let _area = sys.area();
+    let Spot { site, number } = spot;
+    let beside = grid.beside_at(site, number);
+    let Some(tile) = picker.pick(sys, grid, site, &beside, chooser) else {
         return;
-    }
-    let Some(tile) = growing.grid.tile(spot.number) else {
-        unreachable!()
     };
-    let site = spot.site;
-    log.push(Place { site, tile });
+    let place = Place { site, tile };
+    grid.put_at(place, number);
+    work.list_around(grid, spot, &beside);
+    log.push(place);
 }
 
 // Looks at the empty sites beside the seeds, and at those beside each tile that comes, always at
 // the least one.
-pub(crate) fn look_in_order<C: Chooser, L: Ledger>(
+fn fill_all<C: Chooser>(
     sys: &System,
-    table: &SiteTable,
-    growing: &mut Growing,
+    grid: &mut Grid,
     chooser: &mut C,
     picker: &mut Picker,
     work: &mut WorkList,
-    steps: &mut Steps<L>,
-    log: &mut ClaimLog,
+    log: &mut PlaceLog,
 )
-    requires seat { IsSeatOf table.now growing.old.seat }
-    requires system { table.now.sys ≡ sys.now }
-    requires growing { IsGrowing sys.now growing.old }
+    requires filling { IsFilling sys.now grid.old }
     requires picker { IsPickerOf sys.now picker.old }
     requires area { work.old.area ≡ sys.now.area }
     requires none { (n : ℕ) → ¬ IsIn work.old.numbers n }
-    requires sole { growing.old.seat.scout.owned ≡ 2 ^ 64 - 1 }
-    requires start { SamePlacements sys.now.seeds growing.old.grid.tiles }
+    requires start { SamePlacements sys.now.seeds grid.old.tiles }
     requires seeds { log.old.places ≡ sys.now.seeds }
     requires room { length sys.now.seeds + cell_count sys.now.area ≤ log.old.room }
-    ensures growing { IsGrowing sys.now growing.new }
-    ensures goes { GrowsOn growing.old growing.new }
-    ensures closed { IsClosedInBox sys.now growing.new.grid.tiles }
-    ensures order { GrewInOrder sys.now growing.new.grid.tiles log.new.places }
-    ensures picker { IsPickerOf sys.now picker.new }
-    ensures area { work.new.area ≡ work.old.area }
-    ensures none { (n : ℕ) → ¬ IsIn work.new.numbers n }
-    ensures cost { steps.new + length growing.old.grid.tiles
-        ≡ steps.old + length growing.new.grid.tiles }
+    ensures filling { IsFilling sys.now grid.new }
+    ensures closed { IsClosedInBox sys.now grid.new.tiles }
+    ensures order { GrewInOrder sys.now grid.new.tiles log.new.places }
 {
-    let _area = sys.area();
-    work.list_frontier(&growing.grid);
-    while let Some(spot) = work.take_least() {
-        look_logged(sys, table, growing, chooser, picker, spot, work, steps, log);
+    let area = sys.area();
+    list_beside_seeds(sys, grid, work);
+    let mut row = Row::least(&area);
+    while let Some(number) = work.take_least() {
+        let spot = row.spot(&area, number);
+        fill(sys, grid, chooser, picker, spot, work, log);
     }
+}
+
+/// What grows from the seeds on where always the least open site of the box is filled, and the
+/// order in which its tiles came, which is the canonical one (`law_least_first`). It is for one
+/// worker alone, which needs no table. Beside the grid and the sequence it takes an index of types
+/// and a quarter of a byte a site.
+pub fn fill_least_first<C: Chooser>(
+    alloc: Global,
+    sys: &System,
+    chooser: &mut C,
+) -> Result<(Grid, Sequence), NoMemory>
+    ensures area { IfOk result (λ r. r.0.area ≡ sys.now.area) }
+    ensures full { IfOk result (λ r. IsFullGrowth sys.now r.0.tiles) }
+    ensures order { IfOk result (λ r. IsCanonical sys.now r.0.tiles r.1) }
+{
+    let area = sys.area();
+    let _seeds = sys.seeds();
+    let mut grid = Grid::make(alloc, area)?;
+    put_seeds(sys, &mut grid);
+    let _grid = grid.area();
+    let mut log = PlaceLog::make(alloc, sys)?;
+    let mut picker = Picker::make(alloc, sys)?;
+    let mut work = WorkList::make(alloc, area)?;
+    fill_all(sys, &mut grid, chooser, &mut picker, &mut work, &mut log);
+    Ok((grid, log.into_sequence()))
 }

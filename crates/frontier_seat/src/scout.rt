@@ -15,10 +15,9 @@ ghost use Rattle.frontier_seat.specs.Inner.Pickers.{IsPickerOf};
 
 use crate::bursting::{is_open, spend};
 use crate::catching::see_all;
-use crate::in_order::look_in_order;
 use crate::picking::Picker;
 use crate::work_list::{Spot, WorkList};
-use crate::{Burst, Chooser, ClaimLog, Growing};
+use crate::{Burst, Chooser, Growing};
 use assembly::Grid;
 use site_table::{SiteSeat, SiteTable};
 use std::alloc::Global;
@@ -272,45 +271,6 @@ impl Scout {
         list(sys, &self.growing, self.listed, &mut self.work);
         self.listed = true;
         see_all(sys, table, &mut self.growing, &mut self.work, numbers);
-    }
-
-    /// The same for who owns all numbers and has seen the seeds alone, always at the least site at
-    /// which a type attaches, and each claim is logged. The log is then the canonical sequence of
-    /// what has grown (`law_least_first`).
-    pub fn sweep_in_order<C: Chooser, L: Ledger>(
-        &mut self,
-        sys: &System,
-        table: &SiteTable,
-        chooser: &mut C,
-        steps: &mut Steps<L>,
-        log: &mut ClaimLog,
-    )
-        requires seat { IsSeatOf table.now self.old.seat }
-        requires system { table.now.sys ≡ sys.now }
-        requires sole { self.old.seat.scout.owned ≡ 2 ^ 64 - 1 }
-        requires start { SamePlacements sys.now.seeds self.old.grid.tiles }
-        requires seeds { log.old.places ≡ sys.now.seeds }
-        requires room { length sys.now.seeds + cell_count sys.now.area ≤ log.old.room }
-        ensures goes { GrowsOn self.old self.new }
-        ensures closed { IsClosedInBox sys.now self.new.grid.tiles }
-        ensures seen { SamePlacements self.new.seat.scout.seen self.new.grid.tiles }
-        ensures order { IsCanonical sys.now self.new.grid.tiles log.new.places }
-        ensures cost { steps.new + length self.old.grid.tiles
-            ≡ steps.old + length self.new.grid.tiles }
-    {
-        self.work.clear();
-        self.listed = false;
-        look_in_order(
-            sys,
-            table,
-            &mut self.growing,
-            chooser,
-            &mut self.picker,
-            &mut self.work,
-            steps,
-            log,
-        );
-        let _area = sys.area();
     }
 
     /// The seat, and what it has seen.

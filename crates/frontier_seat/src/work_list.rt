@@ -7,7 +7,7 @@ ghost use Rattle.tile_system.specs.Neighbors.{StandBeside};
 ghost use Rattle.number_set.specs.Numbers.{Adds, IsIn, IsLeastOf, Removes};
 ghost use Rattle.frontier_seat.specs.Inner.Listings.{AreEmptySites, ListsAround, ListsFrontier, ListsFrontierTo, ListsSide, IsSpot, IsSpotBeside, TakesSpot};
 
-use crate::share::{Share, empty};
+use crate::share::Share;
 use assembly::{Grid, site_of_index};
 use number_set::NumberSet;
 use std::alloc::Global;
@@ -155,28 +155,16 @@ impl WorkList {
         self.share.make_whole();
     }
 
-    // Lists no site.
-    pub(crate) fn clear(&mut self)
-        ensures area { self.new.area ≡ self.old.area }
-        ensures none { (n : ℕ) → ¬ IsIn self.new.numbers n }
-    {
-        empty(&mut self.numbers);
-    }
-
-    // Takes the least site that is listed.
+    // Takes the number of the least site that is listed.
     #[inline(always)]
-    pub(crate) fn take_least(&mut self) -> Option<Spot>
+    pub(crate) fn take_least(&mut self) -> Option<usize>
         ensures area { self.new.area ≡ self.old.area }
-        ensures takes { IfSome result
-            (TakesSpot self.old.area self.old.numbers self.new.numbers) }
-        ensures least { IfSome result (λ spot. IsLeastOf self.old.numbers spot.number) }
+        ensures within { IfSome result (λ n. n < cell_count self.old.area) }
+        ensures least { IfSome result (IsLeastOf self.old.numbers) }
+        ensures removed { IfSome result (Removes self.old.numbers self.new.numbers) }
         ensures none { IfNone result ((n : ℕ) → ¬ IsIn self.old.numbers n) }
-        ensures same { IfNone result (self.new ≡ self.old) }
     {
-        let number = self.numbers.least()?;
-        self.numbers.remove(number);
-        let site = site_of_index(&self.area, number);
-        Some(Spot { site, number })
+        self.numbers.pop_least()
     }
 
     // Lists the site on one side, if it is in the box and no tile is there.

@@ -367,10 +367,6 @@ out_seen sys new grid out distinct seen closed closes =
     let quiet_is = quiet sys closes.tiles new.scout closes.history closes.scout seen_closed in
     SamePlacements-trans out.grid.tiles (places closes.tiles) new.scout.seen (same_back (places closes.tiles) out.grid.tiles closes.same) (same_back new.scout.seen (places closes.tiles) quiet_is)
 
-pub grid_left : (sys : TileSystem) (new : SeatValue) (grid : TileGrid) (out : GrownValue) → HasDistinctSites grid.tiles → SamePlacements new.scout.seen grid.tiles → IsClosedInBox sys grid.tiles → Closes sys new.scout out → SamePlacements grid.tiles out.grid.tiles
-grid_left sys new grid out distinct seen closed closes =
-    SamePlacements-trans grid.tiles new.scout.seen out.grid.tiles (same_back new.scout.seen grid.tiles seen) (same_back out.grid.tiles new.scout.seen (out_seen sys new grid out distinct seen closed closes))
-
 pub whole_growth : (sys : TileSystem) (workers : ℕ) (start : TileGrid) (old new : SeatValue) (grid : TileGrid) (wins : List ℕ) (out : GrownValue) → IsValid sys → old.scout.owned ≡ 2 ^ 64 - 1 →
     old.scout.mine ≡ [] → GrewOn sys old start new grid wins → length wins ≡ workers → 1 ≤ workers → workers ≤ 16 → HasDistinctSites grid.tiles → Closes sys new.scout out → IsGrowth sys workers out
 whole_growth sys workers start old new grid wins out valid all none grew count some_worker few distinct closes =

@@ -1,79 +1,19 @@
 // Growth by one worker in canonical order.
-ghost use Rattle.std.specs.Prelude.{◌≡◌, ◌<◌, ◌-◌, ◌^◌, [], IfOk};
-ghost use Rattle.atam.specs.Placements.{SamePlacements};
+ghost use Rattle.std.specs.Prelude.{IfOk};
 ghost use Rattle.atam.specs.Canonical.{IsCanonical};
-ghost use Rattle.site_table.specs.Seats.{IsSeatOf};
 ghost use Rattle.grow_workers.specs.Workers.{IsGrowth};
-ghost use Rattle.grow_workers.specs.Inner.Wins.{PartedGrowth};
 
-use crate::alone::Part;
-use assembly::{Grid, Sequence, put_seeds};
-use frontier_seat::{ClaimLog, RngChooser, Scout};
+use assembly::Sequence;
+use frontier_seat::{RngChooser, fill_least_first};
 use rand_pcg::Lcg64Xsh32;
-use site_table::{Grown, SiteSeat, SiteTable};
+use site_table::Grown;
 use std::alloc::Global;
-use std::marker::Brand;
-use std::sync::ledger::{Blank, Ledger};
-use tile_io::{Gate, Steps};
+use tile_io::Gate;
 use tile_system::{NoMemory, System};
 
-fn sweep_logged<L: Ledger>(
-    alloc: Global,
-    sys: &System,
-    table: &SiteTable,
-    seat: SiteSeat,
-    seen: Grid,
-    blank: Blank,
-) -> Result<(Part, ClaimLog), NoMemory>
-    requires blank { (blank.name ≡ L.name) × (blank.parts ≡ L.parts) × (0 < blank.parts) }
-    requires seat { IsSeatOf table.now seat }
-    requires system { table.now.sys ≡ sys.now }
-    requires area { seen.area ≡ sys.now.area }
-    requires seen { SamePlacements seat.scout.seen seen.tiles }
-    requires sole { seat.scout.owned ≡ 2 ^ 64 - 1 }
-    requires start { SamePlacements sys.now.seeds seen.tiles }
-    ensures grew { IfOk result (λ r.
-        PartedGrowth sys.now seat seen r.0.seat r.0.grid r.0.won []) }
-    ensures order { IfOk result (λ r. IsCanonical sys.now r.0.grid.tiles r.1.places) }
-{
-    let mut log = ClaimLog::make(alloc, sys)?;
-    let Ok(mut scout) = Scout::make(alloc, sys, seat, seen) else {
-        return Err(NoMemory);
-    };
-    let mut chooser = RngChooser::make(Lcg64Xsh32::new(0, 0));
-    let mut steps: Steps<L> = Steps::open(blank);
-    scout.sweep_in_order(sys, table, &mut chooser, &mut steps, &mut log);
-    let won = scout.won();
-    let (seat, grid) = scout.end();
-    Ok((Part { seat, grid, won }, log))
-}
-
-// One worker that owns all numbers claims from the seeds on, always the least open site, and logs
-// its claims. It picks the ledger.
-fn work_in_order<G: Gate>(
-    alloc: Global,
-    sys: &System,
-    table: &SiteTable,
-    seat: SiteSeat,
-    seen: Grid,
-    gate: &G,
-) -> Result<(Part, ClaimLog), NoMemory>
-    requires seat { IsSeatOf table.now seat }
-    requires system { table.now.sys ≡ sys.now }
-    requires area { seen.area ≡ sys.now.area }
-    requires seen { SamePlacements seat.scout.seen seen.tiles }
-    requires sole { seat.scout.owned ≡ 2 ^ 64 - 1 }
-    requires start { SamePlacements sys.now.seeds seen.tiles }
-    ensures grew { IfOk result (λ r.
-        PartedGrowth sys.now seat seen r.0.seat r.0.grid r.0.won []) }
-    ensures order { IfOk result (λ r. IsCanonical sys.now r.0.grid.tiles r.1.places) }
-{
-    gate.arrive(0);
-    sweep_logged::<Brand>(alloc, sys, table, seat, seen, Blank::new(1))
-}
-
 /// What `grow` leaves with one worker and the choice 0, and its canonical sequence, which is the
-/// order in which it grew: no pass has to order the tiles.
+/// order in which it grew: no pass has to order the tiles. A worker alone shares nothing, so no
+/// table is made. It calls the gate once, before its first tile.
 pub fn grow_in_order<G: Gate>(
     alloc: Global,
     sys: &System,
@@ -82,16 +22,10 @@ pub fn grow_in_order<G: Gate>(
     ensures growth { IfOk result (λ r. IsGrowth sys.now 1 r.0) }
     ensures order { IfOk result (λ r. IsCanonical sys.now r.0.grid.tiles r.1) }
 {
-    let mut seen = Grid::make(alloc, sys.area())?;
-    put_seeds(sys, &mut seen);
-    let (table, seat) = SiteTable::make(alloc, sys)?;
-    let (part, log) = work_in_order(alloc, sys, &table, seat, seen, gate)?;
-    let Part {
-        seat,
-        mut grid,
-        won: _,
-    } = part;
-    let _grown = grid.area();
-    grid.clear();
-    Ok((table.close(seat, grid), log.into_sequence()))
+    gate.arrive(0);
+    let mut chooser = RngChooser::make(Lcg64Xsh32::new(0, 0));
+    let (grid, order) = fill_least_first(alloc, sys, &mut chooser)?;
+    let _area = sys.area();
+    let won = grid.count() - sys.seeds().len() as u32;
+    Ok((Grown::by_one(grid, won), order))
 }

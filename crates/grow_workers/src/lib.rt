@@ -1,7 +1,6 @@
 //! Growth by workers, each with a seat of one table.
 #![tactic(auto)]
 
-mod alone;
 mod growth;
 mod in_order;
 mod member;

@@ -1,5 +1,5 @@
 -- What a seat has seen, and lists with the same placements.
-use Rattle.std.proofs.Common.{◌≡◌, ◌≤◌, List, All}
+use Rattle.std.proofs.Common.{◌≤◌, List}
 use Rattle.std.proofs.Math.Nat.{le_trans}
 use Rattle.std.proofs.lemmas.List.Elements.{All-map}
 use Rattle.atam.specs.declared.site.Site.{Site}

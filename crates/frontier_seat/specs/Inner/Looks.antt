@@ -1,12 +1,11 @@
 -- One look at a site, and the claim there.
-use Rattle.std.specs.Prelude.{◌≡◌, ℕ, ◌+◌, ◌-◌, ◌*◌, ◌^◌, ◌≤◌, ◌<◌, ◌⊎◌, List, [], ◌∷◌, ◌++◌, length, Bool, MatchBool, Option, MatchOption}
+use Rattle.std.specs.Prelude.{◌≡◌, ℕ, ◌+◌, ◌*◌, ◌≤◌, ◌<◌, List, [], ◌∷◌, ◌++◌, length, Bool, MatchBool, Option, MatchOption}
 use Rattle.atam.specs.declared.site.Site.{Site}
 use Rattle.atam.specs.declared.place.TypeId.{TypeId}
 use Rattle.atam.specs.declared.place.Place.{Place}
 use Rattle.atam.specs.TileSystem.{TileSystem}
 use Rattle.atam.specs.Placements.{SamePlacements, HasDistinctSites, tile_at}
-use Rattle.atam.specs.Growth.{IsCandidate, IsLegal}
-use Rattle.atam.specs.LeastFirst.{FillsLeast}
+use Rattle.atam.specs.Growth.{IsCandidate}
 use Rattle.assembly.specs.Cells.{cell_count, site_at}
 use Rattle.grow_core.specs.Steps.{place}
 use Rattle.number_set.specs.Numbers.{Numbers, IsIn, count_below}
@@ -32,8 +31,6 @@ pub record ClaimsAt (sys : TileSystem) (site : Site) (old new : Growing) : Type 
   pub tiles : (m : Site) → tile_at new.grid.tiles m ≡ tile_at (old.grid.tiles ++ place site tile ∷ []) m
   pub placements : SamePlacements (old.grid.tiles ++ place site tile ∷ []) new.grid.tiles
   pub count : length new.grid.tiles ≡ length old.grid.tiles + 1
-  -- who owns all numbers wins it
-  pub sole : old.seat.scout.owned ≡ 2 ^ 64 - 1 → IsCandidate sys old.grid.tiles site tile
 
 -- no type attaches at a site of the box but those with these numbers
 abbrev pub IsClosedBut : TileSystem → List Place → (ℕ → Type 0) → Type 0
@@ -71,18 +68,3 @@ pub record LooksAt (sys : TileSystem) (before after : Growing) (old new : Number
   pub closed : IsClosedBut sys after.grid.tiles (IsIn new)
   pub listed : AreEmptySites sys.area after.grid.tiles new
   pub work : (k : ℕ) → count_below new k + 4 * length before.grid.tiles ≤ count_below old k + 4 * length after.grid.tiles
-
--- a claim that is logged
-pub record ClaimsLogged (sys : TileSystem) (site : Site) (before after : Growing) (old new : List Place) : Type 0 where
-  pub claim : ClaimsAt sys site before after
-  pub logged : new ≡ old ++ place site claim.tile ∷ []
-
--- or nothing
-abbrev pub LogsClaim : TileSystem → Site → Growing → Growing → List Place → List Place → Type 0
-LogsClaim sys site before after old new = ClaimsLogged sys site before after old new ⊎ ((after ≡ before) × (new ≡ old))
-
--- The tiles are those of a sequence that is legal and fills the least open site of the box at each step.
-pub record GrewInOrder (sys : TileSystem) (tiles order : List Place) : Type 0 where
-  pub legal : IsLegal sys order
-  pub least : FillsLeast sys order
-  pub same : SamePlacements order tiles

@@ -1,4 +1,4 @@
-use Rattle.std.proofs.Common.{arith, ◌≡◌, ◌<◌, ◌/◌, ◌%◌, ◌∙◌, ap, sym, subst}
+use Rattle.std.proofs.Common.{arith, ◌<◌, ◌/◌, ◌%◌, ◌∙◌, ap, sym, subst}
 use Rattle.atam.specs.declared.area.BoxArea.{BoxArea}
 use Rattle.atam.specs.declared.place.TypeId.{TypeId}
 use Rattle.assembly.specs.Cells.{cell_count, site_at}

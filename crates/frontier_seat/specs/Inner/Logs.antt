@@ -1,4 +1,4 @@
--- The order in which a scout claims, where it always claims the least open site.
+-- The order in which tiles come.
 use Rattle.std.specs.Prelude.{ℕ, List}
 use Rattle.atam.specs.declared.place.Place.{Place}
 

@@ -1,4 +1,4 @@
-// The seeds, and what was claimed after them, in order.
+// The seeds, and the tiles that came after them, in order.
 ghost use Rattle.std.specs.Prelude.{◌≡◌, ◌<◌, ◌≤◌, ◌+◌, [], ◌∷◌, ◌++◌, length, IfOk};
 ghost use Rattle.assembly.specs.Cells.{cell_count};
 
@@ -7,25 +7,24 @@ use std::alloc::Global;
 use std::marker::Model;
 use tile_system::{NoMemory, Place, System};
 
-/// The seeds, and the tiles that were claimed after them, in their order: twelve bytes a site of the
-/// box.
+// The seeds, and the tiles that came after them, in their order: twelve bytes a site of the box.
 #[derive(Drop)]
-pub struct ClaimLog {
+pub(crate) struct PlaceLog {
     places: Vec<Place>,
 }
 
-impl Model for ClaimLog {
+impl Model for PlaceLog {
     ghost use Rattle.std.specs.Prelude.{vec_capacity};
-    ghost use Rattle.frontier_seat.specs.Orders.{RoomyPlaces};
+    ghost use Rattle.frontier_seat.specs.Inner.Logs.{RoomyPlaces};
 
     ghost Value = { RoomyPlaces };
 
     ghost view = { λ l. record { places = l.places.items; room = vec_capacity l.places } };
 }
 
-impl ClaimLog {
-    /// The seeds alone, with room for a tile more at each site of the box.
-    pub fn make(alloc: Global, sys: &System) -> Result<ClaimLog, NoMemory>
+impl PlaceLog {
+    // The seeds alone, with room for a tile more at each site of the box.
+    pub(crate) fn make(alloc: Global, sys: &System) -> Result<PlaceLog, NoMemory>
         ensures seeds { IfOk result (λ log. log.places ≡ sys.now.seeds) }
         ensures room { IfOk result
             (λ log. length sys.now.seeds + cell_count sys.now.area ≤ log.room) }
@@ -34,10 +33,10 @@ impl ClaimLog {
         let count = area.width() as usize * area.height() as usize;
         let mut places = Vec::from_slice(alloc, sys.seeds())?;
         places.reserve(count)?;
-        Ok(ClaimLog { places })
+        Ok(PlaceLog { places })
     }
 
-    // One claim more.
+    // One tile more.
     #[inline(always)]
     pub(crate) fn push(&mut self, place: Place)
         requires { length self.old.places < self.old.room }
@@ -47,8 +46,8 @@ impl ClaimLog {
         self.places.push_reserved(place);
     }
 
-    /// The seeds and claims as a sequence.
-    pub fn into_sequence(self) -> Sequence
+    // The tiles as a sequence.
+    pub(crate) fn into_sequence(self) -> Sequence
         ensures { result ≡ self.places }
     {
         Sequence::of_places(self.places)

@@ -1,0 +1,61 @@
+use Rattle.std.proofs.Common.{◌<◌, ◌∙◌, length, inl, inr, sym, subst, arith}
+use Rattle.atam.specs.declared.area.BoxArea.{BoxArea}
+use Rattle.atam.proofs.Count.{count_in_box}
+use Rattle.assembly.specs.Cells.{cell_count}
+use Rattle.number_set.specs.Numbers.{IsLeastOf}
+use Rattle.number_set.proofs.Counting.{count_below-removes}
+use Rattle.frontier_seat.specs.Inner.Listings.{IsSpot}
+use Rattle.frontier_seat.proofs.Listing.{closed_none}
+use Rattle.frontier_seat.proofs.Looked.{less_work}
+use Rattle.frontier_seat.proofs.Ordering.{few_logged, least_listed, order_more, order_stays}
+use Rattle.frontier_seat.proofs.in_order.fill_all.Goals as goal
+
+pub fill-requires-clause-room : goal.fill-requires-clause-room
+fill-requires-clause-room g c =
+    let sys = c.args.sys.now in
+    let inv = c.loop-number.invariant in
+    let valid = c.area-area.ensures.valid in
+    let few = few_logged sys c.loop-number.grid.tiles c.loop-number.log.places valid inv.filling.fits inv.order in
+    let some = valid.some_seed in
+    let room = inv.room in
+    let enough = c.requires.room in
+    omega (arith, few, some, room, enough)
+
+pub loop-number-smaller : goal.loop-number-smaller
+loop-number-smaller g c =
+    let sys = c.args.sys.now in
+    let n = cell_count sys.area in
+    let filling = c.fill.ensures.filling in
+    let within = subst (λ (a : BoxArea). c.in-Some.number < cell_count a) (c.loop-number.invariant.area ∙ c.requires.area) c.in-Some.ensures.within in
+    less_work n (length c.loop-number.grid.tiles) (length c.fill.new.grid.tiles) _ _ _
+    (count_in_box sys.area c.fill.new.grid.tiles filling.distinct filling.fits.sites)
+    (count_below-removes c.loop-number.work.numbers c.take_least.new.self.numbers c.in-Some.number n c.in-Some.ensures.removed c.in-Some.ensures.least.member within)
+    (c.fill.ensures.lists.work n)
+
+pub loop-number-preserved : goal.loop-number-preserved
+loop-number-preserved g c =
+    let sys = c.args.sys.now in
+    let inv = c.loop-number.invariant in
+    let before = c.loop-number.grid.tiles in
+    let after = c.fill.new.grid.tiles in
+    let old = c.loop-number.log.places in
+    let new = c.fill.new.log.places in
+    let numbers = c.loop-number.work.numbers in
+    let spot = c.spot-spot.result in
+    let is : IsSpot sys.area spot = subst (λ (a : BoxArea). IsSpot a spot) c.area-area.ensures.area c.spot-spot.ensures.spot in
+    let least : IsLeastOf numbers spot.number = subst (IsLeastOf numbers) (sym c.spot-spot.ensures.number) c.in-Some.ensures.least in
+    record {
+      filling = c.fill.ensures.filling;
+      picker = c.fill.ensures.picker;
+      area = c.fill.ensures.area ∙ (c.take_least.ensures.area ∙ inv.area);
+      row = c.spot-spot.ensures.row;
+      lists = c.fill.ensures.lists.lists;
+      order = elim c.fill.ensures.fills [
+        | inl fills ↦ order_more sys before after spot.site old new inv.filling.distinct (least_listed sys before numbers spot c.area-area.ensures.valid.box is inv.lists.all least) fills inv.order
+        | inr same ↦ order_stays sys before after old new same.0 same.1 inv.order
+      ];
+      room = c.fill.ensures.room ∙ inv.room;
+    }
+
+pub returns-clause-closed : goal.returns-clause-closed
+returns-clause-closed g c = closed_none c.args.sys.now c.loop-number.grid.tiles c.loop-number.work.numbers c.in_default.ensures.none c.loop-number.invariant.lists.all

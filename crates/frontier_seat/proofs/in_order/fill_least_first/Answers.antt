@@ -1,0 +1,25 @@
+use Rattle.std.proofs.Common.{◌∙◌, sym, subst}
+use Rattle.atam.specs.Assembly.{Fits}
+use Rattle.atam.specs.Canonical.{IsCanonical}
+use Rattle.atam.proofs.Opening.{Fits-part}
+use Rattle.frontier_seat.proofs.Ordering.{canonical_order, full_growth}
+use Rattle.frontier_seat.proofs.in_order.fill_least_first.Goals as goal
+
+pub fill_all-requires-clause-filling : goal.fill_all-requires-clause-filling
+fill_all-requires-clause-filling g c =
+    let sys = c.args.sys.now in
+    record {
+      area = c.put_seeds.ensures.area ∙ (c.in_ok-grid.ensures.area ∙ c.area-area.ensures.area);
+      distinct = c.area-grid.ensures.distinct;
+      fits = Fits-part sys c.put_seeds.new.grid.tiles sys.seeds c.put_seeds.ensures.placements.whole (subst (Fits sys) c.seeds-seeds.ensures.seeds c.seeds-seeds.ensures.fits);
+    }
+
+pub returns-clause-full : goal.returns-clause-full
+returns-clause-full g c = full_growth c.args.sys.now c.fill_all.new.grid c.fill_all.new.log.places c.fill_all.ensures.filling c.fill_all.ensures.closed c.fill_all.ensures.order
+
+pub returns-clause-order : goal.returns-clause-order
+returns-clause-order g c =
+    let sys = c.args.sys.now in
+    let tiles = c.fill_all.new.grid.tiles in
+    subst (IsCanonical sys tiles) (sym c.into_sequence.ensures)
+    (canonical_order sys tiles c.fill_all.new.log.places c.area-area.ensures.valid c.fill_all.ensures.filling.fits c.fill_all.ensures.order)

@@ -1,0 +1,50 @@
+-- Growth on a grid alone, at the least open site.
+use Rattle.std.specs.Prelude.{◌≡◌, ℕ, ◌+◌, ◌*◌, ◌≤◌, ◌<◌, ◌⊎◌, None, List, [], ◌∷◌, ◌++◌, length, Contains}
+use Rattle.atam.specs.declared.site.Side.{Side}
+use Rattle.atam.specs.declared.site.Site.{Site}
+use Rattle.atam.specs.declared.place.TypeId.{TypeId}
+use Rattle.atam.specs.declared.place.Place.{Place}
+use Rattle.atam.specs.declared.area.BoxArea.{BoxArea}
+use Rattle.atam.specs.Sites.{neighbor}
+use Rattle.atam.specs.TileSystem.{TileSystem}
+use Rattle.atam.specs.Placements.{SamePlacements, HasDistinctSites, tile_at}
+use Rattle.atam.specs.Assembly.{Fits}
+use Rattle.atam.specs.Growth.{IsCandidate, IsLegal}
+use Rattle.atam.specs.LeastFirst.{FillsLeast}
+use Rattle.assembly.specs.Cells.{cell_count, site_at}
+use Rattle.assembly.specs.Grids.{TileGrid}
+use Rattle.grow_core.specs.Steps.{place}
+use Rattle.number_set.specs.Numbers.{Numbers, IsIn, count_below}
+use Rattle.frontier_seat.specs.Inner.Looks.{ListsOpen}
+
+-- the grid is over the box, and its tiles are the system's
+pub record IsFilling (sys : TileSystem) (grid : TileGrid) : Type 0 where
+  pub area : grid.area ≡ sys.area
+  pub distinct : HasDistinctSites grid.tiles
+  pub fits : Fits sys grid.tiles
+
+-- the empty sites of the box beside these places are listed
+abbrev pub ListsBeside : BoxArea → List Place → Numbers → List Place → Type 0
+ListsBeside area tiles numbers places = (p : Place) (n : ℕ) (d : Side) → Contains places p → n < cell_count area → site_at area n ≡ neighbor p.site d → tile_at tiles (site_at area n) ≡ None → IsIn numbers n
+
+-- one look at a site that was listed: what may open is listed, and each new tile lists at most four sites
+pub record ListsOn (sys : TileSystem) (before after : List Place) (old new : Numbers) : Type 0 where
+  pub lists : ListsOpen sys after new
+  pub work : (k : ℕ) → count_below new k + 4 * length before ≤ count_below old k + 4 * length after
+
+-- a tile more, of a type that attached at its site, and it is logged
+pub record Fills (sys : TileSystem) (site : Site) (before after old new : List Place) : Type 0 where
+  pub tile : TypeId
+  pub grows : IsCandidate sys before site tile
+  pub placements : SamePlacements (before ++ place site tile ∷ []) after
+  pub logged : new ≡ old ++ place site tile ∷ []
+
+-- or nothing
+abbrev pub MayFill : TileSystem → Site → List Place → List Place → List Place → List Place → Type 0
+MayFill sys site before after old new = Fills sys site before after old new ⊎ ((after ≡ before) × (new ≡ old))
+
+-- The tiles are those of a sequence that is legal and fills the least open site of the box at each step.
+pub record GrewInOrder (sys : TileSystem) (tiles order : List Place) : Type 0 where
+  pub legal : IsLegal sys order
+  pub least : FillsLeast sys order
+  pub same : SamePlacements order tiles
