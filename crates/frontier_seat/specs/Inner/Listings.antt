@@ -1,14 +1,15 @@
 -- Sites that are to be looked at, by their numbers.
-use Rattle.std.specs.Prelude.{◌≡◌, ◌⊎◌, ℕ, ◌+◌, ◌≤◌, ◌<◌, List, Option, Some, None, MatchOption}
+use Rattle.std.specs.Prelude.{◌≡◌, ◌⊎◌, ℕ, ◌+◌, ◌*◌, ◌≤◌, ◌<◌, List, Option, Some, None, MatchOption}
 use Rattle.atam.specs.declared.site.Side.{Side}
 use Rattle.atam.specs.declared.site.Site.{Site}
 use Rattle.atam.specs.declared.place.TypeId.{TypeId}
 use Rattle.atam.specs.declared.place.Place.{Place}
 use Rattle.atam.specs.declared.area.BoxArea.{BoxArea}
-use Rattle.atam.specs.Sites.{neighbor, InBox}
+use Rattle.atam.specs.Sites.{neighbor, InBox, width_of, height_of}
 use Rattle.atam.specs.Placements.{tile_at}
 use Rattle.assembly.specs.Cells.{cell_count, site_at}
 use Rattle.number_set.specs.Numbers.{Numbers, IsIn, Removes, count_below}
+use Rattle.frontier_seat.specs.declared.work_list.Row.{Row}
 use Rattle.frontier_seat.specs.declared.work_list.Spot.{Spot}
 
 -- the numbers of sites of a box
@@ -21,6 +22,11 @@ pub record IsSpot (area : BoxArea) (spot : Spot) : Type 0 where
   pub within : spot.number < cell_count area
   pub site : site_at area spot.number ≡ spot.site
   pub inside : InBox area spot.site
+
+-- a row of a box, and the number of its first site
+pub record IsRow (area : BoxArea) (row : Row) : Type 0 where
+  pub below : row.index < height_of area
+  pub first : row.first ≡ row.index * width_of area
 
 -- the number of a site; none exactly where it is outside the box
 abbrev pub IsSpotBeside : BoxArea → Site → Option ℕ → Type 0
