@@ -29,16 +29,8 @@ pub enum Burst {
     Spent,
 }
 
-// Notes a site if it was won, where there is room left.
-#[inline(always)]
-fn note(wins: &mut Vec<u32>, is_won: bool, number: u32) {
-    if is_won && wins.len() < wins.capacity() {
-        wins.push_reserved(number);
-    }
-}
-
 // Looks at the sites that are listed, and at those beside each tile that comes, until so many
-// claims are made or no site is left. Sites that are won are noted.
+// claims are made or no site is left.
 pub(crate) fn spend<C: Chooser, L: Ledger>(
     sys: &System,
     table: &SiteTable,
@@ -47,7 +39,6 @@ pub(crate) fn spend<C: Chooser, L: Ledger>(
     picker: &mut Picker,
     work: &mut WorkList,
     most: u32,
-    wins: &mut Vec<u32>,
     steps: &mut Steps<L>,
 )
     requires seat { IsSeatOf table.now growing.old.seat }
@@ -75,10 +66,8 @@ pub(crate) fn spend<C: Chooser, L: Ledger>(
         let Some(spot) = work.take(chooser.start(count)) else {
             return;
         };
-        let won = growing.won;
         if look(sys, table, growing, chooser, picker, spot, work, steps) {
             left -= 1;
-            note(wins, growing.won > won, spot.number as u32);
         }
     }
 }

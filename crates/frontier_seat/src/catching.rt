@@ -1,20 +1,63 @@
 // Looks at sites where others may have placed tiles.
-ghost use Rattle.std.specs.Prelude.{◌≡◌, ◌<◌, All};
+ghost use Rattle.std.specs.Prelude.{◌≡◌, ◌<◌};
+ghost use Rattle.atam.specs.Sites.{height_of};
 ghost use Rattle.site_table.specs.Seats.{IsSeatOf};
-ghost use Rattle.number_set.specs.Numbers.{IsIn};
 ghost use Rattle.frontier_seat.specs.Growths.{IsGrowing, GrowsOn};
+ghost use Rattle.frontier_seat.specs.Inner.Listings.{IsSpot};
 ghost use Rattle.frontier_seat.specs.Inner.Looks.{CatchesUp, ListsOpen};
 
 use crate::Growing;
 use crate::work_list::{Spot, WorkList};
-use assembly::site_of_index;
 use site_table::SiteTable;
 use tile_system::System;
 
-// Looks at the site with this number, if it is one of the box and no tile was seen there. Where a tile stands, it is seen, and the empty
-// sites beside it are listed.
+// Looks at a site where no tile was seen. Where a tile stands, it is seen, and the empty sites
+// beside it are listed.
 #[inline(always)]
-fn see(sys: &System, table: &SiteTable, growing: &mut Growing, work: &mut WorkList, number: usize)
+fn see(sys: &System, table: &SiteTable, growing: &mut Growing, work: &mut WorkList, spot: Spot)
+    requires seat { IsSeatOf table.now growing.old.seat }
+    requires system { table.now.sys ≡ sys.now }
+    requires growing { IsGrowing sys.now growing.old }
+    requires area { work.old.area ≡ sys.now.area }
+    requires lists { ListsOpen sys.now growing.old.grid.tiles work.old.numbers }
+    requires spot { IsSpot sys.now.area spot }
+    ensures catches { CatchesUp sys.now growing.old growing.new work.new.numbers }
+    ensures area { work.new.area ≡ work.old.area }
+{
+    let _area = sys.area();
+    if let Some(_tile) = growing.grid.tile(spot.number) {
+        return;
+    }
+    if growing.see(sys, table, spot) {
+        work.drop_spot(spot);
+        let beside = growing.grid.beside_at(spot.site, spot.number);
+        work.list_around(&growing.grid, spot, &beside);
+    }
+}
+
+// The same at each site of one row.
+fn see_row(sys: &System, table: &SiteTable, growing: &mut Growing, work: &mut WorkList, row: u32)
+    requires seat { IsSeatOf table.now growing.old.seat }
+    requires system { table.now.sys ≡ sys.now }
+    requires growing { IsGrowing sys.now growing.old }
+    requires area { work.old.area ≡ sys.now.area }
+    requires lists { ListsOpen sys.now growing.old.grid.tiles work.old.numbers }
+    requires row { row < height_of sys.now.area }
+    ensures catches { CatchesUp sys.now growing.old growing.new work.new.numbers }
+    ensures area { work.new.area ≡ work.old.area }
+{
+    let area = sys.area();
+    let width = area.width();
+    let first = row as usize * width as usize;
+    for column in 0..width {
+        let site = area.site(column, row);
+        let number = first + column as usize;
+        see(sys, table, growing, work, Spot { site, number });
+    }
+}
+
+// The same in the rows beside the worker's bands.
+pub(crate) fn see_edges(sys: &System, table: &SiteTable, growing: &mut Growing, work: &mut WorkList)
     requires seat { IsSeatOf table.now growing.old.seat }
     requires system { table.now.sys ≡ sys.now }
     requires growing { IsGrowing sys.now growing.old }
@@ -24,38 +67,9 @@ fn see(sys: &System, table: &SiteTable, growing: &mut Growing, work: &mut WorkLi
     ensures area { work.new.area ≡ work.old.area }
 {
     let area = sys.area();
-    if number >= area.width() as usize * area.height() as usize {
-        return;
-    }
-    if let Some(_tile) = growing.grid.tile(number) {
-        return;
-    }
-    let site = site_of_index(&area, number);
-    let spot = Spot { site, number };
-    if growing.see(sys, table, spot) {
-        work.drop_site(number);
-        let beside = growing.grid.beside_at(site, number);
-        work.list_around(&growing.grid, spot, &beside);
-    }
-}
-
-// The same at each site with one of these numbers.
-pub(crate) fn see_all(
-    sys: &System,
-    table: &SiteTable,
-    growing: &mut Growing,
-    work: &mut WorkList,
-    numbers: &[u32],
-)
-    requires seat { IsSeatOf table.now growing.old.seat }
-    requires system { table.now.sys ≡ sys.now }
-    requires growing { IsGrowing sys.now growing.old }
-    requires area { work.old.area ≡ sys.now.area }
-    requires lists { ListsOpen sys.now growing.old.grid.tiles work.old.numbers }
-    ensures catches { CatchesUp sys.now growing.old growing.new work.new.numbers }
-    ensures area { work.new.area ≡ work.old.area }
-{
-    for number in numbers {
-        see(sys, table, growing, work, *number as usize);
+    for row in 0..area.height() {
+        if work.is_beside(row) {
+            see_row(sys, table, growing, work, row);
+        }
     }
 }

@@ -14,7 +14,7 @@ ghost use Rattle.frontier_seat.specs.Inner.Looks.{ClaimsAt, IsClosedBut, ListsOp
 ghost use Rattle.frontier_seat.specs.Inner.Pickers.{IsPickerOf};
 
 use crate::bursting::{is_open, spend};
-use crate::catching::see_all;
+use crate::catching::see_edges;
 use crate::picking::Picker;
 use crate::work_list::{Spot, WorkList};
 use crate::{Burst, Chooser, Growing};
@@ -29,7 +29,7 @@ use tile_system::System;
 // More claims than a box has sites.
 const MOST_CLAIMS: u32 = u32::MAX;
 
-/// A seat with the grid of what it has seen, an index of types, and room to work: with the grid, six
+/// A seat with the grid of what it has seen, an index of types, and room to work: with the grid, two
 /// bytes and a quarter a site.
 #[derive(Drop)]
 pub struct Scout {
@@ -37,7 +37,6 @@ pub struct Scout {
     picker: Picker,
     work: WorkList,
     listed: bool,
-    wins: Vec<u32>,
 }
 
 impl Model for Scout {
@@ -138,10 +137,6 @@ impl Scout {
         let Ok(work) = WorkList::make(alloc, area) else {
             return Err((seat, seen));
         };
-        let Ok(wins) = Vec::with_capacity(alloc, area.width() as usize * area.height() as usize)
-        else {
-            return Err((seat, seen));
-        };
         let growing = Growing {
             seat,
             grid: seen,
@@ -152,7 +147,6 @@ impl Scout {
             picker,
             work,
             listed: false,
-            wins,
         })
     }
 
@@ -197,10 +191,11 @@ impl Scout {
     }
 
     /// Claims as a sweep does, at most so many times, and says whether the box is closed then. Of
-    /// `of` workers that share the listed sites the one with the number `share` begins with its run
-    /// of them, goes on beside its own claims, and only then looks elsewhere; no clause says so. The
-    /// first time it looks at each site for those beside what was seen, and later at none: the sites
-    /// at which a type may attach stay listed. It takes no memory.
+    /// `of` workers that share the box, the one with the number `share` has every of-th band of 32
+    /// rows for its own. It looks at the listed sites of its bands first, and elsewhere only where
+    /// none is left; no clause says so. The first time it looks at each site for those beside what
+    /// was seen, and later at none: the sites at which a type may attach stay listed. It takes no
+    /// memory.
     pub fn burst<C: Chooser, L: Ledger>(
         &mut self,
         sys: &System,
@@ -228,7 +223,6 @@ impl Scout {
         let _area = sys.area();
         list(sys, &self.growing, self.listed, &mut self.work);
         self.listed = true;
-        self.wins.clear();
         self.work.cut(share, of);
         spend(
             sys,
@@ -238,7 +232,6 @@ impl Scout {
             &mut self.picker,
             &mut self.work,
             most,
-            &mut self.wins,
             steps,
         );
         let open = is_open(
@@ -248,29 +241,30 @@ impl Scout {
             &mut self.picker,
             &mut self.work,
         );
-        self.work.make_whole();
         let _owned = self.growing.seat.owned();
         if open { Burst::Spent } else { Burst::Quiet }
     }
 
-    /// The numbers of the sites that the last burst has won. They say where others may look, so no
-    /// clause says more of them.
-    pub fn wins(&self) -> &[u32] {
-        self.wins.as_slice()
+    /// Whether a site is listed in the bands of the last burst or of the last look at their edges. It
+    /// tells where a look or a burst saves time, so no clause says more of it.
+    pub fn has_own(&self) -> bool {
+        self.work.has_own()
     }
 
-    /// Looks at the sites with these numbers, but those where a tile was seen: what stands there is
-    /// seen then. Nothing is claimed.
-    pub fn catch_up(&mut self, sys: &System, table: &SiteTable, numbers: &[u32])
+    /// Looks at the empty sites of the rows just beside the bands of this worker (`burst`), where
+    /// other workers put tiles: what stands there is seen then. Nothing is claimed.
+    pub fn see_edges(&mut self, sys: &System, table: &SiteTable, share: u32, of: u32)
         requires seat { IsSeatOf table.now self.old.seat }
         requires system { table.now.sys ≡ sys.now }
+        requires share { share < of }
         ensures goes { GrowsOn self.old self.new }
         ensures seen { SamePlacements self.new.seat.scout.seen self.new.grid.tiles }
         ensures more { length self.old.grid.tiles ≤ length self.new.grid.tiles }
     {
         list(sys, &self.growing, self.listed, &mut self.work);
         self.listed = true;
-        see_all(sys, table, &mut self.growing, &mut self.work, numbers);
+        self.work.cut(share, of);
+        see_edges(sys, table, &mut self.growing, &mut self.work);
     }
 
     /// The seat, and what it has seen.

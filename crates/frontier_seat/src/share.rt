@@ -1,5 +1,5 @@
-// The listed sites at which one of several workers looks first.
-ghost use Rattle.std.specs.Prelude.{◌≡◌, ◌<◌, ℕ, IfOk, IfSome};
+// The part of a work list that a worker looks at first.
+ghost use Rattle.std.specs.Prelude.{◌≡◌, ◌<◌, ◌≤◌, ◌+◌, ◌*◌, ◌/◌, ℕ, IfOk};
 ghost use Rattle.number_set.specs.Numbers.{IsIn};
 
 use number_set::NumberSet;
@@ -7,120 +7,171 @@ use std::alloc::Global;
 use std::marker::Model;
 use tile_system::NoMemory;
 
-// How far behind the last site the next one is looked for: the site east of it waits, so that a
-// worker goes along its part of the frontier and not along a row.
-const STEP: usize = 2;
+// The rows of a band, the columns of a block of it, and the blocks of a band across the widest box.
+const BAND_ROWS: u32 = 32;
 
-// What one of several workers has for its own of a work list: sites by their numbers, and where it
-// goes on. It says what is looked at first, so contracts see its bound alone.
+const BLOCK_COLUMNS: u32 = 64;
+
+const BAND_BLOCKS: u32 = 16;
+
+// The sites of a block, and of a band across the widest box.
+const BLOCK_SITES: u32 = BAND_ROWS * BLOCK_COLUMNS;
+
+const BAND_SITES: u32 = BAND_BLOCKS * BLOCK_SITES;
+
+// The most bands of a box.
+const MOST_BANDS: u32 = 32;
+
+// What one of several workers has for its own of a work list: the listed sites in its bands of 32
+// rows. It goes through a band by blocks of 64 columns, and through a block by rows, so that its
+// claims lie together in memory. All this says is what is looked at first, so contracts see the
+// number of rows alone.
 #[derive(Drop)]
 pub(crate) struct Share {
-    first: NumberSet,
-    count: usize,
-    from: usize,
-    several: bool,
+    own: NumberSet,
+    rows: u32,
+    // A bit for each own band, and none where the worker has all sites.
+    bands: u32,
 }
 
 impl Model for Share {
-    ghost use Rattle.std.specs.Prelude.{◌≡◌, ◌<◌, ℕ};
+    ghost use Rattle.std.specs.Prelude.{◌≡◌, ◌≤◌, ◌+◌, ◌*◌, ◌/◌, ℕ};
 
     ghost Value = { ℕ };
 
-    ghost view = { λ s. s.count };
+    ghost view = { λ s. s.rows };
 
-    ghost invariant = { λ s. (s.first.bound ≡ s.count) × (s.from < s.count)
-        × (s.count < 4294967296) };
+    ghost invariant = { λ s. (s.own.bound ≡ (s.rows + 31) / 32 * 32768) × (s.rows ≤ 1024) };
 }
 
 impl Share {
-    // All sites are the worker's own: it works alone.
-    pub(crate) fn make(alloc: Global, count: u32) -> Result<Share, NoMemory>
-        requires { 0 < count }
-        ensures { IfOk result (λ share. share ≡ count) }
+    // No site of a box of so many rows. All are the worker's own: it works alone.
+    pub(crate) fn make(alloc: Global, rows: u32) -> Result<Share, NoMemory>
+        requires { rows ≤ 1024 }
+        ensures { IfOk result (λ share. share ≡ rows) }
     {
+        let places = (rows + (BAND_ROWS - 1)) / BAND_ROWS * BAND_SITES;
         Ok(Share {
-            first: NumberSet::make(alloc, count)?,
-            count: count as usize,
-            from: 0,
-            several: false,
+            own: NumberSet::make(alloc, places)?,
+            rows,
+            bands: 0,
         })
     }
 
+    // Whether the worker has no bands, but all sites.
     #[inline(always)]
     pub(crate) fn is_whole(&self) -> bool {
-        !self.several
+        self.bands == 0
     }
 
-    // From now on all sites are the worker's own.
-    pub(crate) fn make_whole(&mut self)
-        ensures { self.new ≡ self.old }
-    {
-        self.several = false;
-        self.from = 0;
-    }
-
-    // A site that is listed beside a claim is the worker's own.
+    // Whether a listed site is in the worker's bands.
     #[inline(always)]
-    pub(crate) fn add(&mut self, number: usize)
-        requires { number < self.old }
+    pub(crate) fn has_some(&self) -> bool {
+        self.own.least().is_some()
+    }
+
+    #[inline(always)]
+    fn owns(&self, row: u32) -> bool {
+        row < MOST_BANDS * BAND_ROWS && (self.bands >> (row / BAND_ROWS)) & 1 != 0
+    }
+
+    // Whether a row is beside the worker's bands, and in none of them.
+    pub(crate) fn is_beside(&self, row: u32) -> bool {
+        if row >= self.rows {
+            return false;
+        }
+        !self.owns(row) && (self.owns(row + 1) || row > 0 && self.owns(row - 1))
+    }
+
+    // A site that is listed is the worker's own where it is in one of its bands.
+    #[inline(always)]
+    pub(crate) fn add(&mut self, column: u32, row: u32)
+        requires column { column < 1024 }
+        requires row { row < self.old }
         ensures { self.new ≡ self.old }
     {
-        if self.several {
-            self.first.insert(number);
+        if self.owns(row) {
+            self.own.insert(place_of(column, row));
         }
     }
 
     // A site that is listed no longer.
     #[inline(always)]
-    pub(crate) fn leave(&mut self, number: usize)
-        requires { number < self.old }
+    pub(crate) fn leave(&mut self, column: u32, row: u32)
+        requires column { column < 1024 }
+        requires row { row < self.old }
         ensures { self.new ≡ self.old }
     {
-        if !self.several {
-            return;
+        if self.owns(row) {
+            self.own.remove(place_of(column, row));
         }
-        self.first.remove(number);
-        let next = number + STEP;
-        self.from = if next < self.count { next } else { 0 };
     }
 
-    // So many sites on from where the worker goes on.
+    // The column and row of the worker's first own site.
     #[inline(always)]
-    pub(crate) fn start(&self, ahead: u32) -> usize
-        requires { ahead < self.now }
-        ensures { result < self.now }
-    {
-        let at = self.from + ahead as usize;
-        if at < self.count { at } else { at - self.count }
+    pub(crate) fn first(&self) -> Option<(u32, u32)> {
+        let place = self.own.least()?;
+        Some(site_of(place as u32))
     }
 
-    // The least one of the worker's own at or after this one, else the least one.
-    #[inline(always)]
-    pub(crate) fn next(&self, from: usize) -> Option<usize>
-        requires { from < self.now }
-        ensures { IfSome result (λ n. n < self.now) }
+    // The same from the place of this site on, if there is one.
+    pub(crate) fn first_from(&self, column: u32, row: u32) -> Option<(u32, u32)>
+        requires column { column < 1024 }
+        requires row { row < self.now }
     {
-        if let Some(number) = self.first.least_from(from) {
-            return Some(number);
-        }
-        self.first.least()
+        let Some(place) = self.own.least_from(place_of(column, row)) else {
+            return self.first();
+        };
+        Some(site_of(place as u32))
     }
 
-    // Makes one of `of` equal runs of the listed sites, in their order, the worker's own.
-    pub(crate) fn cut(&mut self, listed: &NumberSet, share: u32, of: u32)
-        requires bound { listed.now.bound ≡ self.old }
-        requires share { share < of }
+    // Makes every of-th band the worker's own, or all sites where it is the only one. It tells
+    // whether other bands were its own before: then its listed sites are to be added anew.
+    pub(crate) fn deal(&mut self, share: u32, of: u32) -> bool
+        requires { share < of }
         ensures { self.new ≡ self.old }
     {
-        self.make_whole();
-        if of == 1 {
-            return;
+        let bands = if of == 1 { 0 } else { every(share, of) };
+        if bands == self.bands {
+            return false;
         }
-        empty(&mut self.first);
-        let length = count_listed(listed, self.count) / of as usize + 1;
-        self.from = take_run(&mut self.first, listed, self.count, share as usize, length);
-        self.several = true;
+        self.bands = bands;
+        empty(&mut self.own);
+        bands != 0
     }
+}
+
+// The place of a site in the order that a worker goes by.
+#[inline(always)]
+fn place_of(column: u32, row: u32) -> usize
+    requires column { column < 1024 }
+    requires row { row < 1024 }
+    ensures { result < (row / 32 + 1) * 32768 }
+{
+    let block = row / BAND_ROWS * BAND_BLOCKS + column / BLOCK_COLUMNS;
+    let within = row % BAND_ROWS * BLOCK_COLUMNS + column % BLOCK_COLUMNS;
+    (block * BLOCK_SITES + within) as usize
+}
+
+// The column and row of the site with this place.
+#[inline(always)]
+fn site_of(place: u32) -> (u32, u32) {
+    let column = place / BLOCK_SITES % BAND_BLOCKS * BLOCK_COLUMNS + place % BLOCK_COLUMNS;
+    let row = place / BAND_SITES * BAND_ROWS + place / BLOCK_COLUMNS % BAND_ROWS;
+    (column, row)
+}
+
+// A bit for every of-th band.
+fn every(share: u32, of: u32) -> u32
+    requires { share < of }
+{
+    let mut bands = 0;
+    for band in 0..MOST_BANDS {
+        if band % of == share {
+            bands = bands | 1 << band;
+        }
+    }
+    bands
 }
 
 // Takes out all numbers.
@@ -131,59 +182,4 @@ pub(crate) fn empty(numbers: &mut NumberSet)
     while let Some(number) = numbers.least() {
         numbers.remove(number);
     }
-}
-
-// Adds the run with this place among the runs of so many listed sites, and tells where it begins.
-fn take_run(
-    own: &mut NumberSet,
-    listed: &NumberSet,
-    bound: usize,
-    run: usize,
-    length: usize,
-) -> usize
-    requires own { own.old.bound ≡ bound }
-    requires listed { listed.now.bound ≡ bound }
-    requires some { 0 < bound }
-    requires small { bound < 4294967296 }
-    requires long { 0 < length }
-    ensures bound { own.new.bound ≡ bound }
-    ensures first { result < bound }
-{
-    let mut first = 0;
-    let mut rank = 0;
-    let mut at = 0;
-    while at < bound {
-        let Some(number) = listed.least_from(at) else {
-            return first;
-        };
-        at = number + 1;
-        if rank / length > run {
-            return first;
-        }
-        if rank / length == run {
-            own.insert(number);
-            if rank % length == 0 {
-                first = number;
-            }
-        }
-        rank += 1;
-    }
-    first
-}
-
-fn count_listed(listed: &NumberSet, bound: usize) -> usize
-    requires bound { listed.now.bound ≡ bound }
-    requires small { bound < 4294967296 }
-    ensures { result < 4294967296 }
-{
-    let mut count = 0;
-    let mut at = 0;
-    while at < bound {
-        let Some(number) = listed.least_from(at) else {
-            return count;
-        };
-        at = number + 1;
-        count += 1;
-    }
-    count
 }

@@ -1,14 +1,15 @@
 // The sites that are to be looked at.
-ghost use Rattle.std.specs.Prelude.{◌≡◌, ◌<◌, ◌+◌, ◌*◌, ℕ, IfOk, IfSome, IfNone};
-ghost use Rattle.atam.specs.Sites.{IsBox, IsNearSite, neighbor, width_of, height_of};
+ghost use Rattle.std.specs.Prelude.{◌≡◌, ◌<◌, ◌≤◌, ◌+◌, ◌*◌, ℕ, IfOk, IfSome, IfNone};
+ghost use Rattle.atam.specs.Sites.{InBox, IsBox, IsNearSite, neighbor, width_of, height_of};
 ghost use Rattle.atam.specs.Placements.{tile_at};
 ghost use Rattle.assembly.specs.Cells.{cell_count};
 ghost use Rattle.tile_system.specs.Neighbors.{StandBeside};
 ghost use Rattle.number_set.specs.Numbers.{Adds, IsIn, IsLeastOf, Removes};
 ghost use Rattle.frontier_seat.specs.Inner.Listings.{AreEmptySites, ListsAround, ListsFrontier, ListsFrontierTo, ListsSide, IsSpot, IsSpotBeside, TakesSpot};
 
+use crate::row::Row;
 use crate::share::Share;
-use assembly::{Grid, site_of_index};
+use assembly::Grid;
 use number_set::NumberSet;
 use std::alloc::Global;
 use std::marker::Model;
@@ -22,26 +23,29 @@ pub(crate) struct Spot {
 }
 
 // Sites of a box, each listed at most once, with room for all, and which of them are looked at
-// first: a quarter of a byte a site.
+// first: a quarter of a byte a site of the largest box. The row of the site that was looked at last
+// is kept, since the next one is mostly in it.
 #[derive(Drop)]
 pub(crate) struct WorkList {
     area: BoxArea,
     numbers: NumberSet,
     share: Share,
+    row: Row,
 }
 
 impl Model for WorkList {
     ghost use Rattle.std.specs.Prelude.{◌≡◌};
-    ghost use Rattle.atam.specs.Sites.{IsBox};
+    ghost use Rattle.atam.specs.Sites.{IsBox, height_of};
     ghost use Rattle.assembly.specs.Cells.{cell_count};
     ghost use Rattle.frontier_seat.specs.Inner.Listings.{ListedSites};
+    ghost use Rattle.frontier_seat.specs.Inner.Rows.{IsRow};
 
     ghost Value = { ListedSites };
 
     ghost view = { λ w. record { area = w.area; numbers = w.numbers } };
 
     ghost invariant = { λ w. IsBox w.area × (w.numbers.bound ≡ cell_count w.area)
-        × (w.share ≡ cell_count w.area) };
+        × (w.share ≡ height_of w.area) × IsRow w.area w.row };
 }
 
 impl WorkList {
@@ -55,7 +59,8 @@ impl WorkList {
         Ok(WorkList {
             area,
             numbers: NumberSet::make(alloc, count)?,
-            share: Share::make(alloc, count)?,
+            share: Share::make(alloc, area.height())?,
+            row: Row::least(&area),
         })
     }
 
@@ -67,25 +72,71 @@ impl WorkList {
         self.area.width() * self.area.height()
     }
 
-    // The number of the next site to look at: where several work, one of the worker's own, if any
-    // is left. It is looked for so many sites on.
+    // The site with this number.
     #[inline(always)]
-    fn next(&self, ahead: u32) -> Option<usize>
-        requires { ahead < cell_count self.now.area }
-        ensures within { IfSome result (λ n. n < cell_count self.now.area) }
-        ensures listed { IfSome result (IsIn self.now.numbers) }
-        ensures none { IfNone result ((n : ℕ) → ¬ IsIn self.now.numbers n) }
+    fn spot_of(&mut self, number: usize) -> Spot
+        requires { number < cell_count self.old.area }
+        ensures same { self.new ≡ self.old }
+        ensures number { result.number ≡ number }
+        ensures spot { IsSpot self.old.area result }
     {
-        if self.share.is_whole() {
-            return self.next_from(ahead as usize);
+        let area = self.area;
+        self.row.spot(&area, number)
+    }
+
+    // The column and row of the next of the worker's own sites, which is looked for from the site
+    // with this number on.
+    #[inline(always)]
+    fn own_from(&mut self, from: u32) -> Option<(u32, u32)>
+        requires { from < cell_count self.old.area }
+        ensures { self.new ≡ self.old }
+    {
+        if from == 0 {
+            return self.share.first();
         }
-        let from = self.share.start(ahead);
-        if let Some(number) = self.share.next(from) {
-            if self.numbers.contains(number) {
-                return Some(number);
+        let spot = self.spot_of(from as usize);
+        let (column, row) = column_and_row(&self.area, spot.site);
+        self.share.first_from(column, row)
+    }
+
+    // The next of the worker's own sites, if any is left.
+    #[inline(always)]
+    fn next_own(&mut self, from: u32) -> Option<Spot>
+        requires { from < cell_count self.old.area }
+        ensures same { self.new ≡ self.old }
+        ensures spot { IfSome result (IsSpot self.old.area) }
+        ensures listed { IfSome result (λ spot. IsIn self.old.numbers spot.number) }
+    {
+        let (column, row) = self.own_from(from)?;
+        let width = self.area.width();
+        if column >= width || row >= self.area.height() {
+            return None;
+        }
+        let number = row as usize * width as usize + column as usize;
+        if !self.numbers.contains(number) {
+            return None;
+        }
+        let site = self.area.site(column, row);
+        Some(Spot { site, number })
+    }
+
+    // The next site to look at: where several work, one of the worker's own, if any is left. It is
+    // looked for from the site with this number on.
+    #[inline(always)]
+    fn next(&mut self, from: u32) -> Option<Spot>
+        requires { from < cell_count self.old.area }
+        ensures same { self.new ≡ self.old }
+        ensures spot { IfSome result (IsSpot self.old.area) }
+        ensures listed { IfSome result (λ spot. IsIn self.old.numbers spot.number) }
+        ensures none { IfNone result ((n : ℕ) → ¬ IsIn self.old.numbers n) }
+    {
+        if !self.share.is_whole() {
+            if let Some(spot) = self.next_own(from) {
+                return Some(spot);
             }
         }
-        self.next_from(from)
+        let number = self.next_from(from as usize)?;
+        Some(self.spot_of(number))
     }
 
     // The number of the least site that is listed at or after this one, else of the least one.
@@ -104,21 +155,19 @@ impl WorkList {
         self.numbers.least()
     }
 
-    // Takes the next site to look at, which is looked for so many sites on.
+    // Takes the next site to look at, which is looked for from the site with this number on.
     #[inline(always)]
-    pub(crate) fn take(&mut self, ahead: u32) -> Option<Spot>
-        requires { ahead < cell_count self.old.area }
+    pub(crate) fn take(&mut self, from: u32) -> Option<Spot>
+        requires { from < cell_count self.old.area }
         ensures area { self.new.area ≡ self.old.area }
         ensures takes { IfSome result
             (TakesSpot self.old.area self.old.numbers self.new.numbers) }
         ensures none { IfNone result ((n : ℕ) → ¬ IsIn self.old.numbers n) }
         ensures same { IfNone result (self.new ≡ self.old) }
     {
-        let number = self.next(ahead)?;
-        self.numbers.remove(number);
-        self.share.leave(number);
-        let site = site_of_index(&self.area, number);
-        Some(Spot { site, number })
+        let spot = self.next(from)?;
+        self.drop_spot(spot);
+        Some(spot)
     }
 
     // Lists a site that was taken.
@@ -128,31 +177,74 @@ impl WorkList {
         ensures adds { Adds self.old.numbers self.new.numbers spot.number }
     {
         self.numbers.insert(spot.number);
+        self.add_own(spot.site);
     }
 
     // A site that is to be looked at no longer.
     #[inline(always)]
-    pub(crate) fn drop_site(&mut self, number: usize)
-        requires { number < cell_count self.old.area }
+    pub(crate) fn drop_spot(&mut self, spot: Spot)
+        requires { IsSpot self.old.area spot }
         ensures area { self.new.area ≡ self.old.area }
-        ensures removes { Removes self.old.numbers self.new.numbers number }
+        ensures removes { Removes self.old.numbers self.new.numbers spot.number }
     {
-        self.numbers.remove(number);
+        self.numbers.remove(spot.number);
+        self.leave_own(spot.site);
     }
 
-    // Makes one of `of` equal runs of the listed sites the worker's own.
+    // A listed site of the worker's bands is its own.
+    #[inline(always)]
+    fn add_own(&mut self, site: Site)
+        requires { InBox self.old.area site }
+        ensures { self.new ≡ self.old }
+    {
+        let (column, row) = column_and_row(&self.area, site);
+        self.share.add(column, row);
+    }
+
+    // A site that is listed no longer is not.
+    #[inline(always)]
+    fn leave_own(&mut self, site: Site)
+        requires { InBox self.old.area site }
+        ensures { self.new ≡ self.old }
+    {
+        let (column, row) = column_and_row(&self.area, site);
+        self.share.leave(column, row);
+    }
+
+    // Makes every of-th band of rows the worker's own.
     pub(crate) fn cut(&mut self, share: u32, of: u32)
         requires { share < of }
         ensures { self.new ≡ self.old }
     {
-        self.share.cut(&self.numbers, share, of);
+        if self.share.deal(share, of) {
+            self.add_listed();
+        }
     }
 
-    // From now on all sites are the worker's own.
-    pub(crate) fn make_whole(&mut self)
+    // The listed sites of its bands are the worker's own.
+    fn add_listed(&mut self)
         ensures { self.new ≡ self.old }
     {
-        self.share.make_whole();
+        let count = self.count() as usize;
+        let mut at = 0;
+        while at < count {
+            let Some(number) = self.numbers.least_from(at) else {
+                return;
+            };
+            let spot = self.spot_of(number);
+            self.add_own(spot.site);
+            at = number + 1;
+        }
+    }
+
+    // Whether a listed site is the worker's own.
+    pub(crate) fn has_own(&self) -> bool {
+        self.share.has_some()
+    }
+
+    // Whether a row is beside the worker's bands, and in none of them.
+    pub(crate) fn is_beside(&self, row: u32) -> bool {
+        self.share.is_beside(row)
     }
 
     // Takes the number of the least site that is listed.
@@ -170,6 +262,7 @@ impl WorkList {
     // Lists the site on one side, if it is in the box and no tile is there.
     #[inline(always)]
     fn list_side(&mut self, spot: Spot, side: Side, there: Option<TypeId>)
+        requires near { IsNearSite spot.site }
         requires spot { IsSpot self.old.area spot }
         ensures area { self.new.area ≡ self.old.area }
         ensures lists { ListsSide self.old.area (neighbor spot.site side) there
@@ -180,7 +273,7 @@ impl WorkList {
         }
         if let Some(number) = number_beside(&self.area, spot, side) {
             self.numbers.insert(number);
-            self.share.add(number);
+            self.add_own(spot.site.step(side));
         }
     }
 
@@ -256,6 +349,17 @@ impl WorkList {
             self.list_row(grid, row);
         }
     }
+}
+
+// The column and row of a site of the box.
+#[inline(always)]
+fn column_and_row(area: &BoxArea, site: Site) -> (u32, u32)
+    requires limits { IsBox area.now }
+    requires inside { InBox area.now site }
+    ensures column { result.0 < 1024 }
+    ensures row { result.1 < height_of area.now }
+{
+    ((site.x - area.x0) as u32, (site.y - area.y0) as u32)
 }
 
 // The number of the site on one side, if it is in the box.

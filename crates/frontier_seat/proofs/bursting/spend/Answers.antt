@@ -1,7 +1,6 @@
 use Rattle.std.proofs.Common.{◌≡◌, ◌<◌, ◌∙◌, Bool, MatchBool, length, ap, subst, arith}
 use Rattle.atam.specs.declared.area.BoxArea.{BoxArea}
 use Rattle.assembly.specs.Cells.{cell_count}
-use Rattle.assembly.proofs.Cells.{cell_count-most}
 use Rattle.number_set.proofs.Counting.{count_below-removes}
 use Rattle.frontier_seat.specs.declared.growing.Growing.{Growing}
 use Rattle.frontier_seat.specs.Inner.Listings.{TakesSpot}
@@ -19,12 +18,6 @@ loop-left-init g c = record {
   made = omega arith;
   cost = omega arith;
 }
-
-pub overflow_cast-spot : goal.overflow_cast-spot
-overflow_cast-spot g c =
-    let within = subst (λ (a : BoxArea). c.in-Some.spot.number < cell_count a) (c.loop-left.invariant.area ∙ c.requires.area) c.in-Some.ensures.takes.spot.within in
-    let most = cell_count-most c.args.sys.now.area c.area-area.ensures.valid.box in
-    omega (arith, within, most)
 
 pub loop-left-smaller-then-look : goal.loop-left-smaller-then-look
 loop-left-smaller-then-look g c =

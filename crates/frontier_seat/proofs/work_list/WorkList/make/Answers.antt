@@ -1,13 +1,17 @@
-use Rattle.std.proofs.Common.{◌<◌, arith}
+use Rattle.std.proofs.Common.{◌<◌, ◌*◌, ◌∙◌, arith}
 use Rattle.std.proofs.lemmas.Int.{ints}
-use Rattle.std.proofs.Math.Nat.{mul-pos}
+use Rattle.atam.specs.Sites.{height_of}
 use Rattle.frontier_seat.proofs.work_list.WorkList.make.Goals as goal
 
 pub make-requires-2 : goal.make-requires-2
 make-requires-2 c =
-    let columns = c.requires.corners.columns in
     let rows = c.requires.corners.rows in
-    let wide : 0 < c.width.result = let width = c.width.ensures in omega (arith, ints, columns, width) in
-    let high : 0 < c.height.result = let height = c.height.ensures in omega (arith, ints, rows, height) in
-    let some = mul-pos {m = c.width.result} {n = c.height.result} wide high in
-    omega (arith, some)
+    let limit = c.requires.height in
+    let height = c.height-2.ensures in
+    omega (arith, ints, rows, limit, height)
+
+pub invariant_of-result : goal.invariant_of-result
+invariant_of-result c =
+    let wide = c.width.ensures in
+    let high = c.height.ensures in
+    (c.requires, c.in_ok-make.ensures.bound ∙ (λ k. wide k * high k), c.in_ok-make-2.ensures ∙ c.height-2.ensures, c.least.ensures)

@@ -1,0 +1,15 @@
+use Rattle.std.proofs.Common.{◌∙◌}
+use Rattle.frontier_seat.proofs.Looked.{caught_more}
+use Rattle.frontier_seat.proofs.catching.see_edges.Goals.{then-is_beside, else-is_beside}
+use Rattle.frontier_seat.proofs.catching.see_edges.Goals as goal
+
+pub loop-row-preserved : goal.loop-row-preserved
+loop-row-preserved c =
+    let inv = c.loop-row.invariant in
+    elim c.if-is_beside.branch [
+      | then-is_beside w ↦ rw (w.growing-is, w.work-is) (record {
+        catches = caught_more c.args.sys.now c.args.growing.now c.loop-row.growing w.see_row.new.growing c.loop-row.work.numbers w.see_row.new.work.numbers inv.catches w.see_row.ensures.catches;
+        area = w.see_row.ensures.area ∙ inv.area;
+      })
+      | else-is_beside w ↦ rw (w.growing-is, w.work-is) inv
+    ]
