@@ -82,6 +82,7 @@ fn fill<C: Chooser>(
 
 // Looks at the empty sites beside the seeds, and at those beside each tile that comes, always at
 // the least one.
+#[inline(never)]
 fn fill_all<C: Chooser>(
     sys: &System,
     grid: &mut Grid,

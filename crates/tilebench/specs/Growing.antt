@@ -5,7 +5,7 @@ use Rattle.site_table.specs.Seats.{GrownValue}
 use Rattle.grow_workers.specs.Workers.{IsGrowth}
 use Rattle.tilebench.specs.Inputs.{IsSystemAlone}
 
--- The input is the text of one system, which so many workers grew on a table. The closed table is handed out, and this is told of it.
+-- The input is the text of one system, which so many workers grew. What it grew into is handed out, and this is told of it.
 pub record TellsGrowth (Tells : TileSystem → GrownValue → Bool → List ℕ → Type 0) (workers : ℕ) (grown : Option GrownValue) (input : List ℕ) (is_yes : Bool) (text : List ℕ) : Type 0 where
   pub sys : TileSystem
   pub read : IsSystemAlone input sys

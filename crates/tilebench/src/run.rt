@@ -68,8 +68,8 @@ fn plain_answer<C: Room>(
     }
 }
 
-/// Reads the input, grows its system with so many workers on a table, and writes what the command
-/// tells of the growth, or the refusal.
+/// Reads the input, grows its system with so many workers, and writes what the command tells of the
+/// growth, or the refusal.
 pub fn run_growth<R: Threads + Sync, C: GrowthRoom, S: Source, K: Sink, E: Sink, G: Gate>(
     rt: &R,
     alloc: Global,

@@ -44,7 +44,6 @@ impl Status {
 #[derive(Drop)]
 pub struct Ran {
     pub status: Status,
-    /// The closed table on which the system was grown, where the answer of a command that grows was
-    /// printed.
+    /// What the system grew into, where the answer of a command that grows was printed.
     pub grown: Option<Grown>,
 }

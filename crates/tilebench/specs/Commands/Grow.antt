@@ -25,7 +25,7 @@ pub record IsGrowth (sys : TileSystem) (tiles : List Place) (outcome : Outcome) 
   pub outcome_is : IsOutcome sys tiles outcome
   pub ordered : IsWholeOrder sys tiles outcome.order
 
--- this is the text of what the system grew into, which are the tiles of the closed table
+-- this is the text of what the system grew into, which are the tiles that are handed out
 pub record IsGrowthText (sys : TileSystem) (table : GrownValue) (is_yes : Bool) (text : List ℕ) : Type 0 where
   pub outcome : Outcome
   pub grown : IsGrowth sys table.grid.tiles outcome

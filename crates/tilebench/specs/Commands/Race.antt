@@ -26,7 +26,7 @@ total_line total = line_of (codes "total" ∷ decimal total ∷ [])
 abbrev pub race_text : List Win → ℕ → List ℕ
 race_text wins total = flat_map win_line wins ++ total_line total
 
--- each worker in turn, with what it won, which is its count of the closed table; together they won the tiles but for the seeds
+-- each worker in turn, with what it won, which is its count of what grew; together they won the tiles but for the seeds
 pub record AreShares (workers : ℕ) (sys : TileSystem) (table : GrownValue) (wins : List Win) : Type 0 where
   pub won : AreWins workers table.won wins
   pub all : sum_by (λ win. win.count) wins + length sys.seeds ≡ length table.grid.tiles

@@ -13,7 +13,7 @@ use Rattle.tilebench.specs.Commands.Race.{AreShares}
 abbrev pub report_of : TileSystem → ℕ → Outcome → List Win → List ℕ
 report_of sys tiles outcome wins = line_of (report_line sys tiles (map (λ win. win.count) wins) (is_some outcome.outside) (is_unique outcome.verdict) ∷ [])
 
--- this reports what the system grew into, which are the tiles of the closed table, and what each worker won of them
+-- this reports what the system grew into, which are the tiles that are handed out, and what each worker won of them
 pub record IsReportText (workers : ℕ) (sys : TileSystem) (table : GrownValue) (is_yes : Bool) (text : List ℕ) : Type 0 where
   pub outcome : Outcome
   pub grown : IsGrowth sys table.grid.tiles outcome
