@@ -92,13 +92,14 @@ impl Findings {
         requires fits { Fits sys.now whole.now.tiles }
         requires kind { IsType sys.now place.tile }
         requires inside { InBox whole.now.area place.site }
-        ensures finding { IsFinding sys.now whole.now.tiles place.site place.tile before.now result }
+        ensures finding { IsFinding sys.now whole.now.tiles place.site place.tile
+            before.now result }
         ensures known { ArePlaceFindings sys.now self.new }
     {
         let Place { site, tile } = place;
         let key = key_inside(sys, types, whole, site);
         let last = &self.last[tile.0 as usize];
-        if last.key == key && last.before.is(before) {
+        if last.key == key && last.before.is_same(before) {
             return last.finding;
         }
         self.find(sys, types, whole, site, tile, *before, key);

@@ -66,7 +66,7 @@ impl SideSet {
 
     // Whether the other set has the same sides. It is one comparison of two numbers.
     #[inline(always)]
-    pub(crate) fn is(&self, other: &SideSet) -> bool
+    pub(crate) fn is_same(&self, other: &SideSet) -> bool
         ensures { IsTrue result → self.now ≡ other.now }
     {
         self.number() == other.number()

@@ -64,8 +64,8 @@ pub fn read_sequence_once(
     Ok(reader.places)
 }
 
-/// Reads a growth text to the end of the input, as a grid over the system's box. The places have to differ in their sites.
-/// Their sequence is kept beside the grid until the end.
+/// Reads a growth text to the end of the input, as a grid over the system's box. The places have to
+/// differ in their sites. Their sequence is kept beside the grid until the end.
 pub fn read_grid(alloc: Global, sys: &System, text: &[u8], from: Mark) -> Result<Grid, TextStop>
     requires short { length text.now ≤ MOST_INPUT }
     requires mark { IsMark text.now from }
@@ -102,7 +102,8 @@ pub fn read_grid_once(
     Ok(grid)
 }
 
-// What was read so far: the places, the keyword of the last line, and where sites have to differ a grid of the same places.
+// What was read so far: the places, the keyword of the last line, and where sites have to differ a
+// grid of the same places.
 #[derive(Drop)]
 struct GrowthReader<'a> {
     system: &'a System,

@@ -1,6 +1,8 @@
 -- Cursors along the list of the types that have a glue on a side.
-use Rattle.std.proofs.Common.{◌≡◌, ◌≢◌, ℕ, ◌+◌, ◌<◌, ◌≤◌, [], length, sym, refl, subst, ap, ◌∙◌, arith, tests, Option, Some, None, IfSome, zero-le}
+use Rattle.std.proofs.Common.{◌≡◌, ◌≢◌, ℕ, ◌+◌, ◌<◌, ◌≤◌, [], length, sym, refl, subst, ap, ◌∙◌, inl, inr, arith, tests, Option, Some, None, IfSome, zero-le}
 use Rattle.std.specs.Prelude.{slice_index}
+use Rattle.std.proofs.Math.Nat.{le_refl}
+use Rattle.std.proofs.lemmas.Bool.{cases_eq}
 use Rattle.std.proofs.lemmas.Option.{none-some}
 use Rattle.atam.specs.declared.limits.TheConstants.{MOST_STRENGTH}
 use Rattle.atam.specs.declared.site.Side.{Side}
@@ -25,6 +27,19 @@ between_unlike sys g h unpaired unlike = grind (arith, tests)
 unlike : (sys : TileSystem) (own : Option GlueId) (g : GlueId) → sys.pairs ≡ [] → own ≢ Some g → interaction sys own (Some g) ≡ 0
 unlike sys None g unpaired apart = refl
 unlike sys (Some h) g unpaired apart = between_unlike sys h g unpaired (λ same. apart (ap (λ k. let glue : GlueId = record { 0 = k } in Some glue) same))
+
+-- a glue interacts with none more strongly than with itself
+pub most_itself : (sys : TileSystem) (own glue : Option GlueId) → sys.pairs ≡ [] → interaction sys own glue ≤ interaction sys glue glue
+most_itself sys own None unpaired = let none = interaction-none sys own in omega (arith, none)
+most_itself sys None (Some g) unpaired = zero-le
+most_itself sys (Some h) (Some g) unpaired = elim (cases_eq h.0 g.0) [
+  | inl same ↦
+      let Least : ℕ → Type 0 = λ k. (let o : GlueId = record { 0 = k } in interaction sys (Some o) (Some g)) ≤ interaction sys (Some g) (Some g) in
+      subst Least (sym same) (le_refl _)
+  | inr apart ↦
+      let none = between_unlike sys h g unpaired apart in
+      omega (arith, none)
+]
 
 module _ (sys : TileSystem) (d : Side) (valid : IsValid sys) where
   -- the next type with the glue

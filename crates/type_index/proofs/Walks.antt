@@ -1,18 +1,19 @@
 -- Walks along the types that interact with the glues that face a site.
-use Rattle.std.proofs.Common.{◌≡◌, ◌≢◌, ℕ, ◌+◌, ◌<◌, ◌≤◌, length, sym, subst, ap, ◌∙◌, inl, inr, arith, tests, Option}
+use Rattle.std.proofs.Common.{◌≡◌, ◌≢◌, ℕ, ◌+◌, ◌<◌, ◌≤◌, [], length, sym, subst, ap, ◌∙◌, inl, inr, arith, tests, Option}
 use Rattle.std.proofs.lemmas.Bool.{cases_eq, cases_lt}
 use Rattle.atam.specs.declared.site.Side.{Side}
 use Rattle.atam.specs.declared.site.Side.TheVariants.{North, East, South, West}
 use Rattle.atam.specs.declared.place.GlueId.{GlueId}
 use Rattle.atam.specs.declared.place.TypeId.{TypeId}
-use Rattle.atam.specs.TileSystem.{TileSystem, IsType, side_glue}
+use Rattle.atam.specs.TileSystem.{TileSystem, IsType, IsValid, side_glue}
 use Rattle.atam.specs.Assembly.{interaction}
 use Rattle.attach_rule.specs.declared.facing.FacingGlues.{FacingGlues}
 use Rattle.attach_rule.specs.Facing.{facing_pull}
 use Rattle.type_index.specs.declared.cursor.Cursor.{Cursor}
 use Rattle.type_index.specs.declared.cursor.Walk.{Walk}
-use Rattle.type_index.specs.Inner.Cursors.{IsCursor, IsWalk, strength_at, least_of, pull_at}
+use Rattle.type_index.specs.Inner.Cursors.{IsCursor, IsWalk, strength_at, least_of, pull_at, most_of}
 use Rattle.type_index.specs.HeldTypes.{IsHeld, IsNextHeld}
+use Rattle.type_index.proofs.Cursors.{most_itself}
 
 strength_here : (cursor : Cursor) (index : ℕ) → cursor.at ≡ index → strength_at cursor index ≡ cursor.strength
 strength_here cursor index at = grind (arith, tests)
@@ -31,6 +32,20 @@ strength_is sys d glue from cursor t is later until kind =
           let same : side_glue sys t d ≡ glue = subst Side_is here meets.same in
           strength_here cursor t.0 here ∙ meets.strength ∙ ap (λ own. interaction sys own glue) (sym same)
       | inr apart ↦ strength_apart cursor t.0 apart ∙ sym (is.none_between t later (omega arith))
+    ]
+
+-- the glue that faces a side interacts with no type more strongly than the cursor tells
+most_one : (sys : TileSystem) (d : Side) (glue : Option GlueId) (from : ℕ) (cursor : Cursor) (t : TypeId) → sys.pairs ≡ [] → IsCursor sys d glue from cursor →
+    from ≤ t.0 → IsType sys t → interaction sys (side_glue sys t d) glue ≤ cursor.strength
+most_one sys d glue from cursor t unpaired is later kind =
+    elim (cases_lt t.0 cursor.at) [
+      | inl below ↦
+          let none = is.none_between t later below in
+          omega (arith, none)
+      | inr past ↦
+          let meets = is.here (omega (arith, kind, past)) in
+          let most = most_itself sys (side_glue sys t d) glue unpaired in
+          omega (arith, most, meets.strength)
     ]
 
 cursor_on : (sys : TileSystem) (d : Side) (glue : Option GlueId) (from to : ℕ) (cursor : Cursor) → IsCursor sys d glue from cursor → from ≤ to → to ≤ cursor.at → IsCursor sys d glue to cursor
@@ -69,6 +84,15 @@ module _ (sys : TileSystem) (glues : FacingGlues) (walk : Walk) (is : IsWalk sys
       let south = strength_is sys South glues.south walk.from walk.south t is.south (omega (arith, least, least_after)) (omega arith) kind in
       let west = strength_is sys West glues.west walk.from walk.west t is.west (omega (arith, least, least_after)) (omega arith) kind in
       cc
+
+  -- none is held where the strengths that the cursors tell are less than the temperature together
+  pub none_strong : IsValid sys → most_of walk < sys.tau → (t : TypeId) → walk.from ≤ t.0 → ¬ IsHeld sys glues t
+  none_strong valid weak t later held =
+      let north = most_one sys North glues.north walk.from walk.north t valid.no_pairs is.north later held.kind in
+      let east = most_one sys East glues.east walk.from walk.east t valid.no_pairs is.east later held.kind in
+      let south = most_one sys South glues.south walk.from walk.south t valid.no_pairs is.south later held.kind in
+      let west = most_one sys West glues.west walk.from walk.west t valid.no_pairs is.west later held.kind in
+      omega (arith, north, east, south, west, held.held, weak)
 
   -- nothing interacts before it
   pub walk_at_least : (index : ℕ) → index ≡ least_of walk → IsWalk sys glues (record { from = index; north = walk.north; east = walk.east; south = walk.south; west = walk.west })

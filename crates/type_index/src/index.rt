@@ -87,7 +87,8 @@ impl TypeIndex {
         requires within { index < length sys.now.types }
         requires small { index < 2 ^ 32 }
         ensures from { result.from ≡ index + 1 }
-        ensures walk { (glues : FacingGlues) → IsWalk sys.now glues (record walk.now { from = index })
+        ensures walk { (glues : FacingGlues)
+            → IsWalk sys.now glues (record walk.now { from = index })
             → IsWalk sys.now glues result }
     {
         Walk {

@@ -77,7 +77,8 @@ impl SideLists {
         requires some { 0 < length self.now.codes }
         requires known { IfSome tile (λ t. t.0 + 1 < length self.now.codes) }
         requires small { IfSome tile (λ t. t.0 < 65536) }
-        ensures code { (sys : TileSystem) (d : Side) → AreListsOf sys d self.now → IfSome tile (IsType sys)
+        ensures code { (sys : TileSystem) (d : Side) → AreListsOf sys d self.now
+            → IfSome tile (IsType sys)
             → result ≡ code_of (option_and_then (λ t. side_glue sys t d) tile) }
         ensures small { result < 65536 }
     {
@@ -116,7 +117,8 @@ impl SideLists {
     pub(crate) fn past(&self, cursor: Cursor, index: usize) -> Cursor
         requires { index < length self.now.next }
         ensures { (sys : TileSystem) (d : Side) (glue : Option GlueId) → IsValid sys
-            → AreListsOf sys d self.now → IsCursor sys d glue index cursor → IsCursor sys d glue (index + 1) result }
+            → AreListsOf sys d self.now → IsCursor sys d glue index cursor
+            → IsCursor sys d glue (index + 1) result }
     {
         if cursor.at == index {
             Cursor {

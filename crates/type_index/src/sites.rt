@@ -26,8 +26,8 @@ impl TypeFinder for TypeIndex {
 }
 
 impl TypeIndex {
-    // The first type, by index, that attaches at an empty site. It looks for none where no glue faces
-    // the site.
+    // The first type, by index, that attaches at an empty site. It looks for none where no glue
+    // faces the site, or where all that do are too weak together.
     fn first_at_empty<P: Placed>(&self, sys: &System, placed: &P, site: Site) -> Option<TypeId>
         requires index { IsIndexOf sys.now self.now }
         requires near { IsNearSite site }
@@ -41,6 +41,9 @@ impl TypeIndex {
             return None;
         }
         let mut walk = self.walk(sys, &glues);
+        if walk.is_weak(sys, &glues) {
+            return None;
+        }
         self.next_held(sys, &glues, &mut walk)
     }
 

@@ -38,5 +38,9 @@ strength_at cursor index = if cursor.at == index then cursor.strength else 0
 abbrev pub least_of : Walk → ℕ
 least_of walk = min (min (min walk.north.at walk.east.at) walk.south.at) walk.west.at
 
+-- the sum of the strengths
+abbrev pub most_of : Walk → ℕ
+most_of walk = walk.north.strength + walk.east.strength + walk.south.strength + walk.west.strength
+
 abbrev pub pull_at : Walk → ℕ → ℕ
 pull_at walk index = strength_at walk.north index + strength_at walk.east index + strength_at walk.south index + strength_at walk.west index

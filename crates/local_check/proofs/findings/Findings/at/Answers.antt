@@ -11,8 +11,8 @@ use Rattle.local_check.specs.declared.findings.Known.{Known}
 use Rattle.local_check.specs.Inner.PlaceFindings.{FindingTable, IsFinding, ArePlaceFindings}
 use Rattle.local_check.proofs.findings.Findings.at.Goals as goal
 
-pub returns-then-is-clause-finding : goal.returns-then-is-clause-finding
-returns-then-is-clause-finding c =
+pub returns-then-is_same-clause-finding : goal.returns-then-is_same-clause-finding
+returns-then-is_same-clause-finding c =
     let sys = c.args.sys.now in
     let whole = c.args.whole.now.tiles in
     let site = c.args.place.site in
@@ -29,7 +29,7 @@ returns-then-is-clause-finding c =
       west = glue_at sys whole (neighbor site West) East;
     } in
     let faces : FacesSite sys whole site glues = record { north = refl; east = refl; south = refl; west = refl } in
-    let stood : last.before ≡ c.args.before.now = c.if-is.ensures search rules in
+    let stood : last.before ≡ c.args.before.now = c.if-is_same.ensures search rules in
     let Stood : SideSet → Type 0 = λ sides. IsFinding sys whole site tile sides last.finding in
     subst Stood stood (known.each tile last read whole site glues faces (subst (IsKeyOf glues) (sym c.if-last-key.true) (c.key_inside-key.ensures glues faces)))
 
