@@ -10,7 +10,7 @@ use Rattle.atam.specs.Sites.{IsBefore, InBox, IsBox, neighbor, width_of, height_
 use Rattle.atam.proofs.Boxes.{same_coordinates}
 use Rattle.assembly.specs.Cells.{cell_count, site_at}
 
-site_at-cell : (area : BoxArea) (row column : ℕ) → column < width_of area → site_at area (row * width_of area + column) ≡ site_in area column row
+pub site_at-cell : (area : BoxArea) (row column : ℕ) → column < width_of area → site_at area (row * width_of area + column) ≡ site_in area column row
 site_at-cell area row column inside = λ k. site_in area (mod-mul-add row (width_of area) column inside k) (div-mul-add row (width_of area) column inside k)
 
 -- a site by its row and column

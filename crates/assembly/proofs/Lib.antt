@@ -3,4 +3,5 @@ pub mod Contents
 pub mod Grids
 pub mod Filling
 pub mod Putting
+pub mod Rows
 mod Beside

@@ -1,12 +1,13 @@
 // An assembly in a box, as a flat array of cells.
-ghost use Rattle.std.specs.Prelude.{ℕ, ◌≡◌, ◌≢◌, ◌<◌, ◌+◌, ◌^◌, slice_index, count_by, [], ◌∷◌, ◌++◌, length, Some, None, All, IfOk};
+ghost use Rattle.std.specs.Prelude.{ℕ, ◌≡◌, ◌≢◌, ◌↔◌, ◌<◌, ◌+◌, ◌^◌, slice_index, count_by, [], ◌∷◌, ◌++◌, length, Some, None, All, IfOk, IsTrue};
 ghost use Rattle.atam.specs.declared.limits.TheConstants.{MOST_TYPES};
 ghost use Rattle.atam.specs.declared.site.Site.{Site};
 ghost use Rattle.atam.specs.declared.place.TypeId.{TypeId};
 ghost use Rattle.atam.specs.declared.site.Side.TheVariants.{North, East, South, West};
-ghost use Rattle.atam.specs.Sites.{InBox, IsBox, neighbor};
+ghost use Rattle.atam.specs.Sites.{InBox, IsBox, neighbor, width_of, height_of, site_in};
 ghost use Rattle.atam.specs.Placements.{tile_at, HasDistinctSites, SamePlacements};
 ghost use Rattle.assembly.specs.Cells.{cell_count, site_at};
+ghost use Rattle.assembly.specs.Grids.{IsEmptyRow, IsFullRow};
 ghost use Rattle.tile_system.specs.Neighbors.{StandBeside};
 ghost use Rattle.assembly.specs.Inner.GridCells.{is_tile, type_in};
 ghost use Rattle.assembly.specs.Inner.Filling.{filled_cell};
@@ -16,8 +17,8 @@ use std::alloc::Global;
 use std::marker::Model;
 use tile_system::{Beside, BoxArea, NoMemory, Place, Placed, Side, Site, TypeId};
 
-/// Tiles in a box. All calls but `make` and `copy` take no memory, and all but these, `merge` and
-/// `clear` look at one site.
+/// Tiles in a box. All calls but `make` and `copy` take no memory, and all but these, `merge`,
+/// `clear` and the two that look at a row look at one site.
 #[derive(Drop)]
 pub struct Grid {
     area: BoxArea,
@@ -129,6 +130,35 @@ impl Grid {
         ensures distinct { HasDistinctSites self.new.tiles }
     {
         self.count += fill_gaps(self.cells.as_mut_slice(), other.cells.as_slice());
+    }
+
+    /// Whether no tile is in the row, in one look at each site of it.
+    pub fn is_row_empty(&self, row: u32) -> bool
+        requires { row < height_of self.now.area }
+        ensures { IsTrue result ↔ IsEmptyRow self.now row }
+    {
+        are_gaps(self.row(row))
+    }
+
+    /// Whether a tile is at each site of the row, in one look at each.
+    pub fn is_row_full(&self, row: u32) -> bool
+        requires { row < height_of self.now.area }
+        ensures { IsTrue result ↔ IsFullRow self.now row }
+    {
+        are_tiles(self.row(row))
+    }
+
+    // The cells of a row.
+    fn row(&self, row: u32) -> &[u16]
+        requires { row < height_of self.now.area }
+        ensures length { length result.now ≡ width_of self.now.area }
+        ensures cells { (column : ℕ) → column < width_of self.now.area →
+            type_in (slice_index result.now column)
+            ≡ tile_at self.now.tiles (site_in self.now.area column row) }
+    {
+        let width = self.area.width() as usize;
+        let first = row as usize * width;
+        &self.cells.as_slice()[first..first + width]
     }
 
     /// Takes all tiles out.
@@ -254,6 +284,28 @@ fn type_in(cell: u16) -> Option<TypeId>
         0 => None,
         cell => Some(TypeId(cell as u32 - 1)),
     }
+}
+
+// Whether no cell is of a tile. It and the next one look at all cells, many at once.
+fn are_gaps(cells: &[u16]) -> bool
+    ensures { IsTrue result ↔ ((k : ℕ) → k < length cells.now → slice_index cells.now k ≡ 0) }
+{
+    let mut any = 0;
+    for cell in cells {
+        any = any | *cell;
+    }
+    any == 0
+}
+
+// Whether each cell is of a tile.
+fn are_tiles(cells: &[u16]) -> bool
+    ensures { IsTrue result ↔ ((k : ℕ) → k < length cells.now → slice_index cells.now k ≢ 0) }
+{
+    let mut gaps = 0;
+    for cell in cells {
+        gaps = gaps | (*cell == 0) as u16;
+    }
+    gaps == 0
 }
 
 // Copies the cells of tiles to where there are none, and counts them.

@@ -144,6 +144,23 @@ impl SiteTable {
         ensures stands { IfSome result (λ t. tile_at seat.new.scout.seen site ≡ Some t) }
     {
         let index = site_index(&self.area, site);
+        self.look_at(seat, site, index)
+    }
+
+    /// The same at a site whose number is known.
+    #[inline(always)]
+    pub fn look_at(&self, seat: &mut SiteSeat, site: Site, index: usize) -> Option<TypeId>
+        requires seat { IsSeatOf self.now seat.old }
+        requires within { index < cell_count self.now.sys.area }
+        requires number { site_at self.now.sys.area index ≡ site }
+        ensures seat { GoesOn seat.old seat.new }
+        ensures same { IfNone result (seat.new.scout ≡ seat.old.scout) }
+        ensures unseen { IfNone result (tile_at seat.old.scout.seen site ≡ None) }
+        ensures sees { IfSome result (λ t. Sees seat.old.scout (place site t) seat.new.scout) }
+        ensures kind { IfSome result (IsType self.now.sys) }
+        ensures seen { (t : TypeId) → tile_at seat.old.scout.seen site ≡ Some t → result ≡ Some t }
+        ensures stands { IfSome result (λ t. tile_at seat.new.scout.seen site ≡ Some t) }
+    {
         let found = self.table.shared.load::<Look>(&mut seat.seat, index);
         if found == 0 {
             return None;
