@@ -1,3 +1,4 @@
 pub mod Looked
 pub mod Listing
 pub mod Ordering
+pub mod Rows

@@ -85,7 +85,7 @@ impl Growing {
         let _owned = self.seat.owned();
         let _area = sys.area();
         let Spot { site, number } = spot;
-        let Some(tile) = table.look(&mut self.seat, site) else {
+        let Some(tile) = table.look_at(&mut self.seat, site, number) else {
             return false;
         };
         let _owned = self.seat.owned();
