@@ -3,3 +3,4 @@ pub mod Looked
 pub mod Listing
 pub mod Ordering
 pub mod Rows
+pub mod ClosedRows

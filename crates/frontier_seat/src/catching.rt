@@ -35,7 +35,7 @@ fn see(sys: &System, table: &SiteTable, growing: &mut Growing, work: &mut WorkLi
     }
 }
 
-// The same at each site of one row.
+// The same at each site of one row, if one is empty.
 fn see_row(sys: &System, table: &SiteTable, growing: &mut Growing, work: &mut WorkList, row: u32)
     requires seat { IsSeatOf table.now growing.old.seat }
     requires system { table.now.sys ≡ sys.now }
@@ -47,6 +47,9 @@ fn see_row(sys: &System, table: &SiteTable, growing: &mut Growing, work: &mut Wo
     ensures area { work.new.area ≡ work.old.area }
 {
     let area = sys.area();
+    if growing.grid.is_row_full(row) {
+        return;
+    }
     let width = area.width();
     let first = row as usize * width as usize;
     for column in 0..width {

@@ -81,7 +81,7 @@ impl Growing {
     {
         let _area = sys.area();
         let Spot { site, number } = spot;
-        let Some(tile) = table.look(&mut self.seat, site) else {
+        let Some(tile) = table.look_at(&mut self.seat, site, number) else {
             return false;
         };
         self.put(Place { site, tile }, number);

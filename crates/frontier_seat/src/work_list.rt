@@ -1,11 +1,11 @@
 // The sites that are to be looked at.
-ghost use Rattle.std.specs.Prelude.{◌≡◌, ◌<◌, ◌≤◌, ◌+◌, ◌*◌, ℕ, IfOk, IfSome, IfNone};
+ghost use Rattle.std.specs.Prelude.{◌≡◌, ◌<◌, ◌≤◌, ◌+◌, ◌*◌, ℕ, IfOk, IfSome, IfNone, IsTrue};
 ghost use Rattle.atam.specs.Sites.{InBox, IsBox, IsNearSite, neighbor, width_of, height_of};
 ghost use Rattle.atam.specs.Placements.{tile_at};
 ghost use Rattle.assembly.specs.Cells.{cell_count};
 ghost use Rattle.tile_system.specs.Neighbors.{StandBeside};
 ghost use Rattle.number_set.specs.Numbers.{Adds, IsIn, IsLeastOf, Removes};
-ghost use Rattle.frontier_seat.specs.Inner.Listings.{AreEmptySites, ListsAround, ListsFrontier, ListsFrontierTo, ListsSide, IsSpot, IsSpotBeside, TakesSpot};
+ghost use Rattle.frontier_seat.specs.Inner.Listings.{AreEmptySites, ListsAround, ListsFrontier, ListsFrontierTo, ListsSide, IsClosedRow, IsSpot, IsSpotBeside, TakesSpot};
 
 use crate::row::Row;
 use crate::share::Share;
@@ -326,6 +326,24 @@ impl WorkList {
         ensures lists { ListsFrontierTo self.old.area grid.now.tiles self.new.numbers
             (row * width_of self.old.area + width_of self.old.area) }
     {
+        if is_closed_row(grid, row) {
+            return;
+        }
+        self.list_tiles(grid, row);
+    }
+
+    // The same, site by site.
+    fn list_tiles(&mut self, grid: &Grid, row: u32)
+        requires area { grid.now.area ≡ self.old.area }
+        requires row { row < height_of self.old.area }
+        requires empty { AreEmptySites self.old.area grid.now.tiles self.old.numbers }
+        requires before { ListsFrontierTo self.old.area grid.now.tiles self.old.numbers
+            (row * width_of self.old.area) }
+        ensures area { self.new.area ≡ self.old.area }
+        ensures empty { AreEmptySites self.old.area grid.now.tiles self.new.numbers }
+        ensures lists { ListsFrontierTo self.old.area grid.now.tiles self.new.numbers
+            (row * width_of self.old.area + width_of self.old.area) }
+    {
         let area = self.area;
         let width = area.width();
         let first = row as usize * width as usize;
@@ -349,6 +367,24 @@ impl WorkList {
             self.list_row(grid, row);
         }
     }
+}
+
+// Whether each site of the box beside a tile of the row has a tile, as far as whole rows tell.
+fn is_closed_row(grid: &Grid, row: u32) -> bool
+    requires { row < height_of grid.now.area }
+    ensures { IsTrue result → IsClosedRow grid.now row }
+{
+    let area = grid.area();
+    if grid.is_row_empty(row) {
+        return true;
+    }
+    if row == 0 || row + 1 >= area.height() || !grid.is_row_full(row) {
+        return false;
+    }
+    if !grid.is_row_full(row - 1) {
+        return false;
+    }
+    grid.is_row_full(row + 1)
 }
 
 // The column and row of a site of the box.

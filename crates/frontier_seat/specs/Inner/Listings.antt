@@ -1,13 +1,14 @@
 -- Sites that are to be looked at, by their numbers.
-use Rattle.std.specs.Prelude.{◌≡◌, ◌⊎◌, ℕ, ◌+◌, ◌≤◌, ◌<◌, List, Option, Some, None, MatchOption}
+use Rattle.std.specs.Prelude.{◌≡◌, ◌≢◌, ◌⊎◌, ℕ, ◌+◌, ◌≤◌, ◌<◌, List, Option, Some, None, MatchOption}
 use Rattle.atam.specs.declared.site.Side.{Side}
 use Rattle.atam.specs.declared.site.Site.{Site}
 use Rattle.atam.specs.declared.place.TypeId.{TypeId}
 use Rattle.atam.specs.declared.place.Place.{Place}
 use Rattle.atam.specs.declared.area.BoxArea.{BoxArea}
-use Rattle.atam.specs.Sites.{neighbor, InBox}
+use Rattle.atam.specs.Sites.{neighbor, site_in, InBox, width_of}
 use Rattle.atam.specs.Placements.{tile_at}
 use Rattle.assembly.specs.Cells.{cell_count, site_at}
+use Rattle.assembly.specs.Grids.{TileGrid}
 use Rattle.number_set.specs.Numbers.{Numbers, IsIn, Removes, count_below}
 use Rattle.frontier_seat.specs.declared.work_list.Spot.{Spot}
 
@@ -58,3 +59,8 @@ ListsFrontierTo area tiles numbers count = (k n : ℕ) (d : Side) (t : TypeId) �
 -- at any site of the box
 abbrev pub ListsFrontier : BoxArea → List Place → Numbers → Type 0
 ListsFrontier area tiles numbers = ListsFrontierTo area tiles numbers (cell_count area)
+
+-- each site of the box beside a tile of the row has a tile
+abbrev pub IsClosedRow : TileGrid → ℕ → Type 0
+IsClosedRow grid row = (column n : ℕ) (d : Side) (t : TypeId) → column < width_of grid.area → tile_at grid.tiles (site_in grid.area column row) ≡ Some t →
+    n < cell_count grid.area → site_at grid.area n ≡ neighbor (site_in grid.area column row) d → tile_at grid.tiles (site_at grid.area n) ≢ None

@@ -9,10 +9,10 @@ use Rattle.frontier_seat.proofs.growing.Growing.see.Goals as goal
 pub returns : goal.returns
 returns c =
     let old = c.args.self.now in
-    let mid : Growing = record { seat = c.look.new.seat; grid = old.grid; won = old.won } in
+    let mid : Growing = record { seat = c.look_at.new.seat; grid = old.grid; won = old.won } in
     let sees = c.in-Some.ensures.sees in
     let kind = subst (λ (z : TileSystem). IsType z c.in-Some.tile) c.requires.system c.in-Some.ensures.kind in
-    claim_lost c.args.sys.now old mid c.put.new.self c.args.spot.site c.in-Some.tile c.requires.growing c.requires.spot.inside kind c.look.ensures.seat refl refl sees c.put.ensures
+    claim_lost c.args.sys.now old mid c.put.new.self c.args.spot.site c.in-Some.tile c.requires.growing c.requires.spot.inside kind c.look_at.ensures.seat refl refl sees c.put.ensures
 
 pub put-requires-clause-within : goal.put-requires-clause-within
 put-requires-clause-within c = subst (λ (a : BoxArea). c.args.spot.number < cell_count a) (sym c.requires.growing.area) c.requires.spot.within

@@ -1,7 +1,7 @@
 use Rattle.std.proofs.Common.{◌≡◌, ◌+◌, ◌*◌}
 use Rattle.atam.specs.Sites.{width_of}
 use Rattle.frontier_seat.specs.Inner.Listings.{AreEmptySites, ListsFrontierTo}
-use Rattle.frontier_seat.proofs.work_list.WorkList.list_row.Given as goal
+use Rattle.frontier_seat.proofs.work_list.WorkList.list_tiles.Given as goal
 
 -- the tiles so far
 abbrev pub invariant-loop-column : goal.invariant-loop-column
