@@ -274,6 +274,24 @@ impl Scout {
         see_all(sys, table, &mut self.growing, &mut self.work, numbers);
     }
 
+    /// Whether a listed site is in its bands.
+    pub fn has_own(&self) -> bool {
+        true
+    }
+
+    /// Looks at the rows beside its bands. Nothing is claimed.
+    pub fn see_edges(&mut self, sys: &System, table: &SiteTable, share: u32, of: u32)
+        requires seat { IsSeatOf table.now self.old.seat }
+        requires system { table.now.sys ≡ sys.now }
+        requires share { share < of }
+        ensures goes { GrowsOn self.old self.new }
+        ensures seen { SamePlacements self.new.seat.scout.seen self.new.grid.tiles }
+        ensures more { length self.old.grid.tiles ≤ length self.new.grid.tiles }
+    {
+        let _bands = (share, of);
+        self.catch_up(sys, table, &[]);
+    }
+
     /// The same for who owns all numbers and has seen the seeds alone, always at the least site at
     /// which a type attaches, and each claim is logged. The log is then the canonical sequence of
     /// what has grown (`law_least_first`).

@@ -1,14 +1,17 @@
 // Growth on a table, and a whole growth.
-ghost use Rattle.std.specs.Prelude.{◌≡◌, ◌≤◌, length, IfOk};
+ghost use Rattle.std.specs.Prelude.{◌≡◌, ◌≤◌, ◌+◌, length, IfOk};
 ghost use Rattle.atam.specs.Placements.{SamePlacements};
 ghost use Rattle.site_table.specs.Seats.{IsSeatOf};
 ghost use Rattle.grow_workers.specs.Workers.{OwnsAtLeast, GrewOn, IsGrowth};
+ghost use Rattle.grow_workers.specs.Inner.Wins.{PartedGrowth, HasNumbers};
 
-use crate::parts::{Crew, Harvest, gather, start_from};
-use crate::rounds::grow_in_rounds;
+use crate::alone::finish;
+use crate::leavings::Harvest;
+use crate::parts::grow_from;
 use assembly::{Grid, put_seeds};
 use site_table::{Grown, SiteSeat, SiteTable};
 use std::alloc::Global;
+use std::sync::atomic::AtomicU64;
 use std::thread::Threads;
 use tile_io::Gate;
 use tile_system::{NoMemory, System};
@@ -44,21 +47,54 @@ pub fn grow_on<R: Threads + Sync, G: Gate>(
     ensures count { IfOk result (λ r. length r.2.items ≡ workers) }
 {
     let _owned = seat.owned();
-    let Crew {
-        first,
-        others: mut team,
-    } = start_from(rt, alloc, sys, table, seat, seen, 1, workers, choice, gate)?;
-    team.insert(0, first)?;
-    grow_in_rounds(rt, alloc, sys, table, &mut team, workers)?;
-    let first = team.remove(0);
+    let team = share_out(rt, alloc, sys, table, seat, seen, workers, choice, gate)?;
     let Harvest {
         seat,
         grid,
         first,
         others: mut wins,
-    } = gather(alloc, sys, table, first, team)?;
+    } = finish(alloc, sys, table, team, choice)?;
     wins.insert(0, first)?;
     Ok((seat, grid, wins))
+}
+
+// What several workers have done until worker 0 is to go on alone: nothing where there is no other.
+fn share_out<R: Threads + Sync, G: Gate>(
+    rt: &R,
+    alloc: Global,
+    sys: &System,
+    table: &SiteTable,
+    seat: SiteSeat,
+    seen: Grid,
+    workers: u32,
+    choice: u64,
+    gate: &G,
+) -> Result<Harvest, NoMemory>
+    requires some { 1 ≤ workers }
+    requires few { workers ≤ 16 }
+    requires numbers { HasNumbers workers seat.scout.owned }
+    requires seat { IsSeatOf table.now seat }
+    requires system { table.now.sys ≡ sys.now }
+    requires area { seen.area ≡ sys.now.area }
+    requires seen { SamePlacements seat.scout.seen seen.tiles }
+    ensures grew { IfOk result (λ h.
+        PartedGrowth sys.now seat seen h.seat h.grid h.first h.others.items) }
+    ensures seat { IfOk result (λ h. IsSeatOf table.now h.seat) }
+    ensures count { IfOk result (λ h. length h.others.items + 1 ≡ workers) }
+{
+    if workers == 1 {
+        gate.arrive(0);
+        return Ok(Harvest {
+            seat,
+            grid: seen,
+            first: 0,
+            others: Vec::new(alloc),
+        });
+    }
+    let bursts = AtomicU64::new(0);
+    grow_from(
+        rt, alloc, sys, table, seat, &seen, 1, workers, choice, gate, &bursts,
+    )
 }
 
 /// Grows a system within its box with so many workers.

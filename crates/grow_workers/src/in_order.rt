@@ -2,11 +2,12 @@
 ghost use Rattle.std.specs.Prelude.{◌≡◌, ◌<◌, ◌-◌, ◌^◌, [], IfOk};
 ghost use Rattle.atam.specs.Placements.{SamePlacements};
 ghost use Rattle.atam.specs.Canonical.{IsCanonical};
+ghost use Rattle.atam.specs.Growth.{IsClosedInBox};
 ghost use Rattle.site_table.specs.Seats.{IsSeatOf};
 ghost use Rattle.grow_workers.specs.Workers.{IsGrowth};
 ghost use Rattle.grow_workers.specs.Inner.Wins.{PartedGrowth};
 
-use crate::alone::Part;
+use crate::leavings::Part;
 use assembly::{Grid, Sequence, put_seeds};
 use frontier_seat::{ClaimLog, RngChooser, Scout};
 use rand_pcg::Lcg64Xsh32;
@@ -34,6 +35,7 @@ fn sweep_logged<L: Ledger>(
     requires start { SamePlacements sys.now.seeds seen.tiles }
     ensures grew { IfOk result (λ r.
         PartedGrowth sys.now seat seen r.0.seat r.0.grid r.0.won []) }
+    ensures closed { IfOk result (λ r. IsClosedInBox sys.now r.0.grid.tiles) }
     ensures order { IfOk result (λ r. IsCanonical sys.now r.0.grid.tiles r.1.places) }
 {
     let mut log = ClaimLog::make(alloc, sys)?;
@@ -66,6 +68,7 @@ fn work_in_order<G: Gate>(
     requires start { SamePlacements sys.now.seeds seen.tiles }
     ensures grew { IfOk result (λ r.
         PartedGrowth sys.now seat seen r.0.seat r.0.grid r.0.won []) }
+    ensures closed { IfOk result (λ r. IsClosedInBox sys.now r.0.grid.tiles) }
     ensures order { IfOk result (λ r. IsCanonical sys.now r.0.grid.tiles r.1.places) }
 {
     gate.arrive(0);

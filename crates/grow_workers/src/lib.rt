@@ -4,10 +4,10 @@
 mod alone;
 mod growth;
 mod in_order;
+mod leavings;
 mod member;
 mod parts;
 mod picks;
-mod rounds;
 
 pub use growth::{grow, grow_on};
 pub use in_order::grow_in_order;

@@ -12,7 +12,7 @@ returns-clause-growth g c =
     let part = c.in_ok-part.part in
     let start = c.in_ok-table.ensures.scout in
     let closes : Closes sys part.seat.scout c.close.result = subst (λ z. Closes z part.seat.scout c.close.result) c.in_ok-table.ensures.table c.close.ensures in
-    let grew = grew_alone sys c.put_seeds.new.grid c.in_ok-table.seat part.seat part.grid part.won start.owned c.in_ok-part.ensures.grew in
+    let grew = grew_alone sys c.put_seeds.new.grid c.in_ok-table.seat part.seat part.grid part.won start.owned c.in_ok-part.ensures.grew c.in_ok-part.ensures.closed in
     whole_growth sys 1 c.put_seeds.new.grid c.in_ok-table.seat part.seat part.grid (part.won ∷ []) c.close.result c.area.ensures.valid
     start.owned start.mine grew refl (omega arith) (omega arith) c.area-grown.ensures.distinct closes
 
@@ -22,5 +22,5 @@ returns-clause-order g c =
     let part = c.in_ok-part.part in
     let grew = c.in_ok-part.ensures.grew in
     let closes : Closes sys part.seat.scout c.close.result = subst (λ z. Closes z part.seat.scout c.close.result) c.in_ok-table.ensures.table c.close.ensures in
-    canonical_too sys part.grid.tiles c.close.result.grid.tiles (grid_left sys part.seat part.grid c.close.result c.area-grown.ensures.distinct grew.seen grew.closed closes) c.into_sequence.result
+    canonical_too sys part.grid.tiles c.close.result.grid.tiles (grid_left sys part.seat part.grid c.close.result c.area-grown.ensures.distinct grew.seen c.in_ok-part.ensures.closed closes) c.into_sequence.result
     (subst (IsCanonical sys part.grid.tiles) (sym c.into_sequence.ensures) c.in_ok-part.ensures.order)
