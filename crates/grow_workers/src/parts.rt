@@ -130,14 +130,15 @@ fn grow_first<G: Gate>(
     ensures count { IfOk result (λ h. h.others.items ≡ []) }
 {
     let share = Share { worker: 0, of };
-    let Part { seat, grid, won } = work(
+    let others = Vec::new(alloc);
+    let part = work(
         alloc, sys, table, seat, seen, share, choice, gate, bursts,
     )?;
     Ok(Harvest {
-        seat,
-        grid,
-        first: won,
-        others: Vec::new(alloc),
+        seat: part.seat,
+        grid: part.grid,
+        first: part.won,
+        others,
     })
 }
 
