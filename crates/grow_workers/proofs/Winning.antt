@@ -9,12 +9,11 @@ use Rattle.std.proofs.lemmas.Nat.Bits.{bit_at-lt, same_from_bits, bit_at_ones, b
 use Rattle.std.proofs.lemmas.List.Elements.{filter-append, All-head, All-tail, All-contains, All-contains_itself, All-weaker, Contains-append_left, Contains-append_right, Contains-append_cases, Contains-push_cases, All-map}
 use mathlib.Core.Logic.{dite}
 use native.Mathlib.Decide.{ℕ_discrete, dec_lt}
-use Rattle.atam.specs.TileSystem.{TileSystem, IsValid, IsType}
+use Rattle.atam.specs.TileSystem.{TileSystem, IsValid}
 use Rattle.atam.specs.declared.place.Place.{Place}
 use Rattle.atam.specs.Sites.{InBox}
-use Rattle.atam.specs.Placements.{SamePlacements, HasDistinctSites, IsPartOf}
-use Rattle.atam.specs.Growth.{IsClosedInBox, IsProducible}
-use Rattle.atam.proofs.Closure.{closure_of_part}
+use Rattle.atam.specs.Placements.{SamePlacements, HasDistinctSites}
+use Rattle.atam.specs.Growth.{IsClosedInBox}
 use Rattle.assembly.specs.Grids.{TileGrid}
 use Rattle.grow_core.specs.declared.placed_tile.PlacedTile.{PlacedTile}
 use Rattle.grow_core.specs.Core.{ScoutState, Owns, least, greatest, OwnsTwoOrMore, places, placed_by, HasDistinctTiles, IsNumbered}
@@ -253,8 +252,8 @@ went_on sys old start grid mid first others after real before goes seen =
           (gains_more old.scout.mine mid.scout.mine after.seat.scout.mine goes.wins (least owned) first goes.mine placer before.first_wins);
       others_win = others_rest old.scout.mine mid.scout.mine after.seat.scout.mine owned others some small
           (λ n other. ap (placed_by n) goes.mine ∙ (by-append n mid.scout.mine goes.wins
-              ∙ (ap (λ l. placed_by n mid.scout.mine ++ l) (by_none n goes.wins (λ t c e. other (sym e ∙ All-contains (λ (u : PlacedTile). u.placer ≡ least owned) goes.wins t placer c)))
-              ∙ append-nil (placed_by n mid.scout.mine))))
+          ∙ (ap (λ l. placed_by n mid.scout.mine ++ l) (by_none n goes.wins (λ t c e. other (sym e ∙ All-contains (λ (u : PlacedTile). u.placer ≡ least owned) goes.wins t placer c)))
+          ∙ append-nil (placed_by n mid.scout.mine))))
           before.others_win;
     }
 

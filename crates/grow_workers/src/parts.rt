@@ -131,9 +131,7 @@ fn grow_first<G: Gate>(
 {
     let share = Share { worker: 0, of };
     let others = Vec::new(alloc);
-    let part = work(
-        alloc, sys, table, seat, seen, share, choice, gate, bursts,
-    )?;
+    let part = work(alloc, sys, table, seat, seen, share, choice, gate, bursts)?;
     Ok(Harvest {
         seat: part.seat,
         grid: part.grid,
