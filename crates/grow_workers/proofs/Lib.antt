@@ -1,4 +1,3 @@
 pub mod Numbering
 pub mod Winning
 pub mod Ordering
-pub mod Teaming

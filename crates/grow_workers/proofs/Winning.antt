@@ -1,20 +1,19 @@
 -- What workers win, together.
-use Rattle.std.proofs.Common.{◌≡◌, ◌≢◌, ◌<◌, ◌≤◌, ◌+◌, ◌-◌, ◌^◌, ◌==◌, ℕ, zero, suc, not, List, [], ◌∷◌, ◌++◌, length, Contains, All, append-nil, eq-eqb, ne_eqb, bit_or, pow_pos, get_or, sum, length-append, lit≤, true, false, refl, sym, ◌∙◌, ap, subst, inl, inr, arith}
+use Rattle.std.proofs.Common.{◌≡◌, ◌≢◌, ◌<◌, ◌≤◌, ◌+◌, ◌-◌, ◌^◌, ◌==◌, ℕ, zero, suc, not, List, [], ◌∷◌, ◌++◌, length, Contains, All, append-nil, append_assoc, eq-eqb, ne_eqb, bit_or, pow_pos, get_or, sum, length-append, lit≤, true, false, refl, sym, ◌∙◌, ap, subst, inl, inr, arith}
 use Rattle.std.specs.Int.{bit_at}
 use Rattle.std.proofs.lemmas.List.{get_or-map, length-map}
 use Rattle.std.proofs.lemmas.List.Sums.{sum_by-cons}
 use Rattle.std.proofs.Math.Nat.{pow-suc, pow-le-pow_right}
 use Rattle.std.proofs.lemmas.Bool.{false≢true}
 use Rattle.std.proofs.lemmas.Nat.Bits.{bit_at-lt, same_from_bits, bit_at_ones, bit_at_ones_above, bit_at_above}
-use Rattle.std.proofs.lemmas.List.Elements.{filter-append, All-head, All-tail, All-contains, Contains-append_left, Contains-push_cases, All-map}
+use Rattle.std.proofs.lemmas.List.Elements.{filter-append, All-head, All-tail, All-contains, All-contains_itself, All-weaker, Contains-append_left, Contains-append_right, Contains-append_cases, Contains-push_cases, All-map}
 use mathlib.Core.Logic.{dite}
 use native.Mathlib.Decide.{ℕ_discrete, dec_lt}
-use Rattle.atam.specs.TileSystem.{TileSystem, IsValid, IsType}
+use Rattle.atam.specs.TileSystem.{TileSystem, IsValid}
 use Rattle.atam.specs.declared.place.Place.{Place}
 use Rattle.atam.specs.Sites.{InBox}
-use Rattle.atam.specs.Placements.{SamePlacements, HasDistinctSites, IsPartOf}
-use Rattle.atam.specs.Growth.{IsClosedInBox, IsProducible}
-use Rattle.atam.proofs.Closure.{closure_of_part}
+use Rattle.atam.specs.Placements.{SamePlacements, HasDistinctSites}
+use Rattle.atam.specs.Growth.{IsClosedInBox}
 use Rattle.assembly.specs.Grids.{TileGrid}
 use Rattle.grow_core.specs.declared.placed_tile.PlacedTile.{PlacedTile}
 use Rattle.grow_core.specs.Core.{ScoutState, Owns, least, greatest, OwnsTwoOrMore, places, placed_by, HasDistinctTiles, IsNumbered}
@@ -25,14 +24,15 @@ use Rattle.site_table.specs.Seats.{SeatValue, GoesOn, GrownValue, Closes}
 use Rattle.site_table.specs.Rule.{IsPossible}
 use Rattle.frontier_seat.specs.declared.growing.Growing.{Growing}
 use Rattle.frontier_seat.specs.Growths.{GrowsOn}
-use Rattle.frontier_seat.proofs.Looked.{closed_same}
+use Rattle.frontier_seat.proofs.Looked.{closed_same, goes_nowhere}
 use Rattle.atam.proofs.Tiles.{same_back, SamePlacements-trans}
-use Rattle.atam.proofs.Count.{count_in_part}
+use Rattle.atam.proofs.Count.{count_in_box, count_in_part}
+use Rattle.assembly.specs.Cells.{cell_count}
 use Rattle.atam.proofs.Placements.{same_place}
 use Rattle.grow_core.proofs.Own.{mine_tile}
 use Rattle.grow_core.proofs.Listed.{owned-below, unplaced}
 use Rattle.grow_core.proofs.Stepped.{quiet}
-use Rattle.grow_workers.specs.Inner.Wins.{HasNumbers, OthersWin, PartedGrowth}
+use Rattle.grow_workers.specs.Inner.Wins.{HasNumbers, IsParted, OthersWin, PartedGrowth}
 use Rattle.grow_workers.specs.Workers.{Gains, GrewOn, IsGrowth, greatest_but, worker_number}
 use Rattle.atam.proofs.Lists.{Contains-here}
 
@@ -46,8 +46,8 @@ by-append n xs ys = filter-append (λ t. t.placer == n) xs ys
 
 -- one worker alone
 pub alone_grew : (sys : TileSystem) (old : SeatValue) (start : TileGrid) (before after : Growing) → before.seat ≡ old → before.grid ≡ start → before.won ≡ 0 → start.area ≡ sys.area → GrowsOn before after →
-    SamePlacements after.seat.scout.seen after.grid.tiles → IsClosedInBox sys after.grid.tiles → PartedGrowth sys old start after.seat after.grid after.won []
-alone_grew sys old start before after seat grid none area goes seen closed =
+    SamePlacements after.seat.scout.seen after.grid.tiles → PartedGrowth sys old start after.seat after.grid after.won []
+alone_grew sys old start before after seat grid none area goes seen =
     let won = goes.won in
     let mine : after.seat.scout.mine ≡ old.scout.mine ++ goes.wins = goes.mine ∙ ap (λ (s : SeatValue). s.scout.mine ++ goes.wins) seat in
     let placer : All (λ (t : PlacedTile). t.placer ≡ least old.scout.owned) goes.wins = subst (λ (s : SeatValue). All (λ (t : PlacedTile). t.placer ≡ least s.scout.owned) goes.wins) seat goes.placer in
@@ -56,7 +56,6 @@ alone_grew sys old start before after seat grid none area goes seen closed =
       area = goes.area ∙ (ap (λ g. g.area) grid ∙ area);
       seen = seen;
       kept = λ p c. goes.kept p (subst (λ g. Contains g.tiles p) (sym grid) c);
-      closed = closed;
       first_wins = record {
         wins = goes.wins;
         order = ap (placed_by (least old.scout.owned)) mine ∙ (by-append (least old.scout.owned) old.scout.mine goes.wins ∙ ap (λ l. placed_by (least old.scout.owned) old.scout.mine ++ l) (by_all (least old.scout.owned) goes.wins placer));
@@ -67,16 +66,11 @@ alone_grew sys old start before after seat grid none area goes seen closed =
           ∙ append-nil (placed_by n old.scout.mine)));
     }
 
--- what a worker has won from its start on
-pub start_gains : (seat : SeatValue) (grid : TileGrid) (after : Growing) → GrowsOn (record { seat = seat; grid = grid; won = 0 }) after → Gains seat.scout.mine after.seat.scout.mine (least seat.scout.owned) after.won
-start_gains seat grid after goes =
-    let n = least seat.scout.owned in
-    let won = goes.won in
-    record {
-      wins = goes.wins;
-      order = ap (placed_by n) goes.mine ∙ (by-append n seat.scout.mine goes.wins ∙ ap (λ l. placed_by n seat.scout.mine ++ l) (by_all n goes.wins goes.placer));
-      many = omega (arith, won);
-    }
+-- where nothing was done
+pub nothing_grew : (sys : TileSystem) (seat : SeatValue) (grid : TileGrid) → grid.area ≡ sys.area → SamePlacements seat.scout.seen grid.tiles → PartedGrowth sys seat grid seat grid 0 []
+nothing_grew sys seat grid area seen =
+    let g : Growing = record { seat = seat; grid = grid; won = 0 } in
+    alone_grew sys seat grid g g refl refl refl area (goes_nowhere g) seen
 
 -- what is won under a number depends on the tiles of this number alone
 gains-same : (a b c d : List PlacedTile) (n k : ℕ) → placed_by n c ≡ placed_by n a → placed_by n d ≡ placed_by n b → Gains a b n k → Gains c d n k
@@ -112,32 +106,25 @@ rejoined-owned owned live small =
     ])
     (λ other. omega (arith, a, b, not_own, other))))
 
--- a closed part of what a real scout has seen is all that it has seen
-pub closed_part : (sys : TileSystem) (part : List Place) (v : ScoutState) → IsPossible sys v → HasDistinctSites part → IsPartOf sys.seeds part → IsPartOf part v.seen → IsClosedInBox sys part → SamePlacements v.seen part
-closed_part sys part v real distinct seeds inside closed =
-    let log = places real.tiles in
-    let producible : IsProducible sys log = record { sequence = log; legal = real.history.legal; same = record { part = λ p c. c; whole = λ p c. c } } in
-    let in_log : IsPartOf part log = λ p c. real.scout.part p (inside p c) in
-    let whole : SamePlacements part log = closure_of_part sys log part real.valid.distinct_seeds real.history.distinct distinct producible in_log seeds
-    (λ p c attaches. closed p.site p.tile
-    (All-contains (λ (q : Place). InBox sys.area q.site) log p (All-map (λ (q : Place). InBox sys.area q.site) (λ (t : PlacedTile). t.place) real.tiles real.history.inside) c)
-    (record { kind = All-contains (λ (q : Place). IsType sys q.tile) log p real.history.legal.types c; attaches = attaches })) in
-    record { part = λ p c. whole.whole p (real.scout.part p c); whole = λ p c. inside p c }
-
 -- the numbers of a split
 pub two_numbers : (left owned : ℕ) → 1 < left → HasNumbers left owned → OwnsTwoOrMore owned × HasNumbers (left - 1) (owned - 2 ^ greatest owned)
 two_numbers zero owned many has = let never : ⊥ = omega (arith, many) in absurd never
 two_numbers (suc zero) owned many has = let never : ⊥ = omega (arith, many) in absurd never
 two_numbers (suc (suc k)) owned many has = let e : suc (suc k) - 1 ≡ suc k = omega arith in (has.0, subst (λ n. HasNumbers n (owned - 2 ^ greatest owned)) (sym e) has.1)
 
+-- two assemblies in a row
+pub SamePlacements-append : (a b c d : List Place) → SamePlacements a c → SamePlacements b d → SamePlacements (a ++ b) (c ++ d)
+SamePlacements-append a b c d first second = record {
+  part = λ p in_both. elim (Contains-append_cases a b p in_both) [ inl one ↦ Contains-append_left c d p (first.part p one) | inr other ↦ Contains-append_right c d p (second.part p other) ];
+  whole = λ p in_both. elim (Contains-append_cases c d p in_both) [ inl one ↦ Contains-append_left a b p (first.whole p one) | inr other ↦ Contains-append_right a b p (second.whole p other) ];
+}
+
 -- Workers on the kept part of a seat and one on the given part are workers on the whole.
-module _ (sys : TileSystem) (old kept0 kept1 given0 given1 new : SeatValue) (start grid : TileGrid) (first won : ℕ) (others : List ℕ)
-    (real : IsPossible sys old.scout) (two : OwnsTwoOrMore old.scout.owned)
-    (is_kept : IsScoutOf (old.scout.owned - 2 ^ greatest old.scout.owned) old.scout.seen (kept_tiles (greatest old.scout.owned) old.scout.mine) kept0.scout)
-    (is_given : IsScoutOf (2 ^ greatest old.scout.owned) old.scout.seen (placed_by (greatest old.scout.owned) old.scout.mine) given0.scout)
-    (rest : PartedGrowth sys kept0 start kept1 grid first others) (part_seat : GoesOn given0 given1) (part_wins : Gains given0.scout.mine given1.scout.mine (least given0.scout.owned) won) (real_kept : IsPossible sys kept1.scout) (real_given : IsPossible sys given1.scout) (distinct : HasDistinctSites grid.tiles)
-    (real_new : IsPossible sys new.scout) (table : new.table ≡ old.table) (system : new.sys ≡ old.sys)
-    (joined : IsScoutOf (bit_or kept1.scout.owned given1.scout.owned) (kept1.scout.seen ++ given1.scout.seen) (kept1.scout.mine ++ given1.scout.mine) new.scout) where
+module _ (sys : TileSystem) (old kept0 kept1 given0 given1 new : SeatValue) (start grid other both : TileGrid) (first won : ℕ) (others : List ℕ) (parted : IsParted old kept0 given0)
+    (rest : PartedGrowth sys kept0 start kept1 grid first others) (part : PartedGrowth sys given0 start given1 other won []) (real_kept : IsPossible sys kept1.scout) (real_given : IsPossible sys given1.scout)
+    (table : new.table ≡ old.table) (system : new.sys ≡ old.sys)
+    (joined : IsScoutOf (bit_or kept1.scout.owned given1.scout.owned) (kept1.scout.seen ++ given1.scout.seen) (kept1.scout.mine ++ given1.scout.mine) new.scout)
+    (area : both.area ≡ grid.area) (merged : SamePlacements (grid.tiles ++ other.tiles) both.tiles) where
   abbrev owned : ℕ
   owned = old.scout.owned
 
@@ -145,26 +132,26 @@ module _ (sys : TileSystem) (old kept0 kept1 given0 given1 new : SeatValue) (sta
   g = greatest owned
 
   some : 0 < owned
-  some = real.scout.some_number
+  some = parted.real.scout.some_number
 
   small : owned < 2 ^ 64
-  small = real.scout.numbers
+  small = parted.real.scout.numbers
 
   is_top : IsTop owned
   is_top = top owned some small
 
   kept_owned : kept1.scout.owned ≡ owned - 2 ^ g
-  kept_owned = rest.seat.owned ∙ is_kept.owned
+  kept_owned = rest.seat.owned ∙ parted.is_kept.owned
 
   given_owned : given1.scout.owned ≡ 2 ^ g
-  given_owned = part_seat.owned ∙ is_given.owned
+  given_owned = part.seat.owned ∙ parted.is_given.owned
 
   same_owned : new.scout.owned ≡ owned
   same_owned = joined.owned ∙ ((λ i. bit_or (kept_owned i) (given_owned i)) ∙ rejoined-owned owned some small)
 
   -- the given number
   name : least given0.scout.owned ≡ g
-  name = ap least is_given.owned ∙ least-of_greatest owned some small
+  name = ap least parted.is_given.owned ∙ least-of_greatest owned some small
 
   -- the given part has won under its number alone
   given_rests : (n : ℕ) → n ≢ g → placed_by n given1.scout.mine ≡ []
@@ -182,26 +169,26 @@ module _ (sys : TileSystem) (old kept0 kept1 given0 given1 new : SeatValue) (sta
   kept_wins n other = mine_by n ∙ (ap (λ l. placed_by n kept1.scout.mine ++ l) (given_rests n other) ∙ append-nil (placed_by n kept1.scout.mine))
 
   kept_before : (n : ℕ) → n ≢ g → placed_by n old.scout.mine ≡ placed_by n kept0.scout.mine
-  kept_before n other = sym (ap (placed_by n) is_kept.mine ∙ by_other n g old.scout.mine other)
+  kept_before n other = sym (ap (placed_by n) parted.is_kept.mine ∙ by_other n g old.scout.mine other)
 
   given_gains : Gains old.scout.mine new.scout.mine g won
   given_gains =
       gains-same given0.scout.mine given1.scout.mine old.scout.mine new.scout.mine g won
-      (sym (ap (placed_by g) is_given.mine ∙ by_itself g old.scout.mine))
+      (sym (ap (placed_by g) parted.is_given.mine ∙ by_itself g old.scout.mine))
       (mine_by g ∙ ap (λ l. l ++ placed_by g given1.scout.mine) kept_rests)
-      (subst (λ n. Gains given0.scout.mine given1.scout.mine n won) name part_wins)
+      (subst (λ n. Gains given0.scout.mine given1.scout.mine n won) name part.first_wins)
 
   rest_some : 0 < owned - 2 ^ g
-  rest_some = some_rest owned some small two
+  rest_some = some_rest owned some small parted.two
 
   rest_small : owned - 2 ^ g < 2 ^ 64
   rest_small = omega (arith, small)
 
   rest_least : least kept0.scout.owned ≡ least owned
-  rest_least = ap least is_kept.owned ∙ least-of_rest owned some small two
+  rest_least = ap least parted.is_kept.owned ∙ least-of_rest owned some small parted.two
 
   least_other : least owned ≢ g
-  least_other e = two e
+  least_other e = parted.two e
 
   first_gains : Gains old.scout.mine new.scout.mine (least owned) first
   first_gains = gains-same kept0.scout.mine kept1.scout.mine old.scout.mine new.scout.mine (least owned) first (kept_before (least owned) least_other) (kept_wins (least owned) least_other)
@@ -210,23 +197,65 @@ module _ (sys : TileSystem) (old kept0 kept1 given0 given1 new : SeatValue) (sta
   others_gain : OthersWin old.scout.mine new.scout.mine (owned - 2 ^ g) others
   others_gain = others-same kept0.scout.mine kept1.scout.mine old.scout.mine new.scout.mine (owned - 2 ^ g) others rest_some rest_small
       (λ n own. kept_before n (left-other owned is_top n own)) (λ n own. kept_wins n (left-other owned is_top n own))
-      (subst (λ m. OthersWin kept0.scout.mine kept1.scout.mine m others) is_kept.owned rest.others_win)
+      (subst (λ m. OthersWin kept0.scout.mine kept1.scout.mine m others) parted.is_kept.owned rest.others_win)
 
-  seen_kept : SamePlacements new.scout.seen kept1.scout.seen
-  seen_kept = closed_part sys kept1.scout.seen new.scout real_new real_kept.scout.distinct real_kept.scout.seeds
-      (λ p c. joined.seen.part p (Contains-append_left kept1.scout.seen given1.scout.seen p c))
-      (closed_same sys kept1.scout.seen grid.tiles real_kept.scout.distinct distinct rest.seen rest.closed)
+  seen_both : SamePlacements new.scout.seen both.tiles
+  seen_both = SamePlacements-trans new.scout.seen (kept1.scout.seen ++ given1.scout.seen) both.tiles (same_back (kept1.scout.seen ++ given1.scout.seen) new.scout.seen joined.seen)
+      (SamePlacements-trans (kept1.scout.seen ++ given1.scout.seen) (grid.tiles ++ other.tiles) both.tiles (SamePlacements-append kept1.scout.seen given1.scout.seen grid.tiles other.tiles rest.seen part.seen) merged)
 
-  pub united_grew : PartedGrowth sys old start new grid first (won ∷ others)
+  pub united_grew : PartedGrowth sys old start new both first (won ∷ others)
   united_grew = record {
     seat = record { table = table; sys = system; owned = same_owned };
-    area = rest.area;
-    seen = SamePlacements-trans new.scout.seen kept1.scout.seen grid.tiles seen_kept rest.seen;
-    kept = rest.kept;
-    closed = rest.closed;
+    area = area ∙ rest.area;
+    seen = seen_both;
+    kept = λ p c. merged.part p (Contains-append_left grid.tiles other.tiles p (rest.kept p c));
     first_wins = first_gains;
-    others_win = (two, given_gains, others_gain);
+    others_win = (parted.two, given_gains, others_gain);
   }
+
+-- what worker 0 wins alone after the others adds to what it has won
+gains_more : (old mid new wins : List PlacedTile) (n first : ℕ) → new ≡ mid ++ wins → All (λ (t : PlacedTile). t.placer ≡ n) wins → Gains old mid n first → Gains old new n (first + length wins)
+gains_more old mid new wins n first mine placer gains = record {
+  wins = gains.wins ++ wins;
+  order = ap (placed_by n) mine ∙ (by-append n mid wins ∙ ((λ i. gains.order i ++ by_all n wins placer i) ∙ append_assoc (placed_by n old) gains.wins wins));
+  many = let both = length-append gains.wins wins in let many = gains.many in omega (arith, both, many);
+}
+
+-- and nothing to what they have won
+others_rest : (old mid new : List PlacedTile) (owned : ℕ) (wins : List ℕ) → 0 < owned → owned < 2 ^ 64 → ((n : ℕ) → n ≢ least owned → placed_by n new ≡ placed_by n mid) → OthersWin old mid owned wins → OthersWin old new owned wins
+others_rest old mid new owned [] some small same others = λ n own other. same n other ∙ others n own other
+others_rest old mid new owned (k ∷ wins) some small same others =
+    let g = greatest owned in
+    let low = (top owned some small).low in (
+      others.0,
+      gains-same old mid old new g k refl (same g (λ e. others.0 (sym e))) others.1,
+      others_rest old mid new (owned - 2 ^ g) wins (some_rest owned some small others.0) (omega (arith, small)) (λ n other. same n (λ e. other (e ∙ sym (least-of_rest owned some small others.0)))) others.2,
+    )
+
+-- worker 0 goes on alone
+pub went_on : (sys : TileSystem) (old : SeatValue) (start grid : TileGrid) (mid : SeatValue) (first : ℕ) (others : List ℕ) (after : Growing) → IsPossible sys mid.scout → PartedGrowth sys old start mid grid first others →
+    GrowsOn (record { seat = mid; grid = grid; won = 0 }) after → SamePlacements after.seat.scout.seen after.grid.tiles → PartedGrowth sys old start after.seat after.grid (first + after.won) others
+went_on sys old start grid mid first others after real before goes seen =
+    let owned = old.scout.owned in
+    let same : mid.scout.owned ≡ owned = before.seat.owned in
+    let some : 0 < owned = subst (λ (n : ℕ). 0 < n) same real.scout.some_number in
+    let small : owned < 2 ^ 64 = subst (λ (n : ℕ). n < 2 ^ 64) same real.scout.numbers in
+    let placer : All (λ (t : PlacedTile). t.placer ≡ least owned) goes.wins = subst (λ (n : ℕ). All (λ (t : PlacedTile). t.placer ≡ least n) goes.wins) same goes.placer in
+    let won = goes.won in
+    let count : length goes.wins ≡ after.won = omega (arith, won) in
+    record {
+      seat = record { table = goes.seat.table ∙ before.seat.table; sys = goes.seat.sys ∙ before.seat.sys; owned = goes.seat.owned ∙ same };
+      area = goes.area ∙ before.area;
+      seen = seen;
+      kept = λ p c. goes.kept p (before.kept p c);
+      first_wins = subst (λ (n : ℕ). Gains old.scout.mine after.seat.scout.mine (least owned) (first + n)) count
+          (gains_more old.scout.mine mid.scout.mine after.seat.scout.mine goes.wins (least owned) first goes.mine placer before.first_wins);
+      others_win = others_rest old.scout.mine mid.scout.mine after.seat.scout.mine owned others some small
+          (λ n other. ap (placed_by n) goes.mine ∙ (by-append n mid.scout.mine goes.wins
+          ∙ (ap (λ l. placed_by n mid.scout.mine ++ l) (by_none n goes.wins (λ t c e. other (sym e ∙ All-contains (λ (u : PlacedTile). u.placer ≡ least owned) goes.wins t placer c)))
+          ∙ append-nil (placed_by n mid.scout.mine))))
+          before.others_win;
+    }
 
 -- The numbers below a number.
 ones-some : (k : ℕ) → 0 < 2 ^ suc k - 1
@@ -386,3 +415,39 @@ whole_growth sys workers start old new grid wins out valid all none grew count s
           closes.own_counts n (owns_all sys new.scout out valid all_new closes n within) ∙ ap length (rests ∙ ap (placed_by n) none);
       total = all_won sys new.scout out valid all_new closes;
     }
+
+-- a number's wins are among what a seat has won
+placed_few : (n : ℕ) (tiles : List PlacedTile) → length (placed_by n tiles) ≤ length tiles
+placed_few n tiles = let whole = parted_length n tiles in omega (arith, whole)
+
+pub first_few : (sys : TileSystem) (old new : SeatValue) (start grid : TileGrid) (first : ℕ) (others : List ℕ) → PartedGrowth sys old start new grid first others → first ≤ length new.scout.mine
+first_few sys old new start grid first others grew =
+    let gains = grew.first_wins in
+    let n = least old.scout.owned in
+    let order = ap length gains.order in
+    let both = length-append (placed_by n old.scout.mine) gains.wins in
+    let many = gains.many in
+    let few = placed_few n new.scout.mine in
+    omega (arith, order, both, many, few)
+
+-- a seat has won no more tiles than the box has sites
+mine_few : (sys : TileSystem) (v : ScoutState) → IsPossible sys v → length v.mine ≤ cell_count sys.area
+mine_few sys v real =
+    let at : List Place = places v.mine in
+    let inside : All (λ (p : Place). InBox sys.area p.site) at =
+    All-map (λ (p : Place). InBox sys.area p.site) (λ (t : PlacedTile). t.place) v.mine
+    (All-weaker (Contains v.mine) (λ (t : PlacedTile). InBox sys.area t.place.site)
+    (λ t c. All-contains (λ (u : PlacedTile). InBox sys.area u.place.site) real.tiles t real.history.inside (mine_tile sys real.tiles v real.scout t c)) v.mine (All-contains_itself v.mine)) in
+    let many = length-map v.mine (λ (t : PlacedTile). t.place) in
+    let few = count_in_box sys.area at (places-distinct v.mine real.scout.mine_distinct) inside in
+    omega (arith, many, few)
+
+-- what worker 0 has won before it goes on alone and after
+pub wins_few : (sys : TileSystem) (mid : SeatValue) (grid : TileGrid) (first : ℕ) (after : Growing) → IsPossible sys after.seat.scout → first ≤ length mid.scout.mine → GrowsOn (record { seat = mid; grid = grid; won = 0 }) after →
+    first + after.won ≤ cell_count sys.area
+wins_few sys mid grid first after real few goes =
+    let won = goes.won in
+    let mine = ap length goes.mine in
+    let both = length-append mid.scout.mine goes.wins in
+    let most = mine_few sys after.seat.scout real in
+    omega (arith, few, won, mine, both, most)

@@ -1,3 +1,2 @@
 -- Definitions that only private functions cite.
 pub mod Wins
-pub mod Teams

@@ -1,27 +1,32 @@
 // Growth on a table, and a whole growth.
-ghost use Rattle.std.specs.Prelude.{◌≡◌, ◌≤◌, length, IfOk};
+ghost use Rattle.std.specs.Prelude.{◌≡◌, ◌≤◌, ◌+◌, [], length, IfOk};
 ghost use Rattle.atam.specs.Placements.{SamePlacements};
 ghost use Rattle.site_table.specs.Seats.{IsSeatOf};
 ghost use Rattle.grow_workers.specs.Workers.{OwnsAtLeast, GrewOn, IsGrowth};
+ghost use Rattle.grow_workers.specs.Inner.Wins.{PartedGrowth, HasNumbers};
 
-use crate::parts::{Crew, Harvest, gather, start_from};
-use crate::rounds::grow_in_rounds;
+use crate::alone::finish;
+use crate::leavings::Harvest;
+use crate::parts::grow_from;
 use assembly::{Grid, put_seeds};
 use site_table::{Grown, SiteSeat, SiteTable};
 use std::alloc::Global;
+use std::sync::atomic::AtomicU64;
 use std::thread::Threads;
 use tile_io::Gate;
 use tile_system::{NoMemory, System};
 
 /// Grows with so many workers, from what the seat has seen, each in a thread of its own but worker
-/// 0. The list has what each worker has won. They grow in rounds: each makes a burst of at most 4096
-/// claims, of several workers at its part of the frontier first, and then looks at what the others
-/// have won; worker 0 goes on alone for some rounds where the others win little. Where several types
-/// attach, worker w chooses by PCG's generator of state `choice` and stream w. With the choice 0 one
-/// worker claims the least site of those at which it has to look, and several go along the
-/// frontier; with any other the generator says where in the box the next one is looked for, so that
-/// each of them may come first. A worker calls the gate once, before its first claim. No clause says
-/// more of either. Where memory is wanting the seats are dropped, and the table stays usable.
+/// 0. The list has what each worker has won. The box is cut into bands of rows, of which every one
+/// in so many is a worker's own: it claims there first, and where nothing is left there it looks
+/// beside its bands at what others have placed. Each copies the grid, and ends when nobody has got
+/// on for long; then their seats and grids are joined, and worker 0 goes on alone until the box is
+/// closed. One worker begins with that, and copies no grid. Where several types attach, worker w
+/// chooses by PCG's generator of state `choice` and stream w, which worker 0 makes anew when it goes
+/// on alone. With the choice 0 one worker claims the least site of those at which it has to look;
+/// with any other the generator says where in the box the next one is looked for, so that each of
+/// them may come first. A worker calls the gate once, before its first claim. No clause says more of
+/// either. Where memory is wanting the seats are dropped, and the table stays usable.
 pub fn grow_on<R: Threads + Sync, G: Gate>(
     rt: &R,
     alloc: Global,
@@ -44,21 +49,68 @@ pub fn grow_on<R: Threads + Sync, G: Gate>(
     ensures count { IfOk result (λ r. length r.2.items ≡ workers) }
 {
     let _owned = seat.owned();
-    let Crew {
-        first,
-        others: mut team,
-    } = start_from(rt, alloc, sys, table, seat, seen, 1, workers, choice, gate)?;
-    team.insert(0, first)?;
-    grow_in_rounds(rt, alloc, sys, table, &mut team, workers)?;
-    let first = team.remove(0);
+    let team = share_out(rt, alloc, sys, table, seat, seen, workers, choice, gate)?;
     let Harvest {
         seat,
         grid,
         first,
         others: mut wins,
-    } = gather(alloc, sys, table, first, team)?;
+    } = finish(alloc, sys, table, team, choice)?;
     wins.insert(0, first)?;
     Ok((seat, grid, wins))
+}
+
+// What several workers have done until worker 0 is to go on alone: nothing where there is no other.
+fn share_out<R: Threads + Sync, G: Gate>(
+    rt: &R,
+    alloc: Global,
+    sys: &System,
+    table: &SiteTable,
+    seat: SiteSeat,
+    seen: Grid,
+    workers: u32,
+    choice: u64,
+    gate: &G,
+) -> Result<Harvest, NoMemory>
+    requires some { 1 ≤ workers }
+    requires few { workers ≤ 16 }
+    requires numbers { HasNumbers workers seat.scout.owned }
+    requires seat { IsSeatOf table.now seat }
+    requires system { table.now.sys ≡ sys.now }
+    requires area { seen.area ≡ sys.now.area }
+    requires seen { SamePlacements seat.scout.seen seen.tiles }
+    ensures grew { IfOk result (λ h.
+        PartedGrowth sys.now seat seen h.seat h.grid h.first h.others.items) }
+    ensures seat { IfOk result (λ h. IsSeatOf table.now h.seat) }
+    ensures count { IfOk result (λ h. length h.others.items + 1 ≡ workers) }
+{
+    if workers == 1 {
+        return Ok(begin(alloc, sys, seat, seen, gate));
+    }
+    let bursts = AtomicU64::new(0);
+    grow_from(
+        rt, alloc, sys, table, seat, &seen, 1, workers, choice, gate, &bursts,
+    )
+}
+
+// What one worker that is alone has done before its first claim.
+fn begin<G: Gate>(alloc: Global, sys: &System, seat: SiteSeat, seen: Grid, gate: &G) -> Harvest
+    requires area { seen.area ≡ sys.now.area }
+    requires seen { SamePlacements seat.scout.seen seen.tiles }
+    ensures grew { PartedGrowth sys.now seat seen
+        result.seat result.grid result.first result.others.items }
+    ensures seat { result.seat ≡ seat }
+    ensures count { result.others.items ≡ [] }
+{
+    let _area = sys.area();
+    gate.arrive(0);
+    let others = Vec::new(alloc);
+    Harvest {
+        seat,
+        grid: seen,
+        first: 0,
+        others,
+    }
 }
 
 /// Grows a system within its box with so many workers.

@@ -1,12 +1,13 @@
 //! Growth by workers, each with a seat of one table.
 #![tactic(auto)]
 
+mod alone;
 mod growth;
 mod in_order;
+mod leavings;
 mod member;
 mod parts;
 mod picks;
-mod rounds;
 
 pub use growth::{grow, grow_on};
 pub use in_order::grow_in_order;

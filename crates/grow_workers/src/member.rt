@@ -1,42 +1,185 @@
-// A worker, from its first burst to its last.
-ghost use Rattle.std.specs.Prelude.{◌≡◌, ◌<◌, ◌≤◌, length, IfOk};
-ghost use Rattle.assembly.specs.Cells.{cell_count};
+// A worker's life in its thread.
+ghost use Rattle.std.specs.Prelude.{◌≡◌, ◌<◌, [], IfOk};
 ghost use Rattle.atam.specs.Placements.{SamePlacements};
 ghost use Rattle.site_table.specs.Seats.{IsSeatOf};
-ghost use Rattle.frontier_seat.specs.Growths.{EndsBurst, GrowsOn};
-ghost use Rattle.grow_workers.specs.Inner.Teams.{IsSettled, IsStart, Plays};
+ghost use Rattle.frontier_seat.specs.Growths.{GrowsOn};
+ghost use Rattle.grow_workers.specs.Inner.Wins.{PartedGrowth};
 
+use crate::leavings::Part;
 use crate::picks::Picks;
 use assembly::Grid;
 use frontier_seat::{Burst, Scout};
 use site_table::{SiteSeat, SiteTable};
 use std::alloc::Global;
+use std::hint;
 use std::marker::Brand;
+use std::sync::atomic::{AtomicU64, Ordering};
 use std::sync::ledger::{Blank, Ledger};
 use tile_io::{Gate, Steps};
 use tile_system::{NoMemory, System};
 
-// The most claims of a burst.
-pub(crate) const BURST: u32 = 4096;
+// The most claims of worker 0 in its first burst.
+const FIRST_BURST: u32 = 4096;
 
-// The most claims of a worker but worker 0 in its first burst, when mostly all look at the same few
-// sites.
-pub(crate) const FIRST_BURST: u32 = 512;
+// The most claims of another worker in its first burst, when mostly all look at the same few sites.
+const FIRST_OF_OTHERS: u32 = 64;
 
-// A worker that stays through the rounds, and whether its last burst ended with a closed box.
-#[derive(Drop)]
-pub(crate) struct Member {
-    pub scout: Scout,
-    pub picks: Picks,
+// The most claims of a later burst.
+const BURST: u32 = 512;
+
+// A worker ends after so many turns in a row in which it had nothing to do and no other got on.
+const PATIENCE: u32 = 100;
+
+// Between two such turns it spins so often, and leaves the processor's core to a worker that has
+// something to do.
+const PAUSE: u32 = 300;
+
+// The most turns of a worker: more than a box takes.
+const MOST_TURNS: u32 = 1 << 20;
+
+// A worker, and of how many it is one.
+#[derive(Clone, Copy)]
+pub(crate) struct Share {
     pub worker: u32,
-    pub is_quiet: bool,
+    pub of: u32,
 }
 
-// What a round asks of its workers: worker 0 alone, or so many of them.
-#[derive(Clone, Copy)]
-pub(crate) struct Round {
-    pub is_alone: bool,
-    pub workers: u32,
+// For how many turns in a row a worker has had nothing to do while the count of all bursts stood
+// still. It bears on time alone.
+#[derive(Drop)]
+struct Idle {
+    turns: u32,
+    bursts: u64,
+}
+
+impl Idle {
+    // One turn more, and a pause.
+    fn wait(&mut self, bursts: &AtomicU64) {
+        let made = bursts.load(Ordering::SeqCst);
+        self.turns = if made == self.bursts {
+            self.turns.saturating_add(1)
+        } else {
+            0
+        };
+        self.bursts = made;
+        for _ in 0..PAUSE {
+            hint::spin_loop();
+        }
+    }
+}
+
+// All that a worker does beside others: it claims in its bands, and where nothing is left there it
+// looks beside them. It has a copy of its own of what was seen.
+pub(crate) fn work<G: Gate>(
+    alloc: Global,
+    sys: &System,
+    table: &SiteTable,
+    seat: SiteSeat,
+    seen: &Grid,
+    share: Share,
+    choice: u64,
+    gate: &G,
+    bursts: &AtomicU64,
+) -> Result<Part, NoMemory>
+    requires seat { IsSeatOf table.now seat }
+    requires system { table.now.sys ≡ sys.now }
+    requires area { seen.now.area ≡ sys.now.area }
+    requires seen { SamePlacements seat.scout.seen seen.now.tiles }
+    requires share { share.worker < share.of }
+    ensures grew { IfOk result (λ r.
+        PartedGrowth sys.now seat seen.now r.seat r.grid r.won []) }
+    ensures seat { IfOk result (λ r. IsSeatOf table.now r.seat) }
+{
+    gate.arrive(share.worker);
+    let own = seen.copy()?;
+    let Ok(mut scout) = Scout::make(alloc, sys, seat, own) else {
+        return Err(NoMemory);
+    };
+    let mut picks = Picks::make(choice, share.worker);
+    take_turns(sys, table, &mut scout, &mut picks, share, bursts);
+    let won = scout.won();
+    let (seat, grid) = scout.end();
+    Ok(Part { seat, grid, won })
+}
+
+// The first burst, and turns until there has long been nothing to do.
+#[tactic(auto, using(frontier_seat::proofs::Looked::goes_further))]
+fn take_turns(
+    sys: &System,
+    table: &SiteTable,
+    scout: &mut Scout,
+    picks: &mut Picks,
+    share: Share,
+    bursts: &AtomicU64,
+)
+    requires seat { IsSeatOf table.now scout.old.seat }
+    requires system { table.now.sys ≡ sys.now }
+    requires share { share.worker < share.of }
+    ensures { GrowsOn scout.old scout.new }
+{
+    let most = if share.worker == 0 {
+        FIRST_BURST
+    } else {
+        FIRST_OF_OTHERS
+    };
+    let mut is_over = burst(sys, table, scout, picks, share, most, bursts);
+    let mut idle = Idle {
+        turns: 0,
+        bursts: 0,
+    };
+    for _turn in 0..MOST_TURNS {
+        if is_over || idle.turns >= PATIENCE {
+            return;
+        }
+        is_over = take_turn(sys, table, scout, picks, share, &mut idle, bursts);
+    }
+}
+
+// One turn. It tells whether the box is closed.
+fn take_turn(
+    sys: &System,
+    table: &SiteTable,
+    scout: &mut Scout,
+    picks: &mut Picks,
+    share: Share,
+    idle: &mut Idle,
+    bursts: &AtomicU64,
+) -> bool
+    requires seat { IsSeatOf table.now scout.old.seat }
+    requires system { table.now.sys ≡ sys.now }
+    requires share { share.worker < share.of }
+    ensures { GrowsOn scout.old scout.new }
+{
+    if scout.has_own() {
+        idle.turns = 0;
+        return burst(sys, table, scout, picks, share, BURST, bursts);
+    }
+    scout.see_edges(sys, table, share.worker, share.of);
+    idle.wait(bursts);
+    false
+}
+
+// One burst, which is counted. It picks the ledger, and tells whether the box is closed.
+fn burst(
+    sys: &System,
+    table: &SiteTable,
+    scout: &mut Scout,
+    picks: &mut Picks,
+    share: Share,
+    most: u32,
+    bursts: &AtomicU64,
+) -> bool
+    requires seat { IsSeatOf table.now scout.old.seat }
+    requires system { table.now.sys ≡ sys.now }
+    requires share { share.worker < share.of }
+    ensures { GrowsOn scout.old scout.new }
+{
+    let ended = burst_counted::<Brand>(sys, table, scout, picks, share, most, Blank::new(1));
+    bursts.fetch_add(1, Ordering::SeqCst);
+    match ended {
+        Burst::Quiet => true,
+        Burst::Spent => false,
+    }
 }
 
 fn burst_counted<L: Ledger>(
@@ -44,89 +187,16 @@ fn burst_counted<L: Ledger>(
     table: &SiteTable,
     scout: &mut Scout,
     picks: &mut Picks,
-    share: u32,
-    of: u32,
+    share: Share,
     most: u32,
     blank: Blank,
 ) -> Burst
     requires blank { (blank.name ≡ L.name) × (blank.parts ≡ L.parts) × (0 < blank.parts) }
     requires seat { IsSeatOf table.now scout.old.seat }
     requires system { table.now.sys ≡ sys.now }
-    requires share { share < of }
-    ensures goes { GrowsOn scout.old scout.new }
-    ensures ends { EndsBurst sys.now scout.old scout.new most result }
-    ensures few { length scout.new.grid.tiles ≤ cell_count sys.now.area }
+    requires share { share.worker < share.of }
+    ensures { GrowsOn scout.old scout.new }
 {
     let mut steps: Steps<L> = Steps::open(blank);
-    scout.burst(sys, table, picks, share, of, most, &mut steps)
-}
-
-// One burst. It picks the ledger, and tells whether the box is closed.
-fn burst(sys: &System, table: &SiteTable, member: &mut Member, of: u32, most: u32)
-    requires seat { IsSeatOf table.now member.old.scout.seat }
-    requires system { table.now.sys ≡ sys.now }
-    requires some { 0 < of }
-    ensures { Plays sys.now most member.old member.new }
-{
-    let share = member.worker % of;
-    let burst = burst_counted::<Brand>(
-        sys,
-        table,
-        &mut member.scout,
-        &mut member.picks,
-        share,
-        of,
-        most,
-        Blank::new(1),
-    );
-    member.is_quiet = match burst {
-        Burst::Quiet => true,
-        Burst::Spent => false,
-    };
-}
-
-// A worker's first burst.
-pub(crate) fn start<G: Gate>(
-    alloc: Global,
-    sys: &System,
-    table: &SiteTable,
-    seat: SiteSeat,
-    seen: Grid,
-    worker: u32,
-    most: u32,
-    choice: u64,
-    gate: &G,
-) -> Result<Member, NoMemory>
-    requires seat { IsSeatOf table.now seat }
-    requires system { table.now.sys ≡ sys.now }
-    requires area { seen.area ≡ sys.now.area }
-    requires seen { SamePlacements seat.scout.seen seen.tiles }
-    ensures start { IfOk result (IsStart sys.now seat seen) }
-    ensures settled { IfOk result (IsSettled sys.now) }
-    ensures worker { IfOk result (λ m. m.worker ≡ worker) }
-{
-    gate.arrive(worker);
-    let Ok(scout) = Scout::make(alloc, sys, seat, seen) else {
-        return Err(NoMemory);
-    };
-    let mut member = Member {
-        scout,
-        picks: Picks::make(choice, worker),
-        worker,
-        is_quiet: false,
-    };
-    burst(sys, table, &mut member, 1, most);
-    Ok(member)
-}
-
-// A later burst, once it was looked at the sites that were won in the round before.
-pub(crate) fn play(sys: &System, table: &SiteTable, member: &mut Member, won: &[u32], round: Round)
-    requires seat { IsSeatOf table.now member.old.scout.seat }
-    requires system { table.now.sys ≡ sys.now }
-    requires some { 0 < round.workers }
-    ensures { Plays sys.now 4096 member.old member.new }
-{
-    member.scout.catch_up(sys, table, won);
-    let of = if round.is_alone { 1 } else { round.workers };
-    burst(sys, table, member, of, BURST);
+    scout.burst(sys, table, picks, share.worker, share.of, most, &mut steps)
 }

@@ -1,83 +1,78 @@
 // Many workers, each in a thread of its own.
-ghost use Rattle.std.specs.Prelude.{◌≡◌, ◌≤◌, ◌<◌, ◌+◌, ◌-◌, ◌^◌, [], All, length, IfOk};
+ghost use Rattle.std.specs.Prelude.{◌≡◌, ◌≤◌, ◌<◌, ◌+◌, ◌-◌, ◌∷◌, [], length, IfOk};
 ghost use Rattle.std.specs.Thread.{IsSync};
 ghost use Rattle.atam.specs.Placements.{SamePlacements};
-ghost use Rattle.atam.specs.Growth.{IsClosedInBox};
 ghost use Rattle.assembly.specs.Grids.{TileGrid};
-ghost use Rattle.grow_core.specs.Core.{OwnsTwoOrMore};
-ghost use Rattle.grow_core.specs.Steps.{IsKeptPart, IsGivenPart};
 ghost use Rattle.site_table.specs.Seats.{IsSeatOf, SeatValue};
-ghost use Rattle.grow_workers.specs.Inner.Teams.{HasTeam, IsFirst, IsStart};
-ghost use Rattle.grow_workers.specs.Inner.Wins.{PartedGrowth, HasNumbers};
+ghost use Rattle.grow_workers.specs.Inner.Wins.{IsParted, PartedGrowth, HasNumbers};
 
-use crate::member::{BURST, FIRST_BURST, Member, start};
+use crate::leavings::{Harvest, Part};
+use crate::member::{Share, work};
 use assembly::Grid;
 use site_table::{SiteSeat, SiteTable};
 use std::alloc::Global;
+use std::sync::atomic::AtomicU64;
 use std::thread::{self, Threads};
 use tile_io::Gate;
 use tile_system::{NoMemory, System};
 
-// Worker 0 and the others, in their order.
-#[derive(Drop)]
-pub(crate) struct Crew {
-    pub first: Member,
-    pub others: Vec<Member>,
-}
-
-// What workers leave: a seat, what it has seen, and how often worker 0 and the others have won.
-#[derive(Drop)]
-pub(crate) struct Harvest {
-    pub seat: SiteSeat,
-    pub grid: Grid,
-    pub first: u32,
-    pub others: Vec<u32>,
-}
-
-// The first burst of each worker from `next` on, of which `left` are left with worker 0.
-pub(crate) fn start_from<R: Threads + Sync, G: Gate>(
+// Each worker from `next` on in a thread of its own, and worker 0 in this one, which is the last of
+// those that are `left`. What they leave is joined.
+pub(crate) fn grow_from<R: Threads + Sync, G: Gate>(
     rt: &R,
     alloc: Global,
     sys: &System,
     table: &SiteTable,
     seat: SiteSeat,
-    seen: Grid,
+    seen: &Grid,
     next: u32,
     left: u32,
     choice: u64,
     gate: &G,
-) -> Result<Crew, NoMemory>
+    bursts: &AtomicU64,
+) -> Result<Harvest, NoMemory>
     requires some { 1 ≤ left }
     requires few { left ≤ 16 }
-    requires next { next + left ≤ 17 }
+    requires next { (1 ≤ next) × (next + left ≤ 17) }
     requires numbers { HasNumbers left seat.scout.owned }
     requires seat { IsSeatOf table.now seat }
     requires system { table.now.sys ≡ sys.now }
-    requires area { seen.area ≡ sys.now.area }
-    requires seen { SamePlacements seat.scout.seen seen.tiles }
-    ensures team { IfOk result (λ crew. HasTeam sys.now seat seen crew.first crew.others.items) }
-    ensures first { IfOk result (λ crew. IsFirst sys.now crew.first) }
-    ensures count { IfOk result (λ crew. length crew.others.items + 1 ≡ left) }
+    requires area { seen.now.area ≡ sys.now.area }
+    requires seen { SamePlacements seat.scout.seen seen.now.tiles }
+    ensures grew { IfOk result (λ h.
+        PartedGrowth sys.now seat seen.now h.seat h.grid h.first h.others.items) }
+    ensures seat { IfOk result (λ h. IsSeatOf table.now h.seat) }
+    ensures count { IfOk result (λ h. length h.others.items + 1 ≡ left) }
 {
+    let of = next + left - 1;
     if left == 1 {
-        return start_first(alloc, sys, table, seat, seen, choice, gate);
+        return grow_first(alloc, sys, table, seat, seen, of, choice, gate, bursts);
     }
-    let _owned = seat.owned();
-    let copy = seen.copy()?;
-    let (kept, given) = part_off(table, seat, &seen, left);
-    let (rest, member) = thread::join(
+    let (kept, given) = part_off(table, seat, seen, left);
+    let (part, rest) = thread::join(
         rt,
-        move || -> Result<Crew, NoMemory>
+        move || -> Result<Part, NoMemory>
+            requires { IsSeatOf table.now given × (table.now.sys ≡ sys.now)
+                × (seen.now.area ≡ sys.now.area) × SamePlacements given.scout.seen seen.now.tiles
+                × (next < of) }
+            ensures { IfOk result (λ r.
+                PartedGrowth sys.entry.now given seen.entry.now r.seat r.grid r.won []
+                × IsSeatOf table.entry.now r.seat) }
+        {
+            let share = Share { worker: next, of };
+            work(alloc, sys, table, given, seen, share, choice, gate, bursts)
+        },
+        move || -> Result<Harvest, NoMemory>
             requires { IsSync R.row × (1 ≤ left - 1) × (left - 1 ≤ 16)
                 × (next + 1 + (left - 1) ≤ 17) × HasNumbers (left - 1) kept.scout.owned
                 × IsSeatOf table.now kept × (table.now.sys ≡ sys.now)
-                × (seen.area ≡ sys.now.area) × SamePlacements kept.scout.seen seen.tiles }
-            ensures { IfOk result (λ crew.
-                HasTeam sys.entry.now kept seen crew.first crew.others.items
-                × IsFirst sys.entry.now crew.first
-                × (length crew.others.items + 1 ≡ left - 1)) }
+                × (seen.now.area ≡ sys.now.area) × SamePlacements kept.scout.seen seen.now.tiles }
+            ensures { IfOk result (λ h.
+                PartedGrowth sys.entry.now kept seen.entry.now h.seat h.grid h.first h.others.items
+                × IsSeatOf table.entry.now h.seat
+                × (length h.others.items + 1 ≡ left - 1)) }
         {
-            start_from(
+            grow_from(
                 rt,
                 alloc,
                 sys,
@@ -88,29 +83,11 @@ pub(crate) fn start_from<R: Threads + Sync, G: Gate>(
                 left - 1,
                 choice,
                 gate,
-            )
-        },
-        move || -> Result<Member, NoMemory>
-            requires { IsSeatOf table.now given × (table.now.sys ≡ sys.now)
-                × (copy.area ≡ sys.now.area) × SamePlacements given.scout.seen copy.tiles }
-            ensures { IfOk result (IsStart sys.entry.now given copy) }
-        {
-            start(
-                alloc,
-                sys,
-                table,
-                given,
-                copy,
-                next,
-                FIRST_BURST,
-                choice,
-                gate,
+                bursts,
             )
         },
     );
-    let Crew { first, mut others } = rest?;
-    others.insert(0, member?)?;
-    Ok(Crew { first, others })
+    unite(sys, table, rest?, part?)
 }
 
 // The seat of all workers but one, and the seat of this one.
@@ -119,99 +96,85 @@ fn part_off(table: &SiteTable, seat: SiteSeat, seen: &Grid, left: u32) -> (SiteS
     requires numbers { HasNumbers left seat.scout.owned }
     requires seat { IsSeatOf table.now seat }
     requires seen { SamePlacements seat.scout.seen seen.now.tiles }
-    ensures two { OwnsTwoOrMore seat.scout.owned }
+    ensures parted { IsParted seat result.0 result.1 }
     ensures numbers { HasNumbers (left - 1) result.0.scout.owned }
     ensures first { IsSeatOf table.now result.0 }
     ensures second { IsSeatOf table.now result.1 }
     ensures first_seen { SamePlacements result.0.scout.seen seen.now.tiles }
     ensures second_seen { SamePlacements result.1.scout.seen seen.now.tiles }
-    ensures kept { IsKeptPart seat.scout result.0.scout }
-    ensures given { IsGivenPart seat.scout result.1.scout }
 {
+    let _owned = seat.owned();
     table.split(seat)
 }
 
-// The first burst of worker 0.
-fn start_first<G: Gate>(
+// Worker 0, when the others have started.
+fn grow_first<G: Gate>(
     alloc: Global,
     sys: &System,
     table: &SiteTable,
     seat: SiteSeat,
-    seen: Grid,
+    seen: &Grid,
+    of: u32,
     choice: u64,
     gate: &G,
-) -> Result<Crew, NoMemory>
+    bursts: &AtomicU64,
+) -> Result<Harvest, NoMemory>
     requires seat { IsSeatOf table.now seat }
     requires system { table.now.sys ≡ sys.now }
-    requires area { seen.area ≡ sys.now.area }
-    requires seen { SamePlacements seat.scout.seen seen.tiles }
-    ensures team { IfOk result (λ crew. HasTeam sys.now seat seen crew.first crew.others.items) }
-    ensures first { IfOk result (λ crew. IsFirst sys.now crew.first) }
-    ensures count { IfOk result (λ crew. crew.others.items ≡ []) }
+    requires area { seen.now.area ≡ sys.now.area }
+    requires seen { SamePlacements seat.scout.seen seen.now.tiles }
+    requires some { 0 < of }
+    ensures grew { IfOk result (λ h.
+        PartedGrowth sys.now seat seen.now h.seat h.grid h.first h.others.items) }
+    ensures seat { IfOk result (λ h. IsSeatOf table.now h.seat) }
+    ensures count { IfOk result (λ h. h.others.items ≡ []) }
 {
+    let share = Share { worker: 0, of };
     let others = Vec::new(alloc);
-    let first = start(alloc, sys, table, seat, seen, 0, BURST, choice, gate)?;
-    Ok(Crew { first, others })
+    let part = work(alloc, sys, table, seat, seen, share, choice, gate, bursts)?;
+    Ok(Harvest {
+        seat: part.seat,
+        grid: part.grid,
+        first: part.won,
+        others,
+    })
 }
 
-// The seats of all workers, joined again.
-pub(crate) fn gather(
-    alloc: Global,
-    sys: &System,
-    table: &SiteTable,
-    first: Member,
-    others: Vec<Member>,
-) -> Result<Harvest, NoMemory>
+// What several workers leave, and one that was parted off from them.
+fn unite(sys: &System, table: &SiteTable, rest: Harvest, part: Part) -> Result<Harvest, NoMemory>
     requires system { table.now.sys ≡ sys.now }
-    requires first { IsSeatOf table.now first.scout.seat }
-    requires seats { All (λ m. IsSeatOf table.now m.scout.seat) others.items }
-    requires closed { IsClosedInBox sys.now first.scout.grid.tiles }
+    requires first { IsSeatOf table.now rest.seat }
+    requires second { IsSeatOf table.now part.seat }
+    requires first_area { rest.grid.area ≡ sys.now.area }
+    requires second_area { part.grid.area ≡ sys.now.area }
+    requires first_seen { SamePlacements rest.seat.scout.seen rest.grid.tiles }
+    requires second_seen { SamePlacements part.seat.scout.seen part.grid.tiles }
+    ensures grew { IfOk result (λ h. (old kept given : SeatValue) (start : TileGrid) →
+        IsSeatOf table.now old → IsParted old kept given →
+        PartedGrowth sys.now kept start rest.seat rest.grid rest.first rest.others.items →
+        PartedGrowth sys.now given start part.seat part.grid part.won [] →
+        PartedGrowth sys.now old start h.seat h.grid h.first h.others.items) }
     ensures seat { IfOk result (λ h. IsSeatOf table.now h.seat) }
-    ensures grew { IfOk result (λ h. (seat : SeatValue) (grid : TileGrid) →
-        IsSeatOf table.now seat → HasTeam sys.now seat grid first others.items →
-        PartedGrowth sys.now seat grid h.seat h.grid h.first h.others.items) }
-    ensures count { IfOk result (λ h. length h.others.items ≡ length others.items) }
+    ensures count { IfOk result (λ h.
+        length h.others.items ≡ length rest.others.items + 1) }
 {
-    let mut others = others;
-    if others.as_slice().is_empty() {
-        return Ok(leave_first(alloc, first));
-    }
-    let member = others.remove(0);
     let Harvest {
         seat: kept,
-        grid,
+        mut grid,
         first,
-        others: mut wins,
-    } = gather(alloc, sys, table, first, others)?;
-    wins.insert(0, member.scout.won())?;
-    let (given, _grid) = member.scout.end();
-    let _kept_owned = kept.owned();
-    let _given_owned = given.owned();
-    let _area = grid.area();
-    let seat = table.join(kept, given);
-    let _joined_owned = seat.owned();
+        mut others,
+    } = rest;
+    others.insert(0, part.won)?;
+    let _kept = kept.owned();
+    let _given = part.seat.owned();
+    let _grid = grid.area();
+    let _other = part.grid.area();
+    let seat = table.join(kept, part.seat);
+    grid.merge(&part.grid);
     Ok(Harvest {
         seat,
         grid,
         first,
-        others: wins,
+        others,
     })
-}
-
-// What worker 0 leaves.
-fn leave_first(alloc: Global, first: Member) -> Harvest
-    ensures seat { result.seat ≡ first.scout.seat }
-    ensures grid { result.grid ≡ first.scout.grid }
-    ensures won { result.first ≡ first.scout.won }
-    ensures none { result.others.items ≡ [] }
-    ensures seen { SamePlacements result.seat.scout.seen result.grid.tiles }
-{
-    let won = first.scout.won();
-    let (seat, grid) = first.scout.end();
-    Harvest {
-        seat,
-        grid,
-        first: won,
-        others: Vec::new(alloc),
-    }
 }

@@ -1,4 +1,4 @@
-// Bursts of one scout, and growth by rounds.
+// Bursts of one scout, and a box with work for two workers.
 ghost use Rattle.std.specs.Prelude.{◌≡◌, ◌<◌};
 ghost use Rattle.site_table.specs.Seats.{IsSeatOf};
 

@@ -7,8 +7,13 @@ use Rattle.grow_workers.proofs.parts.part_off.Goals as goal
 pub split-requires-clause-two : goal.split-requires-clause-two
 split-requires-clause-two c = (two_numbers c.args.left c.args.seat.scout.owned c.requires.many c.requires.numbers).0
 
-pub returns-clause-two : goal.returns-clause-two
-returns-clause-two c = (two_numbers c.args.left c.args.seat.scout.owned c.requires.many c.requires.numbers).0
+pub returns-clause-parted : goal.returns-clause-parted
+returns-clause-parted c = record {
+  real = c.owned-owned.ensures.possible;
+  two = (two_numbers c.args.left c.args.seat.scout.owned c.requires.many c.requires.numbers).0;
+  is_kept = c.split.ensures.kept;
+  is_given = c.split.ensures.given;
+}
 
 pub returns-clause-numbers : goal.returns-clause-numbers
 returns-clause-numbers c =
