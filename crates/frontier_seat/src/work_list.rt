@@ -205,6 +205,9 @@ impl WorkList {
         requires { InBox self.old.area site }
         ensures { self.new ≡ self.old }
     {
+        if self.share.is_whole() {
+            return;
+        }
         let (column, row) = column_and_row(&self.area, site);
         self.share.add(column, row);
     }
@@ -215,6 +218,9 @@ impl WorkList {
         requires { InBox self.old.area site }
         ensures { self.new ≡ self.old }
     {
+        if self.share.is_whole() {
+            return;
+        }
         let (column, row) = column_and_row(&self.area, site);
         self.share.leave(column, row);
     }
