@@ -197,6 +197,9 @@ impl WorkList {
         requires { InBox self.old.area site }
         ensures { self.new ≡ self.old }
     {
+        if self.share.is_whole() {
+            return;
+        }
         let (column, row) = column_and_row(&self.area, site);
         self.share.add(column, row);
     }
@@ -207,6 +210,9 @@ impl WorkList {
         requires { InBox self.old.area site }
         ensures { self.new ≡ self.old }
     {
+        if self.share.is_whole() {
+            return;
+        }
         let (column, row) = column_and_row(&self.area, site);
         self.share.leave(column, row);
     }

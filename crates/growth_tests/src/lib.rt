@@ -6,6 +6,8 @@ mod bursts;
 #[cfg(test)]
 mod choosing;
 #[cfg(test)]
+mod edges;
+#[cfg(test)]
 mod scouts;
 #[cfg(test)]
 mod table;

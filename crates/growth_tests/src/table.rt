@@ -21,7 +21,7 @@ const BESIDE: Site = Site { x: 1, y: 0 };
 const THIRD: Site = Site { x: 2, y: 0 };
 
 // The seeds alone.
-fn seeds_of(alloc: Global, sys: &System) -> Result<Grid, NoMemory>
+pub(crate) fn seeds_of(alloc: Global, sys: &System) -> Result<Grid, NoMemory>
     ensures area { IfOk result (λ grid. grid.area ≡ sys.now.area) }
     ensures seeds { IfOk result (λ grid. SamePlacements sys.now.seeds grid.tiles) }
 {
@@ -76,7 +76,7 @@ fn claim_alone(
 }
 
 // The old seat, which has seen the seeds, and a new one.
-fn split(table: &SiteTable, seat: SiteSeat, seeds: &Grid) -> (SiteSeat, SiteSeat)
+pub(crate) fn split(table: &SiteTable, seat: SiteSeat, seeds: &Grid) -> (SiteSeat, SiteSeat)
     requires seat { IsSeatOf table.now seat }
     requires whole { IsScoutOf (2 ^ 64 - 1) table.now.sys.seeds [] seat.scout }
     requires seeds { SamePlacements table.now.sys.seeds seeds.now.tiles }
