@@ -87,9 +87,9 @@ fn share_out<R: Threads + Sync, G: Gate>(
     if workers == 1 {
         return Ok(begin(alloc, sys, seat, seen, gate));
     }
-    let bursts = AtomicU64::new(0);
+    let done = AtomicU64::new(0);
     grow_from(
-        rt, alloc, sys, table, seat, &seen, 1, workers, choice, gate, &bursts,
+        rt, alloc, sys, table, seat, &seen, 1, workers, choice, gate, &done,
     )
 }
 

@@ -11,10 +11,10 @@ use assembly::Grid;
 use frontier_seat::{Burst, Scout};
 use site_table::{SiteSeat, SiteTable};
 use std::alloc::Global;
-use std::hint;
 use std::marker::Brand;
 use std::sync::atomic::{AtomicU64, Ordering};
 use std::sync::ledger::{Blank, Ledger};
+use std::{hint, thread};
 use tile_io::{Gate, Steps};
 use tile_system::{NoMemory, System};
 
@@ -27,8 +27,9 @@ const FIRST_OF_OTHERS: u32 = 64;
 // The most claims of a later burst.
 const BURST: u32 = 512;
 
-// A worker ends after so many turns in a row in which it had nothing to do and no other got on.
-const PATIENCE: u32 = 100;
+// A worker ends after so many turns in a row in which it had nothing to do and no other got on: a
+// few milliseconds.
+const PATIENCE: u32 = 40;
 
 // Between two such turns it spins so often, and leaves the processor's core to a worker that has
 // something to do.
@@ -44,27 +45,29 @@ pub(crate) struct Share {
     pub of: u32,
 }
 
-// For how many turns in a row a worker has had nothing to do while the count of all bursts stood
-// still. It bears on time alone.
+// For how many turns in a row a worker has had nothing to do while the count of all that workers
+// have done stood still. It bears on time alone.
 #[derive(Drop)]
 struct Idle {
     turns: u32,
-    bursts: u64,
+    done: u64,
 }
 
 impl Idle {
-    // One turn more, and a pause.
-    fn wait(&mut self, bursts: &AtomicU64) {
-        let made = bursts.load(Ordering::SeqCst);
-        self.turns = if made == self.bursts {
+    // One turn more, which doesn't count before all workers have begun, and a pause.
+    fn wait(&mut self, done: &AtomicU64, workers: u32) {
+        let now = done.load(Ordering::SeqCst);
+        let still = now == self.done && now >= u64::from(workers);
+        self.turns = if still {
             self.turns.saturating_add(1)
         } else {
             0
         };
-        self.bursts = made;
+        self.done = now;
         for _ in 0..PAUSE {
             hint::spin_loop();
         }
+        thread::yield_now();
     }
 }
 
@@ -79,7 +82,7 @@ pub(crate) fn work<G: Gate>(
     share: Share,
     choice: u64,
     gate: &G,
-    bursts: &AtomicU64,
+    done: &AtomicU64,
 ) -> Result<Part, NoMemory>
     requires seat { IsSeatOf table.now seat }
     requires system { table.now.sys ≡ sys.now }
@@ -91,15 +94,44 @@ pub(crate) fn work<G: Gate>(
     ensures seat { IfOk result (λ r. IsSeatOf table.now r.seat) }
 {
     gate.arrive(share.worker);
-    let own = seen.copy()?;
-    let Ok(mut scout) = Scout::make(alloc, sys, seat, own) else {
-        return Err(NoMemory);
-    };
+    let mut scout = begin(alloc, sys, seat, seen, done)?;
     let mut picks = Picks::make(choice, share.worker);
-    take_turns(sys, table, &mut scout, &mut picks, share, bursts);
+    take_turns(sys, table, &mut scout, &mut picks, share, done);
     let won = scout.won();
     let (seat, grid) = scout.end();
     Ok(Part { seat, grid, won })
+}
+
+// A worker's scout. That it has begun is counted, and so is that it can't.
+fn begin(
+    alloc: Global,
+    sys: &System,
+    seat: SiteSeat,
+    seen: &Grid,
+    done: &AtomicU64,
+) -> Result<Scout, NoMemory>
+    requires system { seat.sys ≡ sys.now }
+    requires area { seen.now.area ≡ sys.now.area }
+    requires seen { SamePlacements seat.scout.seen seen.now.tiles }
+    ensures { IfOk result (λ scout. scout ≡ record { seat = seat; grid = seen.now; won = 0 }) }
+{
+    let made = scout_of(alloc, sys, seat, seen);
+    done.fetch_add(1, Ordering::SeqCst);
+    made
+}
+
+// A scout with a copy of what was seen.
+fn scout_of(alloc: Global, sys: &System, seat: SiteSeat, seen: &Grid) -> Result<Scout, NoMemory>
+    requires system { seat.sys ≡ sys.now }
+    requires area { seen.now.area ≡ sys.now.area }
+    requires seen { SamePlacements seat.scout.seen seen.now.tiles }
+    ensures { IfOk result (λ scout. scout ≡ record { seat = seat; grid = seen.now; won = 0 }) }
+{
+    let own = seen.copy()?;
+    match Scout::make(alloc, sys, seat, own) {
+        Ok(scout) => Ok(scout),
+        Err(_parts) => Err(NoMemory),
+    }
 }
 
 // The first burst, and turns until there has long been nothing to do.
@@ -110,7 +142,7 @@ fn take_turns(
     scout: &mut Scout,
     picks: &mut Picks,
     share: Share,
-    bursts: &AtomicU64,
+    done: &AtomicU64,
 )
     requires seat { IsSeatOf table.now scout.old.seat }
     requires system { table.now.sys ≡ sys.now }
@@ -122,16 +154,13 @@ fn take_turns(
     } else {
         FIRST_OF_OTHERS
     };
-    let mut is_over = burst(sys, table, scout, picks, share, most, bursts);
-    let mut idle = Idle {
-        turns: 0,
-        bursts: 0,
-    };
+    let mut is_over = burst(sys, table, scout, picks, share, most, done);
+    let mut idle = Idle { turns: 0, done: 0 };
     for _turn in 0..MOST_TURNS {
         if is_over || idle.turns >= PATIENCE {
             return;
         }
-        is_over = take_turn(sys, table, scout, picks, share, &mut idle, bursts);
+        is_over = take_turn(sys, table, scout, picks, share, &mut idle, done);
     }
 }
 
@@ -143,7 +172,7 @@ fn take_turn(
     picks: &mut Picks,
     share: Share,
     idle: &mut Idle,
-    bursts: &AtomicU64,
+    done: &AtomicU64,
 ) -> bool
     requires seat { IsSeatOf table.now scout.old.seat }
     requires system { table.now.sys ≡ sys.now }
@@ -152,10 +181,10 @@ fn take_turn(
 {
     if scout.has_own() {
         idle.turns = 0;
-        return burst(sys, table, scout, picks, share, BURST, bursts);
+        return burst(sys, table, scout, picks, share, BURST, done);
     }
     scout.see_edges(sys, table, share.worker, share.of);
-    idle.wait(bursts);
+    idle.wait(done, share.of);
     false
 }
 
@@ -167,7 +196,7 @@ fn burst(
     picks: &mut Picks,
     share: Share,
     most: u32,
-    bursts: &AtomicU64,
+    done: &AtomicU64,
 ) -> bool
     requires seat { IsSeatOf table.now scout.old.seat }
     requires system { table.now.sys ≡ sys.now }
@@ -175,7 +204,7 @@ fn burst(
     ensures { GrowsOn scout.old scout.new }
 {
     let ended = burst_counted::<Brand>(sys, table, scout, picks, share, most, Blank::new(1));
-    bursts.fetch_add(1, Ordering::SeqCst);
+    done.fetch_add(1, Ordering::SeqCst);
     match ended {
         Burst::Quiet => true,
         Burst::Spent => false,

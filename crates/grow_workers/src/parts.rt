@@ -29,7 +29,7 @@ pub(crate) fn grow_from<R: Threads + Sync, G: Gate>(
     left: u32,
     choice: u64,
     gate: &G,
-    bursts: &AtomicU64,
+    done: &AtomicU64,
 ) -> Result<Harvest, NoMemory>
     requires some { 1 ≤ left }
     requires few { left ≤ 16 }
@@ -46,7 +46,7 @@ pub(crate) fn grow_from<R: Threads + Sync, G: Gate>(
 {
     let of = next + left - 1;
     if left == 1 {
-        return grow_first(alloc, sys, table, seat, seen, of, choice, gate, bursts);
+        return grow_first(alloc, sys, table, seat, seen, of, choice, gate, done);
     }
     let (kept, given) = part_off(table, seat, seen, left);
     let (part, rest) = thread::join(
@@ -60,7 +60,7 @@ pub(crate) fn grow_from<R: Threads + Sync, G: Gate>(
                 × IsSeatOf table.entry.now r.seat) }
         {
             let share = Share { worker: next, of };
-            work(alloc, sys, table, given, seen, share, choice, gate, bursts)
+            work(alloc, sys, table, given, seen, share, choice, gate, done)
         },
         move || -> Result<Harvest, NoMemory>
             requires { IsSync R.row × (1 ≤ left - 1) × (left - 1 ≤ 16)
@@ -83,7 +83,7 @@ pub(crate) fn grow_from<R: Threads + Sync, G: Gate>(
                 left - 1,
                 choice,
                 gate,
-                bursts,
+                done,
             )
         },
     );
@@ -117,7 +117,7 @@ fn grow_first<G: Gate>(
     of: u32,
     choice: u64,
     gate: &G,
-    bursts: &AtomicU64,
+    done: &AtomicU64,
 ) -> Result<Harvest, NoMemory>
     requires seat { IsSeatOf table.now seat }
     requires system { table.now.sys ≡ sys.now }
@@ -131,7 +131,7 @@ fn grow_first<G: Gate>(
 {
     let share = Share { worker: 0, of };
     let others = Vec::new(alloc);
-    let part = work(alloc, sys, table, seat, seen, share, choice, gate, bursts)?;
+    let part = work(alloc, sys, table, seat, seen, share, choice, gate, done)?;
     Ok(Harvest {
         seat: part.seat,
         grid: part.grid,
