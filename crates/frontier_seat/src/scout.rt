@@ -30,7 +30,7 @@ use tile_system::System;
 const MOST_CLAIMS: u32 = u32::MAX;
 
 /// A seat with the grid of what it has seen, an index of types, and room to work: with the grid, two
-/// bytes and a quarter a site.
+/// bytes and an eighth a site, and four KiB for each 32 rows.
 #[derive(Drop)]
 pub struct Scout {
     growing: Growing,

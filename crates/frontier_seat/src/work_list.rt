@@ -23,8 +23,8 @@ pub(crate) struct Spot {
 }
 
 // Sites of a box, each listed at most once, with room for all, and which of them are looked at
-// first: a quarter of a byte a site of the largest box. The row of the site that was looked at last
-// is kept, since the next one is mostly in it.
+// first: an eighth of a byte a site, and four KiB for each 32 rows. The row of the site that was
+// looked at last is kept, since the next one is mostly in it.
 #[derive(Drop)]
 pub(crate) struct WorkList {
     area: BoxArea,
