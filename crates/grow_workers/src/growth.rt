@@ -22,11 +22,11 @@ use tile_system::{NoMemory, System};
 /// beside its bands at what others have placed. Each copies the grid, and ends when nobody has got
 /// on for long; then their seats and grids are joined, and worker 0 goes on alone until the box is
 /// closed. One worker begins with that, and copies no grid. Where several types attach, worker w
-/// chooses by PCG's generator of state `choice` and stream w, which worker 0 makes anew when it goes
-/// on alone. With the choice 0 one worker claims the least site of those at which it has to look;
-/// with any other the generator says where in the box the next one is looked for, so that each of
-/// them may come first. A worker calls the gate once, before its first claim. No clause says more of
-/// either. Where memory is wanting the seats are dropped, and the table stays usable.
+/// chooses by PCG's generator of state `choice` and stream w, which worker 0 makes anew when it
+/// goes on alone. With the choice 0 one worker claims the least site of those at which it has to
+/// look; with any other the generator says where in the box the next one is looked for, so that
+/// each of them may come first. A worker calls the gate once, before its first claim. No clause
+/// says more of either. Where memory is wanting the seats are dropped, and the table stays usable.
 pub fn grow_on<R: Threads + Sync, G: Gate>(
     rt: &R,
     alloc: Global,

@@ -32,7 +32,7 @@ pub const SIERPINSKI: &str =
 /// One type that binds on all sides.
 pub const FULL: &str = "tiles 1\ntau 1\nglue a 1\ntile T a a a a\nbox 0 0 63 63\nseed 0 0 T\nend\n";
 
-/// The same in a box that takes several rounds.
+/// The same in a box with work for several workers.
 pub const WIDE: &str =
     "tiles 1\ntau 1\nglue a 1\ntile T a a a a\nbox 0 0 127 127\nseed 0 0 T\nend\n";
 
