@@ -1,4 +1,4 @@
-use Rattle.std.proofs.Common.{◌≡◌, ◌<◌, ◌∙◌, ◌+◌, ◌-◌, ◌*◌, ℕ, List, ap, drop, get_or, subst, sym, take}
+use Rattle.std.proofs.Common.{◌<◌, ◌∙◌, ◌+◌, ◌-◌, ◌*◌, ℕ, List, ap, drop, get_or, subst, sym, take}
 use Rattle.atam.specs.Sites.{height_of, site_in, width_of}
 use Rattle.atam.specs.Placements.{tile_at}
 use Rattle.assembly.specs.Grids.{TileGrid}
