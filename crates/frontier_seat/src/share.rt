@@ -1,5 +1,5 @@
 // The part of a work list that a worker looks at first.
-ghost use Rattle.std.specs.Prelude.{◌≡◌, ◌<◌, ◌≤◌, ◌+◌, ◌*◌, ◌/◌, ℕ, IfOk};
+ghost use Rattle.std.specs.Prelude.{◌≡◌, ◌<◌, ◌≤◌, ◌+◌, ◌*◌, ◌/◌, ℕ, IfOk, IfSome};
 ghost use Rattle.number_set.specs.Numbers.{IsIn};
 
 use number_set::NumberSet;
@@ -24,30 +24,34 @@ const MOST_BANDS: u32 = 32;
 
 // What one of several workers has for its own of a work list: the listed sites in its bands of 32
 // rows. It goes through a band by blocks of 64 columns, and through a block by rows, so that its
-// claims lie together in memory. All this says is what is looked at first, so contracts see the
-// number of rows alone.
+// claims lie together in memory, and it leaves a block only where nothing is listed there any more,
+// so that the next band can go on beside it soon. All this says is what is looked at first, so
+// contracts see the number of rows alone.
 #[derive(Drop)]
 pub(crate) struct Share {
     own: NumberSet,
     rows: u32,
     // A bit for each own band, and none where the worker has all sites.
     bands: u32,
+    // The first place of the block in which it looked last.
+    block: usize,
 }
 
 impl Model for Share {
-    ghost use Rattle.std.specs.Prelude.{◌≡◌, ◌≤◌, ◌+◌, ◌*◌, ◌/◌, ℕ};
+    ghost use Rattle.std.specs.Prelude.{◌≡◌, ◌<◌, ◌≤◌, ◌+◌, ◌*◌, ◌/◌, ℕ};
 
     ghost Value = { ℕ };
 
     ghost view = { λ s. s.rows };
 
-    ghost invariant = { λ s. (s.own.bound ≡ (s.rows + 31) / 32 * 32768) × (s.rows ≤ 1024) };
+    ghost invariant = { λ s. (s.own.bound ≡ (s.rows + 31) / 32 * 32768) × (s.rows ≤ 1024)
+        × (s.block < s.own.bound) };
 }
 
 impl Share {
     // No site of a box of so many rows. All are the worker's own: it works alone.
     pub(crate) fn make(alloc: Global, rows: u32) -> Result<Share, NoMemory>
-        requires { rows ≤ 1024 }
+        requires { (0 < rows) × (rows ≤ 1024) }
         ensures { IfOk result (λ share. share ≡ rows) }
     {
         let places = (rows + (BAND_ROWS - 1)) / BAND_ROWS * BAND_SITES;
@@ -55,6 +59,7 @@ impl Share {
             own: NumberSet::make(alloc, places)?,
             rows,
             bands: 0,
+            block: 0,
         })
     }
 
@@ -107,17 +112,32 @@ impl Share {
         }
     }
 
-    // The column and row of the worker's first own site.
+    // The first own place from the block on in which the worker looked last, else the first of all.
     #[inline(always)]
-    pub(crate) fn first(&self) -> Option<(u32, u32)> {
-        let place = self.own.least()?;
+    fn next_place(&self) -> Option<usize>
+        ensures { IfSome result (λ place. place < (self.now + 31) / 32 * 32768) }
+    {
+        if let Some(place) = self.own.least_from(self.block) {
+            return Some(place);
+        }
+        self.own.least()
+    }
+
+    // The column and row of the next of the worker's own sites.
+    #[inline(always)]
+    pub(crate) fn first(&mut self) -> Option<(u32, u32)>
+        ensures { self.new ≡ self.old }
+    {
+        let place = self.next_place()?;
+        self.block = place / BLOCK_SITES as usize * BLOCK_SITES as usize;
         Some(site_of(place as u32))
     }
 
     // The same from the place of this site on, if there is one.
-    pub(crate) fn first_from(&self, column: u32, row: u32) -> Option<(u32, u32)>
+    pub(crate) fn first_from(&mut self, column: u32, row: u32) -> Option<(u32, u32)>
         requires column { column < 1024 }
-        requires row { row < self.now }
+        requires row { row < self.old }
+        ensures { self.new ≡ self.old }
     {
         let Some(place) = self.own.least_from(place_of(column, row)) else {
             return self.first();

@@ -8,10 +8,10 @@ ghost use Rattle.grow_workers.specs.Inner.Wins.{PartedGrowth, HasNumbers};
 use crate::alone::finish;
 use crate::leavings::Harvest;
 use crate::parts::grow_from;
+use crate::team::Team;
 use assembly::{Grid, put_seeds};
 use site_table::{Grown, SiteSeat, SiteTable};
 use std::alloc::Global;
-use std::sync::atomic::AtomicU64;
 use std::thread::Threads;
 use tile_io::Gate;
 use tile_system::{NoMemory, System};
@@ -19,8 +19,8 @@ use tile_system::{NoMemory, System};
 /// Grows with so many workers, from what the seat has seen, each in a thread of its own but worker
 /// 0. The list has what each worker has won. The box is cut into bands of rows, of which every one
 /// in so many is a worker's own: it claims there first, and where nothing is left there it looks
-/// beside its bands at what others have placed. Each copies the grid, and ends when nobody has got
-/// on for long; then their seats and grids are joined, and worker 0 goes on alone until the box is
+/// beside its bands at what others have placed. Each copies the grid, and ends when for a while none
+/// of them had anything to do; then their seats and grids are joined, and worker 0 goes on alone until the box is
 /// closed. One worker begins with that, and copies no grid. Where several types attach, worker w
 /// chooses by PCG's generator of state `choice` and stream w, which worker 0 makes anew when it
 /// goes on alone. With the choice 0 one worker claims the least site of those at which it has to
@@ -87,9 +87,9 @@ fn share_out<R: Threads + Sync, G: Gate>(
     if workers == 1 {
         return Ok(begin(alloc, sys, seat, seen, gate));
     }
-    let done = AtomicU64::new(0);
+    let team = Team::of(workers);
     grow_from(
-        rt, alloc, sys, table, seat, &seen, 1, workers, choice, gate, &done,
+        rt, alloc, sys, table, seat, &seen, 1, workers, choice, gate, &team,
     )
 }
 

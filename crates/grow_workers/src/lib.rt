@@ -8,6 +8,7 @@ mod leavings;
 mod member;
 mod parts;
 mod picks;
+mod team;
 
 pub use growth::{grow, grow_on};
 pub use in_order::grow_in_order;

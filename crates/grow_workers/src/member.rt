@@ -7,14 +7,13 @@ ghost use Rattle.grow_workers.specs.Inner.Wins.{PartedGrowth};
 
 use crate::leavings::Part;
 use crate::picks::Picks;
+use crate::team::{Team, Waiting};
 use assembly::Grid;
 use frontier_seat::{Burst, Scout};
 use site_table::{SiteSeat, SiteTable};
 use std::alloc::Global;
 use std::marker::Brand;
-use std::sync::atomic::{AtomicU64, Ordering};
 use std::sync::ledger::{Blank, Ledger};
-use std::{hint, thread};
 use tile_io::{Gate, Steps};
 use tile_system::{NoMemory, System};
 
@@ -27,14 +26,6 @@ const FIRST_OF_OTHERS: u32 = 64;
 // The most claims of a later burst.
 const BURST: u32 = 512;
 
-// A worker ends after so many turns in a row in which it had nothing to do and no other got on: a
-// few milliseconds.
-const PATIENCE: u32 = 40;
-
-// Between two such turns it spins so often, and leaves the processor's core to a worker that has
-// something to do.
-const PAUSE: u32 = 300;
-
 // The most turns of a worker: more than a box takes.
 const MOST_TURNS: u32 = 1 << 20;
 
@@ -43,32 +34,6 @@ const MOST_TURNS: u32 = 1 << 20;
 pub(crate) struct Share {
     pub worker: u32,
     pub of: u32,
-}
-
-// For how many turns in a row a worker has had nothing to do while the count of all that workers
-// have done stood still. It bears on time alone.
-#[derive(Drop)]
-struct Idle {
-    turns: u32,
-    done: u64,
-}
-
-impl Idle {
-    // One turn more, which doesn't count before all workers have begun, and a pause.
-    fn wait(&mut self, done: &AtomicU64, workers: u32) {
-        let now = done.load(Ordering::SeqCst);
-        let still = now == self.done && now >= u64::from(workers);
-        self.turns = if still {
-            self.turns.saturating_add(1)
-        } else {
-            0
-        };
-        self.done = now;
-        for _ in 0..PAUSE {
-            hint::spin_loop();
-        }
-        thread::yield_now();
-    }
 }
 
 // All that a worker does beside others: it claims in its bands, and where nothing is left there it
@@ -82,7 +47,7 @@ pub(crate) fn work<G: Gate>(
     share: Share,
     choice: u64,
     gate: &G,
-    done: &AtomicU64,
+    team: &Team,
 ) -> Result<Part, NoMemory>
     requires seat { IsSeatOf table.now seat }
     requires system { table.now.sys ≡ sys.now }
@@ -94,9 +59,9 @@ pub(crate) fn work<G: Gate>(
     ensures seat { IfOk result (λ r. IsSeatOf table.now r.seat) }
 {
     gate.arrive(share.worker);
-    let mut scout = begin(alloc, sys, seat, seen, done)?;
+    let mut scout = begin(alloc, sys, seat, seen, team)?;
     let mut picks = Picks::make(choice, share.worker);
-    take_turns(sys, table, &mut scout, &mut picks, share, done);
+    take_turns(sys, table, &mut scout, &mut picks, share, team);
     let won = scout.won();
     let (seat, grid) = scout.end();
     Ok(Part { seat, grid, won })
@@ -108,7 +73,7 @@ fn begin(
     sys: &System,
     seat: SiteSeat,
     seen: &Grid,
-    done: &AtomicU64,
+    team: &Team,
 ) -> Result<Scout, NoMemory>
     requires system { seat.sys ≡ sys.now }
     requires area { seen.now.area ≡ sys.now.area }
@@ -116,7 +81,10 @@ fn begin(
     ensures { IfOk result (λ scout. scout ≡ record { seat = seat; grid = seen.now; won = 0 }) }
 {
     let made = scout_of(alloc, sys, seat, seen);
-    done.fetch_add(1, Ordering::SeqCst);
+    team.begin();
+    if made.is_err() {
+        team.rest();
+    }
     made
 }
 
@@ -142,7 +110,7 @@ fn take_turns(
     scout: &mut Scout,
     picks: &mut Picks,
     share: Share,
-    done: &AtomicU64,
+    team: &Team,
 )
     requires seat { IsSeatOf table.now scout.old.seat }
     requires system { table.now.sys ≡ sys.now }
@@ -154,14 +122,15 @@ fn take_turns(
     } else {
         FIRST_OF_OTHERS
     };
-    let mut is_over = burst(sys, table, scout, picks, share, most, done);
-    let mut idle = Idle { turns: 0, done: 0 };
+    let mut is_over = burst(sys, table, scout, picks, share, most);
+    let mut waiting = Waiting::NONE;
     for _turn in 0..MOST_TURNS {
-        if is_over || idle.turns >= PATIENCE {
-            return;
+        if is_over || waiting.is_over {
+            break;
         }
-        is_over = take_turn(sys, table, scout, picks, share, &mut idle, done);
+        is_over = take_turn(sys, table, scout, picks, share, &mut waiting, team);
     }
+    waiting.stop_work(team);
 }
 
 // One turn. It tells whether the box is closed.
@@ -171,8 +140,8 @@ fn take_turn(
     scout: &mut Scout,
     picks: &mut Picks,
     share: Share,
-    idle: &mut Idle,
-    done: &AtomicU64,
+    waiting: &mut Waiting,
+    team: &Team,
 ) -> bool
     requires seat { IsSeatOf table.now scout.old.seat }
     requires system { table.now.sys ≡ sys.now }
@@ -180,15 +149,17 @@ fn take_turn(
     ensures { GrowsOn scout.old scout.new }
 {
     if scout.has_own() {
-        idle.turns = 0;
-        return burst(sys, table, scout, picks, share, BURST, done);
+        waiting.go_on(team);
+        return burst(sys, table, scout, picks, share, BURST);
     }
     scout.see_edges(sys, table, share.worker, share.of);
-    idle.wait(done, share.of);
+    if !scout.has_own() {
+        waiting.wait(team);
+    }
     false
 }
 
-// One burst, which is counted. It picks the ledger, and tells whether the box is closed.
+// One burst. It picks the ledger, and tells whether the box is closed.
 fn burst(
     sys: &System,
     table: &SiteTable,
@@ -196,7 +167,6 @@ fn burst(
     picks: &mut Picks,
     share: Share,
     most: u32,
-    done: &AtomicU64,
 ) -> bool
     requires seat { IsSeatOf table.now scout.old.seat }
     requires system { table.now.sys ≡ sys.now }
@@ -204,7 +174,6 @@ fn burst(
     ensures { GrowsOn scout.old scout.new }
 {
     let ended = burst_counted::<Brand>(sys, table, scout, picks, share, most, Blank::new(1));
-    done.fetch_add(1, Ordering::SeqCst);
     match ended {
         Burst::Quiet => true,
         Burst::Spent => false,

@@ -8,10 +8,10 @@ ghost use Rattle.grow_workers.specs.Inner.Wins.{IsParted, PartedGrowth, HasNumbe
 
 use crate::leavings::{Harvest, Part};
 use crate::member::{Share, work};
+use crate::team::Team;
 use assembly::Grid;
 use site_table::{SiteSeat, SiteTable};
 use std::alloc::Global;
-use std::sync::atomic::AtomicU64;
 use std::thread::{self, Threads};
 use tile_io::Gate;
 use tile_system::{NoMemory, System};
@@ -29,7 +29,7 @@ pub(crate) fn grow_from<R: Threads + Sync, G: Gate>(
     left: u32,
     choice: u64,
     gate: &G,
-    done: &AtomicU64,
+    team: &Team,
 ) -> Result<Harvest, NoMemory>
     requires some { 1 ≤ left }
     requires few { left ≤ 16 }
@@ -46,7 +46,7 @@ pub(crate) fn grow_from<R: Threads + Sync, G: Gate>(
 {
     let of = next + left - 1;
     if left == 1 {
-        return grow_first(alloc, sys, table, seat, seen, of, choice, gate, done);
+        return grow_first(alloc, sys, table, seat, seen, of, choice, gate, team);
     }
     let (kept, given) = part_off(table, seat, seen, left);
     let (part, rest) = thread::join(
@@ -60,7 +60,7 @@ pub(crate) fn grow_from<R: Threads + Sync, G: Gate>(
                 × IsSeatOf table.entry.now r.seat) }
         {
             let share = Share { worker: next, of };
-            work(alloc, sys, table, given, seen, share, choice, gate, done)
+            work(alloc, sys, table, given, seen, share, choice, gate, team)
         },
         move || -> Result<Harvest, NoMemory>
             requires { IsSync R.row × (1 ≤ left - 1) × (left - 1 ≤ 16)
@@ -83,7 +83,7 @@ pub(crate) fn grow_from<R: Threads + Sync, G: Gate>(
                 left - 1,
                 choice,
                 gate,
-                done,
+                team,
             )
         },
     );
@@ -117,7 +117,7 @@ fn grow_first<G: Gate>(
     of: u32,
     choice: u64,
     gate: &G,
-    done: &AtomicU64,
+    team: &Team,
 ) -> Result<Harvest, NoMemory>
     requires seat { IsSeatOf table.now seat }
     requires system { table.now.sys ≡ sys.now }
@@ -131,7 +131,7 @@ fn grow_first<G: Gate>(
 {
     let share = Share { worker: 0, of };
     let others = Vec::new(alloc);
-    let part = work(alloc, sys, table, seat, seen, share, choice, gate, done)?;
+    let part = work(alloc, sys, table, seat, seen, share, choice, gate, team)?;
     Ok(Harvest {
         seat: part.seat,
         grid: part.grid,
