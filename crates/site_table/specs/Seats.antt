@@ -1,4 +1,4 @@
--- What contracts see of a table, of a seat and of a closed table.
+-- What contracts see of a table, of a seat and of what is grown.
 use Rattle.std.specs.Prelude.{◌≡◌, ℕ, ◌-◌, ◌<◌, ◌^◌, List, ◌++◌, All, None, length, slice_index}
 use Rattle.atomic_table.specs.Seated.{TableId}
 use Rattle.atam.specs.declared.site.Site.{Site}
@@ -54,12 +54,12 @@ pub record IsPartOfGrowth (sys : TileSystem) (seen : List Place) : Type 0 where
   pub inside : All (λ p. InBox sys.area p.site) tiles
   pub part : IsPartOf seen tiles
 
--- the tiles of a closed table, and how many of them each number placed
+-- grown tiles, and how many of them each number placed
 pub record GrownValue : Type 0 where
   pub grid : TileGrid
   pub won : List ℕ
 
--- What a closed table leaves beside a seat.
+-- What a table leaves beside a seat when it is closed.
 pub record Closes (sys : TileSystem) (v : ScoutState) (out : GrownValue) : Type 0 where
   pub area : out.grid.area ≡ sys.area
   pub distinct : HasDistinctSites out.grid.tiles

@@ -1,4 +1,4 @@
-// What a closed table leaves.
+// What a table leaves when it is closed, and what growth without a table leaves.
 ghost use Rattle.std.specs.Prelude.{◌≡◌, ◌≢◌, ◌+◌, ◌-◌, ◌*◌, ◌%◌, ◌<◌, ◌≤◌, ℕ, [], ◌∷◌, ◌++◌, cond, None, length, slice_index, count_by, All};
 ghost use Rattle.std.specs.Slots.{slots_items, slots_len, IsFull};
 ghost use Rattle.atam.specs.Sites.{IsBox};
@@ -6,9 +6,11 @@ ghost use Rattle.atam.specs.declared.site.Site.{Site};
 ghost use Rattle.atam.specs.Placements.{tile_at, SamePlacements, HasDistinctSites};
 ghost use Rattle.assembly.specs.Cells.{cell_count, site_at};
 ghost use Rattle.assembly.specs.Grids.{place_of};
+ghost use Rattle.site_table.specs.Tallies.{tallied};
 ghost use Rattle.site_table.specs.Words.{is_by, spelled};
 
 use crate::table::type_of;
+use crate::tally::Tally;
 use assembly::{Grid, site_of_index};
 use atomic_table::Closed;
 use std::alloc::Global;
@@ -68,20 +70,19 @@ impl Grown {
 
 // Adds the place of one word, if it is of a tile.
 #[inline(always)]
-fn take_word(area: &BoxArea, index: usize, word: u64, into: &mut Grid, won: &mut [u32; 64])
+fn take_word(area: &BoxArea, index: usize, word: u64, into: &mut Grid, won: &mut Tally)
     requires limits { IsBox area.now }
     requires area { into.old.area ≡ area.now }
     requires within { index < cell_count area.now }
     requires coded { word ≢ 0 → 0 < word % 4294967296 }
     requires small { word % 4294967296 ≤ 16384 }
     requires empty { tile_at into.old.tiles (site_at area.now index) ≡ None }
-    requires few { (n : ℕ) → n < 64 → slice_index won.old n ≤ index }
+    requires few { (n : ℕ) → tallied won.old n ≤ index }
     ensures area { into.new.area ≡ into.old.area }
     ensures tiles { (m : Site) → tile_at into.new.tiles m
         ≡ tile_at (into.old.tiles ++ place_of (site_at area.now index) (word % 4294967296)) m }
-    ensures numbers { length won.new ≡ 64 }
-    ensures won { (n : ℕ) → n < 64 →
-        slice_index won.new n ≡ slice_index won.old n + cond (is_by n word) 1 0 }
+    ensures won { (n : ℕ) → n < 64 → tallied won.new n ≡ tallied won.old n + cond (is_by n word) 1 0 }
+    ensures few { (n : ℕ) → tallied won.new n ≤ tallied won.old n + 1 }
 {
     if word == 0 {
         return;
@@ -89,10 +90,7 @@ fn take_word(area: &BoxArea, index: usize, word: u64, into: &mut Grid, won: &mut
     let site = site_of_index(area, index);
     let tile = type_of(word);
     into.put_at(Place { site, tile }, index);
-    let number = (word >> 32) as usize;
-    if number < 64 {
-        won[number] += 1;
-    }
+    won.add((word >> 32) as usize);
 }
 
 // Reads all words.
@@ -113,7 +111,7 @@ pub(crate) fn gather(closed: &Closed<(), Global>, area: BoxArea, into: Grid) -> 
         slice_index result.won n ≡ count_by (is_by n) (slots_items closed.now.words) }
 {
     let mut into = into;
-    let mut won = [0u32; 64];
+    let mut won = Tally::new();
     let count = area.width() as usize * area.height() as usize;
     let mut index = 0;
     while index < count {
@@ -121,5 +119,6 @@ pub(crate) fn gather(closed: &Closed<(), Global>, area: BoxArea, into: Grid) -> 
         index += 1;
     }
     let _ = into.area();
+    let won = won.into_counts();
     Grown { grid: into, won }
 }

@@ -11,6 +11,7 @@ mod laws;
 mod rule;
 mod seat;
 mod table;
+mod tally;
 mod view;
 
 pub use grown::Grown;

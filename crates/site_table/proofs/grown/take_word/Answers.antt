@@ -1,4 +1,4 @@
-use Rattle.std.proofs.Common.{arith, ◌<◌, ◌/◌, ◌%◌, ◌∙◌, ap, sym, subst}
+use Rattle.std.proofs.Common.{arith, ◌<◌, ◌%◌, ◌∙◌, ap, sym, subst}
 use Rattle.atam.specs.declared.area.BoxArea.{BoxArea}
 use Rattle.atam.specs.declared.place.TypeId.{TypeId}
 use Rattle.assembly.specs.Cells.{cell_count, site_at}
@@ -6,21 +6,17 @@ use Rattle.assembly.proofs.Cells.{cell_count-most}
 use Rattle.site_table.proofs.Closing.{took}
 use Rattle.site_table.proofs.grown.take_word.Goals as goal
 
-pub overflow_add-won : goal.overflow_add-won
-overflow_add-won c =
-    let few = c.requires.few (c.args.word / 4294967296) c.if-number-lt64.true in
-    let small = cell_count-most c.args.area.now c.requires.limits in
-    let within = c.requires.within in
-    omega (arith, few, small, within)
+pub add-requires : goal.add-requires
+add-requires c = record {
+  few = λ n.
+      let few = c.requires.few n in
+      let small = cell_count-most c.args.area.now c.requires.limits in
+      let within = c.requires.within in
+      omega (arith, few, small, within);
+}
 
-pub returns-then-number-lt64-clause-tiles : goal.returns-then-number-lt64-clause-tiles
-returns-then-number-lt64-clause-tiles c =
-    let site = c.site_of_index-site.ensures.site in
-    let low = c.requires.coded c.if-word-eq0.false in
-    took c.args.into.now.tiles c.put_at.new.self.tiles (site_at c.args.area.now c.args.index) (c.args.word % 4294967296) _ low site (ap (λ (t : TypeId). t.0) c.type_of-tile.ensures) c.requires.empty c.put_at.ensures.here c.put_at.ensures.others
-
-pub returns-else-number-lt64-clause-tiles : goal.returns-else-number-lt64-clause-tiles
-returns-else-number-lt64-clause-tiles c =
+pub returns-clause-tiles : goal.returns-clause-tiles
+returns-clause-tiles c =
     let site = c.site_of_index-site.ensures.site in
     let low = c.requires.coded c.if-word-eq0.false in
     took c.args.into.now.tiles c.put_at.new.self.tiles (site_at c.args.area.now c.args.index) (c.args.word % 4294967296) _ low site (ap (λ (t : TypeId). t.0) c.type_of-tile.ensures) c.requires.empty c.put_at.ensures.here c.put_at.ensures.others
