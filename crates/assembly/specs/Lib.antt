@@ -1,4 +1,5 @@
 pub mod Cells
 pub mod Grids
 pub mod Laws
+pub mod Logs
 pub mod Inner

@@ -4,11 +4,15 @@
 mod cell;
 mod grid;
 mod laws;
+mod packed_place;
+mod packed_places;
+mod place_log;
 mod seeding;
 mod sequence;
 
 pub use cell::{number_beside, site_index, site_of_index};
 pub use grid::Grid;
 pub use laws::law_numbers;
+pub use place_log::PlaceLog;
 pub use seeding::put_seeds;
 pub use sequence::Sequence;

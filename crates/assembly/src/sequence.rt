@@ -1,6 +1,7 @@
 // Places in an order.
-ghost use Rattle.std.specs.Prelude.{◌≡◌, ◌<◌, [], ◌∷◌, ◌++◌, length, slice_get, Some, IsTrue, ◌↔◌, IfOk, OnOk, OnErr};
+ghost use Rattle.std.specs.Prelude.{◌≡◌, ◌<◌, [], ◌∷◌, ◌++◌, length, take, slice_get, Some, IsTrue, ◌↔◌, IfOk, OnOk, OnErr};
 
+use crate::packed_places::PackedPlaces;
 use std::alloc::Global;
 use std::marker::Model;
 use tile_system::{NoMemory, Place};
@@ -8,7 +9,7 @@ use tile_system::{NoMemory, Place};
 /// Places in the order in which they were pushed. Their sites may repeat.
 #[derive(Drop)]
 pub struct Sequence {
-    places: Vec<Place>,
+    places: PackedPlaces,
 }
 
 impl Model for Sequence {
@@ -17,7 +18,7 @@ impl Model for Sequence {
 
     ghost Value = { List Place };
 
-    ghost view = { λ s. s.places.items };
+    ghost view = { λ s. s.places.places };
 }
 
 impl Sequence {
@@ -26,13 +27,13 @@ impl Sequence {
         ensures { result ≡ [] }
     {
         Sequence {
-            places: Vec::new(alloc),
+            places: PackedPlaces::make(alloc),
         }
     }
 
-    /// The sequence of these places.
-    pub fn of_places(places: Vec<Place>) -> Sequence
-        ensures { result ≡ places.items }
+    // The sequence of these places.
+    pub(crate) fn of_packed(places: PackedPlaces) -> Sequence
+        ensures { result ≡ places.places }
     {
         Sequence { places }
     }
@@ -41,8 +42,7 @@ impl Sequence {
         ensures ok { OnOk result (self.new ≡ self.old ++ place ∷ []) }
         ensures unchanged { OnErr result (self.new ≡ self.old) }
     {
-        self.places.push(place)?;
-        Ok(())
+        self.places.push(place)
     }
 
     /// The same sequence once more.
@@ -50,7 +50,7 @@ impl Sequence {
         ensures { IfOk result (λ seq. seq ≡ self.now) }
     {
         Ok(Sequence {
-            places: Vec::from_slice(*self.places.allocator(), self.places.as_slice())?,
+            places: self.places.copy()?,
         })
     }
 
@@ -63,19 +63,28 @@ impl Sequence {
     pub fn is_empty(&self) -> bool
         ensures { IsTrue result ↔ (self.now ≡ []) }
     {
-        self.places.is_empty()
+        self.places.len() == 0
     }
 
     pub fn get(&self, i: usize) -> Place
         requires { i < length self.now }
         ensures { slice_get self.now i ≡ Some result }
     {
-        self.places[i]
+        self.places.get(i)
     }
 
-    pub fn as_slice(&self) -> &[Place]
-        ensures { result.now ≡ self.now }
+    /// Whether its first places are these, in their order.
+    pub fn starts_with(&self, places: &[Place]) -> bool
+        ensures { IsTrue result ↔ (take (length places.now) self.now ≡ places.now) }
     {
-        self.places.as_slice()
+        if self.len() < places.len() {
+            return false;
+        }
+        for (index, place) in places.iter().enumerate() {
+            if self.get(index) != *place {
+                return false;
+            }
+        }
+        true
     }
 }

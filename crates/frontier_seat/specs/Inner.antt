@@ -2,6 +2,5 @@
 pub mod Listings
 pub mod Looks
 pub mod Fillings
-pub mod Logs
 pub mod Rows
 pub mod Pickers

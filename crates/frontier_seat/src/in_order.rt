@@ -12,10 +12,9 @@ ghost use Rattle.frontier_seat.specs.Inner.Pickers.{IsPickerOf};
 
 use crate::Chooser;
 use crate::picking::Picker;
-use crate::place_log::PlaceLog;
 use crate::row::Row;
 use crate::work_list::{Spot, WorkList};
-use assembly::{Grid, Sequence, put_seeds, site_index};
+use assembly::{Grid, PlaceLog, Sequence, put_seeds, site_index};
 use std::alloc::Global;
 use tile_system::{NoMemory, Place, System};
 

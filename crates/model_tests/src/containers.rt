@@ -55,13 +55,40 @@ fn grids_and_sequences_hold_places(rt: HostRuntime) -> Result<(), Fail> {
         assert_eq!(rt; grid.at(Site { x, y }), Some(TypeId(tile)));
         assert_eq!(rt; number(Site { x, y }), Some(index));
     }
-    assert_eq!(rt;
-        sequence.copy()?.as_slice().last().copied(),
-        Some(place(0, 1, 7))
+    assert!(rt;
+        sequence
+            .copy()?
+            .starts_with(&[place(-1, -2, 0), place(3, 4, 16383), place(0, 1, 7)])
     );
     assert_eq!(rt;
         (grid.at(Site { x: 4, y: 1 }), grid.at(Site { x: 1, y: 0 })),
         (None, None)
     );
+    Ok(())
+}
+
+// The least and the greatest numbers that a place may have, and the first and the last that are told
+// in 21 bits, each with the next beyond it.
+#[test]
+fn sequences_hold_far_places(rt: HostRuntime) -> Result<(), Fail> {
+    let places = [
+        place(0, -1, 0),
+        place(i32::MIN, i32::MAX, u32::MAX),
+        place(-1_048_576, 1_048_575, 2_097_151),
+        place(-1_048_577, 0, 1),
+        place(0, 1_048_576, 2),
+        place(1, 1, 2_097_152),
+        place(-1_000_000, 1_000_000, 16_383),
+        place(i32::MAX, i32::MIN, 0),
+    ];
+    let mut sequence = Sequence::make(rt.alloc());
+    for place in places {
+        sequence.push(place)?;
+    }
+    let copy = sequence.copy()?;
+    sequence.push(place(7, 7, 7))?;
+    assert_eq!(rt; (copy.len(), sequence.len()), (8, 9));
+    assert!(rt; copy.starts_with(&places) && sequence.starts_with(&places));
+    assert!(rt; !copy.starts_with(&[place(0, -1, 1)]));
     Ok(())
 }

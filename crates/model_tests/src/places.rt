@@ -83,10 +83,13 @@ fn push_fitting(sys: &System, order: &mut Sequence, spot: Spot) -> Result<(), No
 
 // Whether a sequence has these places.
 pub fn lists(sys: &System, order: &Sequence, spots: &[Spot]) -> bool {
-    let places = order.as_slice();
-    places.len() == spots.len()
-        && places
-            .iter()
-            .zip(spots)
-            .all(|(place, spot)| fitting_place(sys, *spot) == Some(*place))
+    if order.len() != spots.len() {
+        return false;
+    }
+    for (index, spot) in spots.iter().enumerate() {
+        if fitting_place(sys, *spot) != Some(order.get(index)) {
+            return false;
+        }
+    }
+    true
 }

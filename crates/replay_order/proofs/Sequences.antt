@@ -1,8 +1,8 @@
 -- A sequence whose places are put into a grid one by one.
-use Rattle.std.proofs.Common.{◌≡◌, ◌&&◌, ◌==◌, ◌<◌, ◌≤◌, ◌+◌, ℕ, true, List, length, take, Option, Some, None, is_some, slice_get, refl, sym, ◌∙◌, ap, subst, inl, inr, arith, true≢false, false, Decides}
+use Rattle.std.proofs.Common.{◌≡◌, ◌<◌, ◌≤◌, ◌+◌, ℕ, true, List, length, take, Option, Some, None, is_some, slice_get, refl, sym, ◌∙◌, subst, inl, inr, arith, true≢false, false}
 use Rattle.std.proofs.lemmas.Option.{none-some}
 use Rattle.atam.specs.declared.site.Side.{Side}
-use Rattle.atam.specs.Sites.{neighbor, same_site}
+use Rattle.atam.specs.Sites.{neighbor}
 use Rattle.atam.specs.declared.place.TypeId.{TypeId}
 use Rattle.atam.specs.declared.place.Place.{Place}
 use Rattle.atam.specs.Placements.{HasDistinctSites, SamePlacements, tile_at}
@@ -10,9 +10,6 @@ use Rattle.atam.specs.TileSystem.{TileSystem, IsType}
 use Rattle.atam.specs.Assembly.{Attaches}
 use Rattle.atam.specs.Assembly as model
 use Rattle.atam.specs.Growth.{IsLegal}
-use Rattle.std.specs.Ordering.{int_eq}
-use Rattle.std.proofs.lemmas.Bool.Decides.{Decides-like, Decides-and, Decides-eqb}
-use Rattle.atam.proofs.Boxes.{Decides-same_site}
 use Rattle.atam.proofs.Lists.{some_or_none}
 use Rattle.atam.proofs.Tiles.{same_back, SameTiles-from}
 use Rattle.atam.proofs.Sequences.{IsLegal-push, IsLegal-distinct}
@@ -66,11 +63,3 @@ weak_illegal sys s n pull is_weak legal =
     let held = (legal.each n is_weak.place is_weak.later is_weak.there).held in
     let never : ⊥ = omega (arith, held, is_weak.weak, is_weak.pulled) in
     never
-
--- the comparison of places tells whether they are one
-pub Decides-place : (a b : Place) → Decides ((int_eq a.site.x b.site.x && int_eq a.site.y b.site.y) && a.tile.0 == b.tile.0) (a ≡ b)
-Decides-place a b =
-    Decides-like ((int_eq a.site.x b.site.x && int_eq a.site.y b.site.y) && a.tile.0 == b.tile.0)
-    (λ both. λ k. record { site = both.0 k; tile = record { 0 = both.1 k } })
-    (λ same. (ap (λ p. p.site) same, ap (λ p. p.tile.0) same))
-    (Decides-and (same_site a.site b.site) (a.tile.0 == b.tile.0) (Decides-same_site a.site b.site) (Decides-eqb a.tile.0 b.tile.0))

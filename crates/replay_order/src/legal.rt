@@ -58,5 +58,5 @@ pub fn check_legal(sys: &System, seq: &Sequence, scratch: &mut Grid) -> Legality
 fn begins_with_seeds(sys: &System, seq: &Sequence) -> bool
     ensures { IsTrue result ↔ (take (length sys.now.seeds) seq.now ≡ sys.now.seeds) }
 {
-    seq.as_slice().starts_with(sys.seeds())
+    seq.starts_with(sys.seeds())
 }

@@ -5,6 +5,7 @@ ghost use Rattle.tile_io.specs.Prints.{Prints};
 ghost use Rattle.tile_io.specs.Chunks.{PassesOn};
 ghost use Rattle.seq_text.specs.GrowthLines.{place_line, place_lines};
 
+use assembly::Sequence;
 use tile_io::{Chunk, Failed, Sink};
 use tile_system::{Place, System};
 
@@ -12,7 +13,7 @@ use tile_system::{Place, System};
 const LONGEST_PLACE_LINE: usize = 5 + 1 + 11 + 1 + 11 + 1 + 40 + 1;
 
 /// Writes the `place` line of each tile, in order. It takes no memory.
-pub fn print_places<K: Sink>(sys: &System, places: &[Place], sink: &mut K) -> Result<(), Failed>
+pub fn print_places<K: Sink>(sys: &System, places: &Sequence, sink: &mut K) -> Result<(), Failed>
     requires { All (λ p. IsType sys.now p.tile) places.now }
     ensures { Prints K.written K.faults sink.old sink.new result (place_lines sys.now places.now) }
 {
@@ -26,7 +27,7 @@ pub fn print_places<K: Sink>(sys: &System, places: &[Place], sink: &mut K) -> Re
 // Adds the lines to what is held.
 fn put_places<K: Sink>(
     sys: &System,
-    places: &[Place],
+    places: &Sequence,
     chunk: &mut Chunk,
     sink: &mut K,
 ) -> Result<(), Failed>
@@ -35,8 +36,8 @@ fn put_places<K: Sink>(
     ensures { PassesOn K.written K.faults sink.old sink.new chunk.old chunk.new result
         (place_lines sys.now places.now) }
 {
-    for place in places {
-        put_place(sys, *place, chunk, sink)?;
+    for index in 0..places.len() {
+        put_place(sys, places.get(index), chunk, sink)?;
     }
     Ok(())
 }

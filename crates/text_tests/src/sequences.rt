@@ -58,7 +58,7 @@ fn reads_places(rt: HostRuntime) -> Result<(), Fail> {
         b"# two words\nplace 0 0 S\n\n  place  01 -0 B \nplace -1 1 S\nclosed later # or never\nunique 1 2 3 4 5 6\n";
     let places = [place(0, 0, 0), place(1, 0, 1), place(-1, 1, 0)];
     let sequence = sequence_of(alloc, growth)?;
-    assert_eq!(rt; sequence.as_slice(), &places[..]);
+    assert!(rt; sequence.len() == places.len() && sequence.starts_with(&places));
     let grid = grid_of(alloc, growth)?;
     assert_eq!(rt; grid.count(), 3);
     for place in places {
@@ -130,7 +130,7 @@ fn refuses_a_double_site_in_a_grid(rt: HostRuntime) -> Result<(), Fail> {
     assert_eq!(rt; grid_of(alloc, growth).err(), Some(TextStop::Fault(fault)));
     let sequence = sequence_of(alloc, growth)?;
     let places = [place(0, 0, 0), place(1, 0, 1), place(0, 0, 1)];
-    assert_eq!(rt; sequence.as_slice(), &places[..]);
+    assert!(rt; sequence.len() == places.len() && sequence.starts_with(&places));
     Ok(())
 }
 

@@ -39,9 +39,10 @@ pub fn law_extends(
 fn push_rest(grid: &Grid, places: &Sequence, whole: &mut Sequence) -> Result<(), NoMemory>
     ensures { OnOk result (whole.new ≡ whole.old ++ rest_of grid.now.tiles places.now) }
 {
-    for place in places.as_slice() {
+    for index in 0..places.len() {
+        let place = places.get(index);
         if grid.at(place.site).is_none() {
-            whole.push(*place)?;
+            whole.push(place)?;
         }
     }
     Ok(())

@@ -65,7 +65,7 @@ impl Reply for Growth {
     }
 
     fn print<K: Sink>(&self, out: &mut K) -> Result<(), Failed> {
-        print_places(&self.sys, self.order.as_slice(), out)?;
+        print_places(&self.sys, &self.order, out)?;
         print_closed(&self.sys, self.outside, out)?;
         print_verdict(&self.sys, &self.verdict, out)
     }

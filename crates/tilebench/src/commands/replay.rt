@@ -73,7 +73,7 @@ impl Reply for Replayed {
 
     fn print<K: Sink>(&self, out: &mut K) -> Result<(), Failed> {
         match &self.reordering {
-            Reordering::Whole(order) => print_places(&self.sys, order.as_slice(), out),
+            Reordering::Whole(order) => print_places(&self.sys, order, out),
             Reordering::SeedMissing(site) => print_stuck_seed(*site, out),
             Reordering::Stuck { left, least } => print_stuck(*left, *least, out),
         }

@@ -64,7 +64,7 @@ impl Reply for Scheduled {
 
     fn print<K: Sink>(&self, out: &mut K) -> Result<(), Failed> {
         print_replies(&self.sys, &self.replies, out)?;
-        print_places(&self.sys, self.order.as_slice(), out)
+        print_places(&self.sys, &self.order, out)
     }
 }
 

@@ -1,4 +1,5 @@
-use Rattle.std.proofs.Common.{sym, subst}
+use Rattle.std.proofs.Common.{sym, subst, arith}
+use Rattle.std.proofs.lemmas.Int.{ints}
 use Rattle.atam.specs.declared.area.BoxArea.{BoxArea}
 use Rattle.atam.specs.declared.place.Place.{Place}
 use Rattle.atam.proofs.Tiles.{SameTiles-put}
@@ -22,3 +23,14 @@ returns-clause-lists g c =
     let around = subst (λ (a : BoxArea). ListsAround a after c.args.spot.site old new) c.requires.area c.list_around.ensures.lists in
     lists_filled c.args.sys.now before after c.args.spot c.in-Some.tile old new c.requires.spot c.requires.closed c.requires.gone c.requires.listed c.requires.empty
     (λ m. sym (SameTiles-put before after p c.requires.empty c.put_at.ensures.here c.put_at.ensures.others m)) c.put_at.ensures.count around
+
+pub push-requires-clause-near : goal.push-requires-clause-near
+push-requires-clause-near g c =
+    let inside = c.requires.spot.inside in
+    let corners = c.area-area.ensures.valid.box.corners in
+    record {
+      left = omega (arith, ints, inside.left, corners.left);
+      right = omega (arith, ints, inside.right, corners.right);
+      bottom = omega (arith, ints, inside.bottom, corners.bottom);
+      top = omega (arith, ints, inside.top, corners.top);
+    }

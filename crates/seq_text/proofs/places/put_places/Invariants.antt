@@ -5,7 +5,7 @@ use Rattle.seq_text.specs.GrowthLines.{place_lines}
 use Rattle.seq_text.proofs.places.put_places.Given as goal
 
 -- the lines so far have been taken
-abbrev pub invariant-loop-place : goal.invariant-loop-place
-invariant-loop-place g l =
+abbrev pub invariant-loop-index : goal.invariant-loop-index
+invariant-loop-index g l =
     PassesOn {T = Unit {0}} {E = Failed} g.K.Sink.written g.K.Sink.faults l.initial.sink l.sink l.initial.chunk l.chunk (Ok tt)
-    (place_lines l.sys (take l.place-index l.places))
+    (place_lines l.sys (take l.index l.places))

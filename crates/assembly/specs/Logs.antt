@@ -1,4 +1,4 @@
--- The order in which tiles come.
+-- Places that are logged into memory taken before.
 use Rattle.std.specs.Prelude.{ℕ, List}
 use Rattle.atam.specs.declared.place.Place.{Place}
 
