@@ -7,7 +7,7 @@ use Rattle.atam.specs.TileSystem.{IsType}
 use Rattle.atam.proofs.Lists.{All-slice_get}
 use Rattle.atam.proofs.Tiles.{SameTiles-from}
 use Rattle.assembly.proofs.Putting.{SamePlacements-more}
-use Rattle.local_check.specs.declared.side_set.SideSet.{SideSet}
+use Rattle.local_check.specs.SideSets.{SideSet}
 use Rattle.local_check.specs.Inner.Sides.{AreBeforeAt, sides_beside}
 use Rattle.local_check.proofs.Sides.{before_more, sides_beside-same, empty_before, taken_distinct, length-push}
 use Rattle.local_check.proofs.survey.put_places.Goals as goal
