@@ -24,8 +24,7 @@ use Rattle.atam.proofs.Placements.{Extends, Extends-take, tile_at-filter, tile_a
 use Rattle.atam.proofs.Sequences.{IsLegal-distinct}
 use Rattle.atam.proofs.Opening.{bond-beside}
 use Rattle.atam.proofs.Tiles.{SameTiles, SameTiles-from}
-use Rattle.local_check.specs.declared.side_set.SideSet.{SideSet}
-use Rattle.local_check.specs.SideSets.{has}
+use Rattle.local_check.specs.SideSets.{SideSet, has}
 use Rattle.attach_rule.specs.declared.facing.FacingGlues.{FacingGlues}
 use Rattle.attach_rule.specs.Facing.{FacesSite, facing_pull}
 use Rattle.type_index.specs.HeldTypes.{IsHeld, FirstHeldBut}

@@ -22,8 +22,7 @@ use Rattle.atam.proofs.Sequences.{IsLegal-empty, IsLegal-tile_at, IsLegal-listed
 use Rattle.atam.proofs.Confluence.{is_input-seed, is_input-later}
 use Rattle.atam.proofs.SameVerdict.{is_output-some, is_output-none}
 use Rattle.type_index.specs.Indexes.{TypeLists, IsIndexOf}
-use Rattle.local_check.specs.declared.side_set.SideSet.{SideSet}
-use Rattle.local_check.specs.SideSets.{has, has_at, AreSidesOf}
+use Rattle.local_check.specs.SideSets.{SideSet, has, has_at, AreSidesOf}
 use Rattle.attach_rule.specs.declared.bonding.Strengths.{Strengths}
 use Rattle.attach_rule.specs.declared.facing.FacingGlues.{FacingGlues}
 use Rattle.attach_rule.specs.Bonds.{AreBonds}

@@ -10,8 +10,14 @@ use Rattle.atam.specs.Placements.{SamePlacements}
 use Rattle.atam.specs.TileSystem.{TileSystem}
 use Rattle.atam.specs.Determinism.{is_input, is_output}
 use Rattle.type_index.specs.Indexes.{TypeLists, IsIndexOf}
-use Rattle.local_check.specs.declared.side_set.SideSet.{SideSet}
 use Rattle.local_check.specs.Judgement.{FindsInexact, FindsRival}
+
+-- the sides of a tile that something holds of
+pub record SideSet : Type 0 where
+  pub north : Bool
+  pub east : Bool
+  pub south : Bool
+  pub west : Bool
 
 -- whether a side is in the set
 abbrev pub has : SideSet → Side → Bool

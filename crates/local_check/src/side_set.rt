@@ -3,40 +3,60 @@ ghost use Rattle.std.specs.Prelude.{◌≡◌, ◌≤◌, IsTrue};
 ghost use Rattle.atam.specs.declared.limits.TheConstants.{MOST_STRENGTH};
 ghost use Rattle.attach_rule.specs.Bonds.{AreStrengths};
 ghost use Rattle.local_check.specs.SideSets.{has};
-ghost use Rattle.local_check.specs.Inner.Sides.{bound_by, standing, number_of, intersection, difference, complement, bond_if, sum_on, glues_on};
+ghost use Rattle.local_check.specs.Inner.Sides.{bound_by, standing, intersection, difference, complement, bond_if, sum_on, glues_on};
 
 use attach_rule::{FacingGlues, Strengths};
+use std::marker::Model;
 use tile_system::{Beside, Side};
 
-// The sides of a tile that something holds of.
+// The sides of a tile that something holds of. It is one byte, with a bit for each side, since
+// there are two sets for each place of a sequence.
 #[derive(Clone, Copy)]
 pub(crate) struct SideSet {
-    pub(crate) north: bool,
-    pub(crate) east: bool,
-    pub(crate) south: bool,
-    pub(crate) west: bool,
+    bits: u8,
+}
+
+impl Model for SideSet {
+    ghost use Rattle.std.specs.Prelude.{◌<◌};
+    ghost use Rattle.local_check.specs.SideSets.{SideSet};
+    ghost use Rattle.local_check.specs.Inner.SideBits.{set_of, bits_of, bits_back};
+
+    ghost Value = { SideSet };
+
+    ghost view = { λ s. set_of s.bits };
+
+    ghost invariant = { λ s. s.bits < 16 };
+
+    ghost inverse = { λ sides. record { bits = bits_of sides } };
+
+    ghost inverse_ok = { λ s small. λ i. record { bits = bits_back s.bits small i } };
 }
 
 impl SideSet {
     // The set of no sides.
-    pub(crate) const NONE: SideSet = SideSet {
-        north: false,
-        east: false,
-        south: false,
-        west: false,
-    };
+    pub(crate) const NONE: SideSet = SideSet { bits: 0 };
+
+    // The sides for which it holds.
+    #[inline(always)]
+    fn of(north: bool, east: bool, south: bool, west: bool) -> SideSet
+        ensures { result ≡ record { north = north; east = east; south = south; west = west } }
+    {
+        SideSet {
+            bits: u8::from(north) + 2 * u8::from(east) + 4 * u8::from(south) + 8 * u8::from(west),
+        }
+    }
 
     // The sides with a strength above 0.
     #[inline(always)]
     pub(crate) fn bound_by(bonds: &Strengths) -> SideSet
         ensures { result ≡ bound_by bonds.now }
     {
-        SideSet {
-            north: bonds.north > 0,
-            east: bonds.east > 0,
-            south: bonds.south > 0,
-            west: bonds.west > 0,
-        }
+        SideSet::of(
+            bonds.north > 0,
+            bonds.east > 0,
+            bonds.south > 0,
+            bonds.west > 0,
+        )
     }
 
     // The sides beside which there is a tile.
@@ -44,12 +64,12 @@ impl SideSet {
     pub(crate) fn standing(beside: &Beside) -> SideSet
         ensures { result ≡ standing beside.now }
     {
-        SideSet {
-            north: beside.north.is_some(),
-            east: beside.east.is_some(),
-            south: beside.south.is_some(),
-            west: beside.west.is_some(),
-        }
+        SideSet::of(
+            beside.north.is_some(),
+            beside.east.is_some(),
+            beside.south.is_some(),
+            beside.west.is_some(),
+        )
     }
 
     #[inline(always)]
@@ -57,30 +77,19 @@ impl SideSet {
         ensures { result ≡ has self side }
     {
         match side {
-            Side::North => self.north,
-            Side::East => self.east,
-            Side::South => self.south,
-            Side::West => self.west,
+            Side::North => self.bits % 2 == 1,
+            Side::East => self.bits / 2 % 2 == 1,
+            Side::South => self.bits / 4 % 2 == 1,
+            Side::West => self.bits / 8 % 2 == 1,
         }
     }
 
-    // Whether the other set has the same sides. It is one comparison of two numbers.
+    // Whether the other set has the same sides.
     #[inline(always)]
     pub(crate) fn is_same(&self, other: &SideSet) -> bool
         ensures { IsTrue result → self.now ≡ other.now }
     {
-        self.number() == other.number()
-    }
-
-    // A number for the set.
-    #[inline(always)]
-    fn number(&self) -> u32
-        ensures { result ≡ number_of self.now }
-    {
-        u32::from(self.north)
-            + 0x100 * u32::from(self.east)
-            + 0x1_0000 * u32::from(self.south)
-            + 0x100_0000 * u32::from(self.west)
+        self.bits == other.bits
     }
 
     // The sides that aren't in the set.
@@ -88,12 +97,12 @@ impl SideSet {
     pub(crate) fn complement(self) -> SideSet
         ensures { result ≡ complement self }
     {
-        SideSet {
-            north: !self.north,
-            east: !self.east,
-            south: !self.south,
-            west: !self.west,
-        }
+        SideSet::of(
+            !self.has(Side::North),
+            !self.has(Side::East),
+            !self.has(Side::South),
+            !self.has(Side::West),
+        )
     }
 
     // The sides that the other set has too.
@@ -101,12 +110,12 @@ impl SideSet {
     pub(crate) fn within(self, other: SideSet) -> SideSet
         ensures { result ≡ intersection self other }
     {
-        SideSet {
-            north: self.north && other.north,
-            east: self.east && other.east,
-            south: self.south && other.south,
-            west: self.west && other.west,
-        }
+        SideSet::of(
+            self.has(Side::North) && other.has(Side::North),
+            self.has(Side::East) && other.has(Side::East),
+            self.has(Side::South) && other.has(Side::South),
+            self.has(Side::West) && other.has(Side::West),
+        )
     }
 
     // The sides that the other set doesn't have.
@@ -114,12 +123,12 @@ impl SideSet {
     pub(crate) fn without(self, other: SideSet) -> SideSet
         ensures { result ≡ difference self other }
     {
-        SideSet {
-            north: self.north && !other.north,
-            east: self.east && !other.east,
-            south: self.south && !other.south,
-            west: self.west && !other.west,
-        }
+        SideSet::of(
+            self.has(Side::North) && !other.has(Side::North),
+            self.has(Side::East) && !other.has(Side::East),
+            self.has(Side::South) && !other.has(Side::South),
+            self.has(Side::West) && !other.has(Side::West),
+        )
     }
 
     // The sum of the strengths of these sides alone.
@@ -127,10 +136,10 @@ impl SideSet {
         requires { AreStrengths bonds.now }
         ensures { result ≡ sum_on self bonds.now }
     {
-        bond_if(self.north, bonds.north)
-            + bond_if(self.east, bonds.east)
-            + bond_if(self.south, bonds.south)
-            + bond_if(self.west, bonds.west)
+        bond_if(self.has(Side::North), bonds.north)
+            + bond_if(self.has(Side::East), bonds.east)
+            + bond_if(self.has(Side::South), bonds.south)
+            + bond_if(self.has(Side::West), bonds.west)
     }
 
     // The glues that face these sides alone.
@@ -139,10 +148,26 @@ impl SideSet {
         ensures { result ≡ glues_on self glues.now }
     {
         FacingGlues {
-            north: if self.north { glues.north } else { None },
-            east: if self.east { glues.east } else { None },
-            south: if self.south { glues.south } else { None },
-            west: if self.west { glues.west } else { None },
+            north: if self.has(Side::North) {
+                glues.north
+            } else {
+                None
+            },
+            east: if self.has(Side::East) {
+                glues.east
+            } else {
+                None
+            },
+            south: if self.has(Side::South) {
+                glues.south
+            } else {
+                None
+            },
+            west: if self.has(Side::West) {
+                glues.west
+            } else {
+                None
+            },
         }
     }
 }

@@ -94,23 +94,15 @@ pub(crate) fn put_places(alloc: Global, sys: &System, seq: &Sequence) -> Result<
     let mut before = Vec::with_capacity(alloc, seq.len())?;
     let mut grid = Grid::make(alloc, sys.area())?;
     put_seeds(sys, &mut grid);
+    let area = sys.area();
     let first = sys.seeds().len();
     for index in 0..seq.len() {
         let place = seq.get(index);
-        before.push_reserved(sides_standing(&grid, place.site));
+        let number = site_index(&area, place.site);
+        before.push_reserved(SideSet::standing(&grid.beside_at(place.site, number)));
         if index >= first {
-            grid.put(place);
+            grid.put_at(place, number);
         }
     }
     Ok(Stand { grid, before })
-}
-
-// The sides of a site of the box beside which a tile stands.
-#[inline(always)]
-fn sides_standing(grid: &Grid, site: Site) -> SideSet
-    requires { InBox grid.now.area site }
-    ensures { result ≡ sides_beside grid.now.tiles site }
-{
-    let area = grid.area();
-    SideSet::standing(&grid.beside_at(site, site_index(&area, site)))
 }

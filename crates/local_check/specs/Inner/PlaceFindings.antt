@@ -9,7 +9,7 @@ use Rattle.attach_rule.specs.Facing.{FacesSite}
 use Rattle.type_index.specs.declared.cache as cache
 use Rattle.type_index.specs.HeldTypes.{FirstHeldBut}
 use Rattle.type_index.specs.Findings.{AreFindings, IsKeyOf}
-use Rattle.local_check.specs.declared.side_set.SideSet.{SideSet}
+use Rattle.local_check.specs.SideSets.{SideSet}
 use Rattle.local_check.specs.declared.findings.Finding.{Finding}
 use Rattle.local_check.specs.declared.findings.Known.{Known}
 use Rattle.local_check.specs.Inner.Sides.{bound_sides, intersection, difference, complement, pull_on, glues_on}

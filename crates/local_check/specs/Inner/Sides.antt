@@ -1,5 +1,5 @@
 -- Sides that interact with the tiles beside them, and the glues on some sides.
-use Rattle.std.specs.Prelude.{◌≡◌, ℕ, ◌<◌, ◌≤◌, ◌+◌, ◌*◌, Bool, is_some, not, ◌&&◌, nat_lt, if◌then◌else◌, List, length, slice_get, take, max, Some, None}
+use Rattle.std.specs.Prelude.{◌≡◌, ℕ, ◌<◌, ◌≤◌, ◌+◌, Bool, is_some, not, ◌&&◌, nat_lt, if◌then◌else◌, List, length, slice_get, take, max, Some, None}
 use Rattle.atam.specs.declared.site.Side.{Side}
 use Rattle.atam.specs.declared.site.Side.TheVariants.{North, East, South, West}
 use Rattle.atam.specs.declared.site.Site.{Site}
@@ -13,8 +13,7 @@ use Rattle.atam.specs.Determinism.{is_output}
 use Rattle.tile_system.specs.declared.placed.Beside.{Beside}
 use Rattle.attach_rule.specs.declared.bonding.Strengths.{Strengths}
 use Rattle.attach_rule.specs.declared.facing.FacingGlues.{FacingGlues}
-use Rattle.local_check.specs.declared.side_set.SideSet.{SideSet}
-use Rattle.local_check.specs.SideSets.{has}
+use Rattle.local_check.specs.SideSets.{SideSet, has}
 
 -- the sides of a tile of the type at the site that interact with a tile beside them
 abbrev pub bound_sides : TileSystem → List Place → Site → TypeId → SideSet
@@ -41,13 +40,6 @@ sides_beside tiles m = record {
   south = is_some (tile_at tiles (neighbor m South));
   west = is_some (tile_at tiles (neighbor m West));
 }
-
--- a number for a set: a byte for each side
-abbrev pub digit : Bool → ℕ
-digit b = if b then 1 else 0
-
-abbrev pub number_of : SideSet → ℕ
-number_of a = digit a.north + 0x100 * digit a.east + 0x10000 * digit a.south + 0x1000000 * digit a.west
 
 -- the sides that both sets have
 abbrev pub intersection : SideSet → SideSet → SideSet

@@ -18,8 +18,7 @@ use Rattle.tile_system.specs.declared.placed.Beside.{Beside}
 use Rattle.tile_system.specs.Neighbors.{StandBeside}
 use Rattle.attach_rule.specs.declared.facing.FacingGlues.{FacingGlues}
 use Rattle.attach_rule.specs.Facing.{FacesSite}
-use Rattle.local_check.specs.declared.side_set.SideSet.{SideSet}
-use Rattle.local_check.specs.SideSets.{has}
+use Rattle.local_check.specs.SideSets.{SideSet, has}
 use Rattle.local_check.specs.Judgement.{FindsInexact, FindsRival}
 use Rattle.local_check.specs.Inner.Sides.{AreEarlierBelow, AreBeforeFrom, AreOutputsAt, bound_sides, intersection, difference, complement, pull_on, standing}
 use Rattle.local_check.proofs.Sides.{bound_sides-same, earlier_set, before_set, outputs_more, output_here, has-complement, length-push}
