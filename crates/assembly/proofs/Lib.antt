@@ -4,4 +4,5 @@ pub mod Grids
 pub mod Filling
 pub mod Putting
 pub mod Rows
+mod BoxRows
 mod Beside

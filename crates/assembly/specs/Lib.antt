@@ -1,4 +1,5 @@
 pub mod Cells
 pub mod Grids
 pub mod Laws
+pub mod Rows
 pub mod Inner

@@ -4,11 +4,13 @@
 mod cell;
 mod grid;
 mod laws;
+mod row;
 mod seeding;
 mod sequence;
 
 pub use cell::{number_beside, site_index, site_of_index};
 pub use grid::Grid;
 pub use laws::law_numbers;
+pub use row::Row;
 pub use seeding::put_seeds;
 pub use sequence::Sequence;

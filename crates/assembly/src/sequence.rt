@@ -78,4 +78,13 @@ impl Sequence {
     {
         self.places.as_slice()
     }
+
+    /// Takes room for so many places more, so that pushing them takes no memory.
+    pub fn reserve(&mut self, count: usize) -> Result<(), NoMemory>
+        ensures ok { OnOk result (self.new ≡ self.old) }
+        ensures unchanged { OnErr result (self.new ≡ self.old) }
+    {
+        self.places.reserve(count)?;
+        Ok(())
+    }
 }
