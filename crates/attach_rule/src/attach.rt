@@ -1,8 +1,11 @@
 // Pull and attachment over any assembly.
-ghost use Rattle.std.specs.Prelude.{◌≡◌, ◌≤◌, ◌*◌, ◌↔◌, ◌<◌, IsTrue, IfSome, length};
+ghost use Rattle.std.specs.Prelude.{◌≡◌, ◌≤◌, ◌*◌, ◌↔◌, ◌<◌, IsTrue, IfSome, List, length};
 ghost use Rattle.atam.specs.declared.limits.TheConstants.{MOST_STRENGTH};
 ghost use Rattle.atam.specs.TileSystem.{IsType};
-ghost use Rattle.atam.specs.Sites.{IsNearSite};
+ghost use Rattle.atam.specs.declared.place.Place.{Place};
+ghost use Rattle.atam.specs.declared.site.Site.{Site};
+ghost use Rattle.atam.specs.Placements.{tile_at};
+ghost use Rattle.atam.specs.Sites.{IsNearSite, neighbor};
 ghost use Rattle.atam.specs.Assembly.{Attaches, Fits};
 ghost use Rattle.atam.specs.Assembly as model;
 ghost use Rattle.attach_rule.specs.Searches.{IsFirstType};
@@ -30,7 +33,8 @@ pub(crate) fn interaction(sys: &System, own: Option<GlueId>, other: Option<GlueI
 pub fn bond_with(sys: &System, tile: TypeId, side: Side, beside: Option<TypeId>) -> u32
     requires kind { IsType sys.now tile }
     requires beside { IfSome beside (IsType sys.now) }
-    ensures value { (tiles : List Place) (site : Site) → tile_at tiles (neighbor site side) ≡ beside →
+    ensures value { (tiles : List Place) (site : Site) →
+        beside ≡ tile_at tiles (neighbor site side) →
         result ≡ model.bond sys.now tiles site tile side }
     ensures bound { result ≤ MOST_STRENGTH }
 {
@@ -41,6 +45,7 @@ pub fn bond_with(sys: &System, tile: TypeId, side: Side, beside: Option<TypeId>)
 
 /// The strength that a tile of this type at the site has with the tile beside it.
 #[inline(always)]
+#[tactic(auto, using(crate::proofs::Held::kind_beside))]
 pub fn bond<P: Placed>(sys: &System, placed: &P, site: Site, tile: TypeId, side: Side) -> u32
     requires kind { IsType sys.now tile }
     requires near { IsNearSite site }
