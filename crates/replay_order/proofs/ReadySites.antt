@@ -15,7 +15,7 @@ use Rattle.atam.proofs.Lists.{All-slice_get, Contains-push, slice_get-Contains, 
 use Rattle.atam.proofs.Bonds.{beside_a_tile}
 use Rattle.atam.proofs.Placements.{Contains-tile_at, tile_at-Contains, tile_at-place}
 use Rattle.atam.proofs.Tiles.{tile_at-push_other, tile_at-push_here}
-use Rattle.assembly.specs.Cells.{cell_count, site_at}
+use Rattle.assembly.specs.Cells.{IsSiteNumber, cell_count, site_at}
 use Rattle.assembly.proofs.Cells.{site_at-injective}
 use Rattle.number_set.specs.Numbers.{Numbers, IsIn}
 use Rattle.replay_order.specs.Inner.Replays.{IsReadySite, Waiting, due_at, AreLacks, AreReadySites, AreReadySitesBut, Lowers, given_beside, TakesLeast}
@@ -137,14 +137,13 @@ module _ (sys : TileSystem) (tiles s : List Place) (p : Place) (old new : Waitin
   )
 
 -- the least ready site is taken out
-module _ (sys : TileSystem) (tiles s : List Place) (old new : Waiting) (m : Site) (lacks : AreLacks sys tiles s old) (ready : AreReadySites sys tiles s old.ready) (takes : TakesLeast old new m) where
-  pub taken_site : site_at sys.area takes.number ≡ m
-  taken_site = ap (λ area. site_at area takes.number) (sym lacks.area) ∙ takes.site
+module _ (sys : TileSystem) (tiles s : List Place) (old new : Waiting) (number : ℕ) (m : Site) (here : m ≡ site_at sys.area number)
+    (lacks : AreLacks sys tiles s old) (ready : AreReadySites sys tiles s old.ready) (takes : TakesLeast old new number) where
+  pub taken_number : IsSiteNumber sys.area m number
+  taken_number = record { within = omega (arith, takes.within, ap cell_count lacks.area); site = sym here }
 
   pub taken_ready : IsReadySite sys tiles s m
-  taken_ready =
-      let within : takes.number < cell_count sys.area = omega (arith, takes.within, ap cell_count lacks.area) in
-      subst (IsReadySite sys tiles s) taken_site ((ready takes.number within).0 takes.member)
+  taken_ready = subst (IsReadySite sys tiles s) (sym here) ((ready number taken_number.within).0 takes.member)
 
   pub taken_held : (t : TypeId) → tile_at tiles m ≡ Some t → due_at sys.seeds sys.tau m ≤ pull sys s m t
   taken_held t placed =
@@ -164,8 +163,8 @@ module _ (sys : TileSystem) (tiles s : List Place) (old new : Waiting) (m : Site
   taken_but i below = (
     λ is_in.
         let was = (takes.removed i).0 is_in in
-        ((ready i below).0 was.0, λ same. was.1 (site_at-injective sys.area i takes.number (same ∙ sym taken_site))),
-    λ both. (takes.removed i).1 ((ready i below).1 both.0, λ one. both.1 (ap (λ k. site_at sys.area k) one ∙ taken_site)),
+        ((ready i below).0 was.0, λ same. was.1 (site_at-injective sys.area i number (same ∙ here))),
+    λ both. (takes.removed i).1 ((ready i below).1 both.0, λ one. both.1 (ap (λ k. site_at sys.area k) one ∙ sym here)),
   )
 
 -- a seed

@@ -34,9 +34,11 @@ pub fn replay(alloc: Global, sys: &System, grid: &Grid) -> Result<Sequence, Repl
     if !holds_seeds(sys, grid) {
         return Err(ReplayStop::NoSeedThere);
     }
+    let tiles = grid.count();
     let mut order = Sequence::make(alloc);
+    order.reserve(tiles as usize)?;
     let waiting = list_all(alloc, sys, grid, &mut order)?;
-    let left = grid.count() - order.len() as u32;
+    let left = tiles - order.len() as u32;
     if left == 0 {
         return Ok(order);
     }
@@ -83,6 +85,7 @@ fn list_seeds(
     waiting: &mut WaitingSites,
 ) -> Result<(), NoMemory>
     requires valid { IsValid sys.now }
+    requires area { grid.now.area ≡ sys.now.area }
     requires fits { Fits sys.now grid.now.tiles }
     requires seeded { HoldsSeeds sys.now grid.now.tiles }
     requires unlisted { order.old ≡ [] }
@@ -109,6 +112,7 @@ fn list_ready(
     waiting: &mut WaitingSites,
 ) -> Result<(), NoMemory>
     requires valid { IsValid sys.now }
+    requires area { grid.now.area ≡ sys.now.area }
     requires fits { Fits sys.now grid.now.tiles }
     requires distinct { HasDistinctSites grid.now.tiles }
     requires begun { BeginsCanonical sys.now grid.now.tiles order.old }

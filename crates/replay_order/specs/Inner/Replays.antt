@@ -68,11 +68,9 @@ given_to sys tiles p d m = if same_site (neighbor p.site d) m then bond sys tile
 abbrev pub given_beside : TileSystem → List Place → Place → Site → ℕ
 given_beside sys tiles p m = given_to sys tiles p North m + given_to sys tiles p East m + given_to sys tiles p South m + given_to sys tiles p West m
 
--- the least ready site is taken out
-pub record TakesLeast (old new : Waiting) (m : Site) : Type 0 where
-  pub number : ℕ
+-- the least ready number is taken out
+pub record TakesLeast (old new : Waiting) (number : ℕ) : Type 0 where
   pub within : number < cell_count old.area
-  pub site : site_at old.area number ≡ m
   pub member : IsIn old.ready number
   pub least : (i : ℕ) → IsIn old.ready i → number ≤ i
   pub removed : Removes old.ready new.ready number
