@@ -17,7 +17,7 @@ use Rattle.atam.proofs.Placements.{Contains-tile_at, tile_at-Contains, tile_at-p
 use Rattle.atam.proofs.Tiles.{tile_at-push_other, tile_at-push_here}
 use Rattle.assembly.specs.Cells.{IsSiteNumber, cell_count, site_at}
 use Rattle.assembly.proofs.Cells.{site_at-injective}
-use Rattle.number_set.specs.Numbers.{Numbers, IsIn}
+use Rattle.replay_order.specs.Inner.ReadyNumbers.{ReadyNumbers, IsAmong}
 use Rattle.replay_order.specs.Inner.Replays.{IsReadySite, Waiting, due_at, AreLacks, AreReadySites, AreReadySitesBut, Lowers, given_beside, TakesLeast}
 use Rattle.replay_order.proofs.Dues.{due_at-seed, due_at-other}
 use Rattle.replay_order.proofs.Pulls.{pull-push, given_pull, given_none}
@@ -177,7 +177,7 @@ module _ (sys : TileSystem) (seeds_distinct : HasDistinctSites sys.seeds) (k : �
   seed_held s = omega (arith, due_at-seed sys.seeds sys.tau p.site p.tile seed_at)
 
   -- and is never ready
-  pub seed_but : (tiles s : List Place) (ready : Numbers) → AreReadySites sys tiles s ready → AreReadySitesBut sys tiles s ready p.site
+  pub seed_but : (tiles s : List Place) (ready : ReadyNumbers) → AreReadySites sys tiles s ready → AreReadySitesBut sys tiles s ready p.site
   seed_but tiles s ready are i below = (
     λ is_in.
         let at = (are i below).0 is_in in
@@ -187,7 +187,7 @@ module _ (sys : TileSystem) (seeds_distinct : HasDistinctSites sys.seeds) (k : �
   )
 
 -- before the first place no site is ready, and each tile lacks all
-pub none_ready : (sys : TileSystem) (tiles : List Place) (ready : Numbers) → 1 ≤ sys.tau → ((i : ℕ) → ¬ IsIn ready i) → AreReadySites sys tiles [] ready
+pub none_ready : (sys : TileSystem) (tiles : List Place) (ready : ReadyNumbers) → 1 ≤ sys.tau → ((i : ℕ) → ¬ IsAmong ready i) → AreReadySites sys tiles [] ready
 none_ready sys tiles ready some_tau none i below = (
   λ is_in. absurd (none i is_in),
   λ is_ready.

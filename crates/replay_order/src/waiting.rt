@@ -6,12 +6,12 @@ ghost use Rattle.atam.specs.Placements.{HasDistinctSites};
 ghost use Rattle.assembly.specs.Cells.{cell_count, site_at};
 ghost use Rattle.atam.specs.TileSystem.{IsType};
 ghost use Rattle.atam.specs.Assembly.{Fits};
-ghost use Rattle.number_set.specs.Numbers.{IsIn};
+ghost use Rattle.replay_order.specs.Inner.ReadyNumbers.{IsAmong};
 ghost use Rattle.replay_order.specs.Inner.Replays.{due_at, given_to, given_beside, Lowers, TakesLeast};
 
+use crate::ready::ReadyNumbers;
 use assembly::{Grid, number_beside, site_index};
 use attach_rule::bond_with;
-use number_set::NumberSet;
 use std::alloc::Global;
 use std::marker::Model;
 use tile_system::{BoxArea, NoMemory, Place, Side, System};
@@ -22,7 +22,7 @@ use tile_system::{BoxArea, NoMemory, Place, Side, System};
 pub(crate) struct WaitingSites {
     area: BoxArea,
     lacks: Vec<u16>,
-    ready: NumberSet,
+    ready: ReadyNumbers,
 }
 
 impl Model for WaitingSites {
@@ -50,10 +50,10 @@ impl WaitingSites {
         ensures area { IfOk result (λ w. w.area ≡ area) }
         ensures lacks { IfOk result (λ w. (i : ℕ) → i < cell_count area →
             slice_index w.lacks i ≡ due_at seeds.now tau (site_at area i)) }
-        ensures empty { IfOk result (λ w. (i : ℕ) → ¬ IsIn w.ready i) }
+        ensures empty { IfOk result (λ w. (i : ℕ) → ¬ IsAmong w.ready i) }
     {
         let sites = area.width() * area.height();
-        let ready = NumberSet::make(alloc, sites)?;
+        let ready = ReadyNumbers::make(alloc, sites)?;
         let mut lacks = Vec::from_elem(alloc, tau as u16, sites as usize)?;
         for seed in seeds {
             lacks[site_index(&area, seed.site)] = 0;
@@ -112,9 +112,9 @@ impl WaitingSites {
         ensures area { self.new.area ≡ self.old.area }
         ensures lacks { self.new.lacks ≡ self.old.lacks }
         ensures least { IfSome result (TakesLeast self.old self.new) }
-        ensures none { IfNone result ((i : ℕ) → ¬ IsIn self.old.ready i) }
+        ensures none { IfNone result ((i : ℕ) → ¬ IsAmong self.old.ready i) }
     {
-        self.ready.pop_least()
+        self.ready.take_least()
     }
 
     // Whether the tile at the site with this number lacks something.

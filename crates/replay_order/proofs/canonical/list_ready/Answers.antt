@@ -6,7 +6,7 @@ use Rattle.atam.specs.declared.place.Place.{Place}
 use Rattle.assembly.specs.Cells.{site_at}
 use Rattle.atam.specs.Placements.{tile_at}
 use Rattle.atam.specs.Canonical.{BeginsCanonical}
-use Rattle.replay_order.proofs.ReadySites.{taken_number, taken_ready, taken_lacks, taken_but}
+use Rattle.replay_order.proofs.ReadySites.{taken_ready, taken_lacks, taken_but}
 use Rattle.replay_order.proofs.Begun.{begun_whole, next_begun, fewer_listed}
 use Rattle.replay_order.proofs.canonical.list_ready.Goals as goal
 

@@ -63,8 +63,8 @@ returns-then-left-eq0 c =
     lowers_one old.area sys tiles c.args.place c.args.side old refl beside c.in-Some.ensures.site new left refl within (omega (arith, lack, c.if-lack-eq0.false))
     (omega (arith, lack, c.saturating_sub-left.ensures, bond)) refl
     (λ m. (
-      λ is_in. elim ((c.insert.ensures.adds m).0 is_in) [ inl before ↦ inl before | inr one ↦ inr (one, c.if-left-eq0.true) ],
-      λ either. elim either [ inl before ↦ (c.insert.ensures.adds m).1 (inl before) | inr one ↦ (c.insert.ensures.adds m).1 (inr one.0) ],
+      λ is_in. elim ((c.insert.ensures.gains m).0 is_in) [ inl before ↦ inl before | inr one ↦ inr (one, c.if-left-eq0.true) ],
+      λ either. elim either [ inl before ↦ (c.insert.ensures.gains m).1 (inl before) | inr one ↦ (c.insert.ensures.gains m).1 (inr one.0) ],
     ))
     )
 
