@@ -3,5 +3,4 @@ pub mod Listings
 pub mod Looks
 pub mod Fillings
 pub mod Logs
-pub mod Rows
 pub mod Pickers

@@ -9,7 +9,6 @@ mod growing;
 mod in_order;
 mod picking;
 mod place_log;
-mod row;
 mod scout;
 mod share;
 mod work_list;

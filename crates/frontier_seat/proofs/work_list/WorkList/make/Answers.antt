@@ -1,6 +1,5 @@
-use Rattle.std.proofs.Common.{◌<◌, ◌*◌, ◌∙◌, arith}
+use Rattle.std.proofs.Common.{◌*◌, ◌∙◌, arith}
 use Rattle.std.proofs.lemmas.Int.{ints}
-use Rattle.atam.specs.Sites.{height_of}
 use Rattle.frontier_seat.proofs.work_list.WorkList.make.Goals as goal
 
 pub make-requires-2 : goal.make-requires-2
