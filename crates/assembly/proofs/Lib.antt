@@ -6,4 +6,5 @@ mod Comparing
 mod Packing
 pub mod Putting
 pub mod Rows
+mod BoxRows
 mod Beside

@@ -318,10 +318,11 @@ fn fill_gaps(cells: &mut [u16], other: &[u16]) -> u32
 {
     let mut filled = 0;
     for index in 0..cells.len() {
-        if cells[index] == 0 && other[index] != 0 {
-            cells[index] = other[index];
-            filled += 1;
-        }
+        let own = cells[index];
+        let added = other[index];
+        let cell = if own == 0 { added } else { own };
+        cells[index] = cell;
+        filled += (cell != own) as u32;
     }
     filled
 }

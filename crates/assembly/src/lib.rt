@@ -7,6 +7,7 @@ mod laws;
 mod packed_place;
 mod packed_places;
 mod place_log;
+mod row;
 mod seeding;
 mod sequence;
 
@@ -14,5 +15,6 @@ pub use cell::{number_beside, site_index, site_of_index};
 pub use grid::Grid;
 pub use laws::law_numbers;
 pub use place_log::PlaceLog;
+pub use row::Row;
 pub use seeding::put_seeds;
 pub use sequence::Sequence;

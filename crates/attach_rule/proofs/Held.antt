@@ -1,5 +1,5 @@
 -- The glues that face a site hold a type as strongly as the site pulls on it.
-use Rattle.std.proofs.Common.{◌≡◌, ◌≤◌, ◌<◌, ◌+◌, ◌∙◌, ℕ, Bool, false, true≢false, List, Option, Some, None, IfSome, is_some, sym, ap, subst, inl, inr, arith}
+use Rattle.std.proofs.Common.{◌≡◌, ◌≤◌, ◌<◌, ◌+◌, ◌∙◌, ℕ, Bool, false, true≢false, List, Option, Some, None, IfSome, is_some, option_and_then, sym, ap, subst, inl, inr, arith}
 use Rattle.std.proofs.lemmas.Bool.{cases_lt}
 use Rattle.atam.specs.declared.site.Site.{Site}
 use Rattle.atam.specs.declared.site.Side.{Side}
@@ -7,6 +7,7 @@ use Rattle.atam.specs.declared.site.Side.TheVariants.{North, East, South, West}
 use Rattle.atam.specs.declared.place.GlueId.{GlueId}
 use Rattle.atam.specs.declared.place.TypeId.{TypeId}
 use Rattle.atam.specs.declared.place.Place.{Place}
+use Rattle.atam.specs.Sites.{neighbor, opposite}
 use Rattle.atam.specs.Placements.{tile_at}
 use Rattle.atam.specs.TileSystem.{TileSystem, IsType, side_glue}
 use Rattle.atam.specs.Assembly.{Fits, interaction, bond, pull}
@@ -107,3 +108,12 @@ pub sum_pull : (sys : TileSystem) (tiles : List Place) (m : Site) (t : TypeId) (
     sum_of found ≡ pull sys tiles m t
 unfolding pull
 sum_pull sys tiles m t found are = omega (arith, are.north, are.east, are.south, are.west)
+
+-- the strength with the tile beside a site is the bond on that side
+pub bond_beside : (sys : TileSystem) (tiles : List Place) (m : Site) (t : TypeId) (d facing : Side) (beside : Option TypeId) (own other : Option GlueId) (strength : ℕ) →
+    strength ≡ interaction sys own other → own ≡ side_glue sys t d → other ≡ option_and_then (λ u. side_glue sys u facing) beside →
+    facing ≡ opposite d → beside ≡ tile_at tiles (neighbor m d) → strength ≡ bond sys tiles m t d
+unfolding bond
+bond_beside sys tiles m t d facing beside own other strength is own_is other_is faces there =
+    let glue : Side → Option TypeId → Option GlueId = λ e o. option_and_then (λ u. side_glue sys u e) o in
+    is ∙ ap (λ g. interaction sys g other) own_is ∙ ap (interaction sys (side_glue sys t d)) (other_is ∙ ap (λ e. glue e beside) faces ∙ ap (glue (opposite d)) there)

@@ -1,14 +1,17 @@
 // Pull and attachment over any assembly.
-ghost use Rattle.std.specs.Prelude.{◌≡◌, ◌≤◌, ◌*◌, ◌↔◌, ◌<◌, IsTrue, IfSome, length};
+ghost use Rattle.std.specs.Prelude.{◌≡◌, ◌≤◌, ◌*◌, ◌↔◌, ◌<◌, IsTrue, IfSome, List, length};
 ghost use Rattle.atam.specs.declared.limits.TheConstants.{MOST_STRENGTH};
 ghost use Rattle.atam.specs.TileSystem.{IsType};
-ghost use Rattle.atam.specs.Sites.{IsNearSite};
+ghost use Rattle.atam.specs.declared.place.Place.{Place};
+ghost use Rattle.atam.specs.declared.site.Site.{Site};
+ghost use Rattle.atam.specs.Placements.{tile_at};
+ghost use Rattle.atam.specs.Sites.{IsNearSite, neighbor};
 ghost use Rattle.atam.specs.Assembly.{Attaches, Fits};
 ghost use Rattle.atam.specs.Assembly as model;
 ghost use Rattle.attach_rule.specs.Searches.{IsFirstType};
 
 use crate::bonds;
-use crate::facing::{facing_pull, glues_facing};
+use crate::facing::{facing_pull, glue_of, glues_facing};
 use tile_system::{GlueId, Placed, Side, Site, System, TypeId};
 
 // The strength with which two sides interact.
@@ -24,19 +27,25 @@ pub(crate) fn interaction(sys: &System, own: Option<GlueId>, other: Option<GlueI
     }
 }
 
-// The glue on a side of the tile at a site.
+/// The strength that a tile of this type has on a side with the tile that is beside it there, if
+/// one is.
 #[inline(always)]
-pub(crate) fn glue_at<P: Placed>(sys: &System, placed: &P, site: Site, side: Side) -> Option<GlueId>
-    requires { Fits sys.now (P.placements placed.now) }
-    ensures { result ≡ model.glue_at sys.now (P.placements placed.now) site side }
+pub fn bond_with(sys: &System, tile: TypeId, side: Side, beside: Option<TypeId>) -> u32
+    requires kind { IsType sys.now tile }
+    requires beside { IfSome beside (IsType sys.now) }
+    ensures value { (tiles : List Place) (site : Site) →
+        beside ≡ tile_at tiles (neighbor site side) →
+        result ≡ model.bond sys.now tiles site tile side }
+    ensures bound { result ≤ MOST_STRENGTH }
 {
-    let tile = placed.at(site)?;
-    sys.side(tile, side)
+    let own = sys.side(tile, side);
+    let other = glue_of(sys, beside, side.opposite());
+    interaction(sys, own, other)
 }
 
 /// The strength that a tile of this type at the site has with the tile beside it.
 #[inline(always)]
-#[tactic(auto, unfolding(atam::specs::Assembly::bond))]
+#[tactic(auto, using(crate::proofs::Held::kind_beside))]
 pub fn bond<P: Placed>(sys: &System, placed: &P, site: Site, tile: TypeId, side: Side) -> u32
     requires kind { IsType sys.now tile }
     requires near { IsNearSite site }
@@ -44,9 +53,7 @@ pub fn bond<P: Placed>(sys: &System, placed: &P, site: Site, tile: TypeId, side:
     ensures value { result ≡ model.bond sys.now (P.placements placed.now) site tile side }
     ensures bound { result ≤ MOST_STRENGTH }
 {
-    let own = sys.side(tile, side);
-    let other = glue_at(sys, placed, site.step(side), side.opposite());
-    interaction(sys, own, other)
+    bond_with(sys, tile, side, placed.at(site.step(side)))
 }
 
 /// The pull on a type at a site, whether or not the site is empty.

@@ -66,7 +66,7 @@ pub fn glues_beside<P: Placed>(sys: &System, placed: &P, site: Site, beside: &Be
 
 // The glue on a side of a tile, if there is a tile.
 #[inline(always)]
-fn glue_of(sys: &System, tile: Option<TypeId>, side: Side) -> Option<GlueId>
+pub(crate) fn glue_of(sys: &System, tile: Option<TypeId>, side: Side) -> Option<GlueId>
     requires { IfSome tile (IsType sys.now) }
     ensures { result ≡ option_and_then (λ t. side_glue sys.now t side) tile }
 {

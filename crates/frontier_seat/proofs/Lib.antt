@@ -2,5 +2,4 @@ pub mod Filling
 pub mod Looked
 pub mod Listing
 pub mod Ordering
-pub mod Rows
 pub mod ClosedRows

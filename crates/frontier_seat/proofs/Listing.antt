@@ -50,6 +50,10 @@ spot_of area m n inside same =
       inside = inside;
     }
 
+-- a site that is looked up by its number
+pub spot_here : (area : BoxArea) (m : Site) (n : ℕ) → n < cell_count area → m ≡ site_at area n → InBox area m → IsSpot area (record { site = m; number = n })
+spot_here area m n within here inside = record { within = within; site = sym here; inside = inside }
+
 -- by row and column
 pub spot_in_row : (area : BoxArea) (m : Site) (row column width number : ℕ) → InBox area m → m ≡ site_in area column row → width ≡ width_of area → number ≡ row * width + column → IsSpot area (record { site = m; number = number })
 spot_in_row area m row column width number inside is same_width same =

@@ -2,5 +2,4 @@
 pub mod Listings
 pub mod Looks
 pub mod Fillings
-pub mod Rows
 pub mod Pickers

@@ -12,9 +12,8 @@ ghost use Rattle.frontier_seat.specs.Inner.Pickers.{IsPickerOf};
 
 use crate::Chooser;
 use crate::picking::Picker;
-use crate::row::Row;
 use crate::work_list::{Spot, WorkList};
-use assembly::{Grid, PlaceLog, Sequence, put_seeds, site_index};
+use assembly::{Grid, PlaceLog, Row, Sequence, put_seeds, site_index};
 use std::alloc::Global;
 use tile_system::{NoMemory, Place, System};
 
@@ -105,7 +104,8 @@ fn fill_all<C: Chooser>(
     list_beside_seeds(sys, grid, work);
     let mut row = Row::least(&area);
     while let Some(number) = work.take_least() {
-        let spot = row.spot(&area, number);
+        let site = row.site(&area, number);
+        let spot = Spot { site, number };
         fill(sys, grid, chooser, picker, spot, work, log);
     }
 }

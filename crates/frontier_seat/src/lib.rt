@@ -8,7 +8,6 @@ mod chooser;
 mod growing;
 mod in_order;
 mod picking;
-mod row;
 mod scout;
 mod share;
 mod work_list;

@@ -7,9 +7,8 @@ ghost use Rattle.tile_system.specs.Neighbors.{StandBeside};
 ghost use Rattle.number_set.specs.Numbers.{Adds, IsIn, IsLeastOf, Removes};
 ghost use Rattle.frontier_seat.specs.Inner.Listings.{AreEmptySites, ListsAround, ListsFrontier, ListsFrontierTo, ListsSide, IsClosedRow, IsSpot, IsSpotBeside, TakesSpot};
 
-use crate::row::Row;
 use crate::share::Share;
-use assembly::Grid;
+use assembly::{Grid, Row};
 use number_set::NumberSet;
 use std::alloc::Global;
 use std::marker::Model;
@@ -38,7 +37,7 @@ impl Model for WorkList {
     ghost use Rattle.atam.specs.Sites.{IsBox, height_of};
     ghost use Rattle.assembly.specs.Cells.{cell_count};
     ghost use Rattle.frontier_seat.specs.Inner.Listings.{ListedSites};
-    ghost use Rattle.frontier_seat.specs.Inner.Rows.{IsRow};
+    ghost use Rattle.assembly.specs.Rows.{IsRow};
 
     ghost Value = { ListedSites };
 
@@ -81,7 +80,8 @@ impl WorkList {
         ensures spot { IsSpot self.old.area result }
     {
         let area = self.area;
-        self.row.spot(&area, number)
+        let site = self.row.site(&area, number);
+        Spot { site, number }
     }
 
     // The column and row of the next of the worker's own sites, which is looked for from the site

@@ -19,7 +19,7 @@ use Rattle.atam.proofs.Beginnings.{begun_part, begun_push, begun_distinct, unlis
 use Rattle.atam.proofs.Count.{count_in_part}
 use Rattle.assembly.specs.Cells.{site_at}
 use Rattle.assembly.proofs.Cells.{index_of, not_before}
-use Rattle.number_set.specs.Numbers.{Numbers, IsIn}
+use Rattle.replay_order.specs.Inner.ReadyNumbers.{ReadyNumbers, IsAmong}
 use Rattle.replay_order.specs.ReplayAnswers.{HoldsSeeds, LacksSeed}
 use Rattle.replay_order.specs.Inner.Replays.{IsReadySite, AreReadySites}
 use Rattle.replay_order.proofs.ReadySites.{part_push}
@@ -46,7 +46,7 @@ module _ (sys : TileSystem) (tiles s : List Place) (begun : BeginsCanonical sys 
       let few = count_in_part (s ++ p ∷ []) tiles (HasDistinctSites-push s p listed_distinct empty) distinct (part_push s tiles p (begun_part sys tiles s begun) placed) in
       omega (arith, few, length-append s (p ∷ []))
 
-  module _ (distinct : HasDistinctSites tiles) (fits : Fits sys tiles) (ready : Numbers) (are : AreReadySites sys tiles s ready) where
+  module _ (distinct : HasDistinctSites tiles) (fits : Fits sys tiles) (ready : ReadyNumbers) (are : AreReadySites sys tiles s ready) where
     -- a ready place is at a ready site
     ready_site : (q : Place) → IsReady sys tiles s q → IsReadySite sys tiles s q.site
     ready_site q is_ready =
@@ -60,14 +60,14 @@ module _ (sys : TileSystem) (tiles s : List Place) (begun : BeginsCanonical sys 
         }
 
     -- whose number is in the set
-    ready_number : (q : Place) → IsReady sys tiles s q → (i : ℕ) × (site_at sys.area i ≡ q.site) × IsIn ready i
+    ready_number : (q : Place) → IsReady sys tiles s q → (i : ℕ) × (site_at sys.area i ≡ q.site) × IsAmong ready i
     ready_number q is_ready =
         let inside = All-contains (λ p. InBox sys.area p.site) tiles q fits.sites is_ready.placed in
         let i = index_of sys.area q.site inside in
         (i.0, i.2, (are i.0 i.1).1 (subst (IsReadySite sys tiles s) (sym i.2) (ready_site q is_ready)))
 
     -- none is ready
-    pub begun_whole : ((i : ℕ) → ¬ IsIn ready i) → IsCanonical sys tiles s
+    pub begun_whole : ((i : ℕ) → ¬ IsAmong ready i) → IsCanonical sys tiles s
     begun_whole none = record {
       begins = begun;
       whole = λ q is_ready. let i = ready_number q is_ready in none i.0 i.2;
@@ -85,7 +85,7 @@ module _ (sys : TileSystem) (tiles s : List Place) (begun : BeginsCanonical sys 
             held = subst Held same at.held;
           }
 
-      pub next_begun : IsBox sys.area → (number : ℕ) → site_at sys.area number ≡ p.site → ((i : ℕ) → IsIn ready i → number ≤ i) → BeginsCanonical sys tiles (s ++ p ∷ [])
+      pub next_begun : IsBox sys.area → (number : ℕ) → site_at sys.area number ≡ p.site → ((i : ℕ) → IsAmong ready i → number ≤ i) → BeginsCanonical sys tiles (s ++ p ∷ [])
       next_begun limits number there least =
           let wide : 0 < width_of sys.area = omega (arith, ints, limits.corners.columns) in
           begun_push sys tiles s begun p next_ready (

@@ -13,7 +13,7 @@ use Rattle.atam.specs.TileSystem.{TileSystem}
 use Rattle.atam.specs.Assembly.{bond}
 use Rattle.assembly.specs.Cells.{cell_count, site_at}
 use Rattle.assembly.proofs.Cells.{site_at-injective, site_at-inside}
-use Rattle.number_set.specs.Numbers.{IsIn}
+use Rattle.replay_order.specs.Inner.ReadyNumbers.{IsAmong}
 use Rattle.replay_order.specs.Inner.Replays.{Waiting, Lowers, given_to}
 use Rattle.replay_order.proofs.Pulls.{given_to-here, given_to-other}
 
@@ -73,7 +73,7 @@ module _ (area : BoxArea) (sys : TileSystem) (tiles : List Place) (p : Place) (d
     -- a number is written
     pub lowers_one : (new : Waiting) (left : ℕ) → new.area ≡ area → number < length old.lacks → 0 < get_or old.lacks number 0 →
         left ≡ get_or old.lacks number 0 - bond sys tiles p.site p.tile d → new.lacks ≡ set old.lacks number left →
-        ((m : ℕ) → IsIn new.ready m ↔ (IsIn old.ready m ⊎ ((m ≡ number) × (left ≡ 0)))) → Lowers area (given_to sys tiles p d) old new
+        ((m : ℕ) → IsAmong new.ready m ↔ (IsAmong old.ready m ⊎ ((m ≡ number) × (left ≡ 0)))) → Lowers area (given_to sys tiles p d) old new
     lowers_one new left new_area within some is written ready =
         let at_here : get_or new.lacks number 0 ≡ left = ap (λ l. get_or l number 0) written ∙ get_or-set_same old.lacks number left 0 within in
         let at_other : (i : ℕ) → i ≢ number → get_or new.lacks i 0 ≡ get_or old.lacks i 0 = λ i other.

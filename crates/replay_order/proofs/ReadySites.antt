@@ -15,9 +15,9 @@ use Rattle.atam.proofs.Lists.{All-slice_get, Contains-push, slice_get-Contains, 
 use Rattle.atam.proofs.Bonds.{beside_a_tile}
 use Rattle.atam.proofs.Placements.{Contains-tile_at, tile_at-Contains, tile_at-place}
 use Rattle.atam.proofs.Tiles.{tile_at-push_other, tile_at-push_here}
-use Rattle.assembly.specs.Cells.{cell_count, site_at}
+use Rattle.assembly.specs.Cells.{IsSiteNumber, cell_count, site_at}
 use Rattle.assembly.proofs.Cells.{site_at-injective}
-use Rattle.number_set.specs.Numbers.{Numbers, IsIn}
+use Rattle.replay_order.specs.Inner.ReadyNumbers.{ReadyNumbers, IsAmong}
 use Rattle.replay_order.specs.Inner.Replays.{IsReadySite, Waiting, due_at, AreLacks, AreReadySites, AreReadySitesBut, Lowers, given_beside, TakesLeast}
 use Rattle.replay_order.proofs.Dues.{due_at-seed, due_at-other}
 use Rattle.replay_order.proofs.Pulls.{pull-push, given_pull, given_none}
@@ -137,14 +137,13 @@ module _ (sys : TileSystem) (tiles s : List Place) (p : Place) (old new : Waitin
   )
 
 -- the least ready site is taken out
-module _ (sys : TileSystem) (tiles s : List Place) (old new : Waiting) (m : Site) (lacks : AreLacks sys tiles s old) (ready : AreReadySites sys tiles s old.ready) (takes : TakesLeast old new m) where
-  pub taken_site : site_at sys.area takes.number ≡ m
-  taken_site = ap (λ area. site_at area takes.number) (sym lacks.area) ∙ takes.site
+module _ (sys : TileSystem) (tiles s : List Place) (old new : Waiting) (number : ℕ) (m : Site) (here : m ≡ site_at sys.area number)
+    (lacks : AreLacks sys tiles s old) (ready : AreReadySites sys tiles s old.ready) (takes : TakesLeast old new number) where
+  pub taken_number : IsSiteNumber sys.area m number
+  taken_number = record { within = omega (arith, takes.within, ap cell_count lacks.area); site = sym here }
 
   pub taken_ready : IsReadySite sys tiles s m
-  taken_ready =
-      let within : takes.number < cell_count sys.area = omega (arith, takes.within, ap cell_count lacks.area) in
-      subst (IsReadySite sys tiles s) taken_site ((ready takes.number within).0 takes.member)
+  taken_ready = subst (IsReadySite sys tiles s) (sym here) ((ready number taken_number.within).0 takes.member)
 
   pub taken_held : (t : TypeId) → tile_at tiles m ≡ Some t → due_at sys.seeds sys.tau m ≤ pull sys s m t
   taken_held t placed =
@@ -164,8 +163,8 @@ module _ (sys : TileSystem) (tiles s : List Place) (old new : Waiting) (m : Site
   taken_but i below = (
     λ is_in.
         let was = (takes.removed i).0 is_in in
-        ((ready i below).0 was.0, λ same. was.1 (site_at-injective sys.area i takes.number (same ∙ sym taken_site))),
-    λ both. (takes.removed i).1 ((ready i below).1 both.0, λ one. both.1 (ap (λ k. site_at sys.area k) one ∙ taken_site)),
+        ((ready i below).0 was.0, λ same. was.1 (site_at-injective sys.area i number (same ∙ here))),
+    λ both. (takes.removed i).1 ((ready i below).1 both.0, λ one. both.1 (ap (λ k. site_at sys.area k) one ∙ sym here)),
   )
 
 -- a seed
@@ -178,7 +177,7 @@ module _ (sys : TileSystem) (seeds_distinct : HasDistinctSites sys.seeds) (k : �
   seed_held s = omega (arith, due_at-seed sys.seeds sys.tau p.site p.tile seed_at)
 
   -- and is never ready
-  pub seed_but : (tiles s : List Place) (ready : Numbers) → AreReadySites sys tiles s ready → AreReadySitesBut sys tiles s ready p.site
+  pub seed_but : (tiles s : List Place) (ready : ReadyNumbers) → AreReadySites sys tiles s ready → AreReadySitesBut sys tiles s ready p.site
   seed_but tiles s ready are i below = (
     λ is_in.
         let at = (are i below).0 is_in in
@@ -188,7 +187,7 @@ module _ (sys : TileSystem) (seeds_distinct : HasDistinctSites sys.seeds) (k : �
   )
 
 -- before the first place no site is ready, and each tile lacks all
-pub none_ready : (sys : TileSystem) (tiles : List Place) (ready : Numbers) → 1 ≤ sys.tau → ((i : ℕ) → ¬ IsIn ready i) → AreReadySites sys tiles [] ready
+pub none_ready : (sys : TileSystem) (tiles : List Place) (ready : ReadyNumbers) → 1 ≤ sys.tau → ((i : ℕ) → ¬ IsAmong ready i) → AreReadySites sys tiles [] ready
 none_ready sys tiles ready some_tau none i below = (
   λ is_in. absurd (none i is_in),
   λ is_ready.

@@ -1,1 +1,2 @@
+pub mod ReadyNumbers
 pub mod Replays

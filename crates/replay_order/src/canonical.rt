@@ -6,13 +6,14 @@ ghost use Rattle.atam.specs.TileSystem.{IsValid};
 ghost use Rattle.atam.specs.Assembly.{Fits, pull};
 ghost use Rattle.atam.specs.Growth.{IsProducible};
 ghost use Rattle.atam.specs.Canonical.{BeginsCanonical, IsCanonical};
+ghost use Rattle.assembly.specs.Cells.{IsSiteNumber};
 ghost use Rattle.replay_order.specs.Inner.Replays.{due_at, AreLacks, AreReadySites, AreReadySitesBut};
 ghost use Rattle.replay_order.specs.ReplayAnswers.{HoldsSeeds, LacksSeed, IsReplayAnswer};
 
 use crate::rest::least_left;
 use crate::stop::ReplayStop;
 use crate::waiting::WaitingSites;
-use assembly::{Grid, Sequence};
+use assembly::{Grid, Row, Sequence, site_index};
 use std::alloc::Global;
 use tile_system::{NoMemory, Place, Placed, System};
 
@@ -33,9 +34,11 @@ pub fn replay(alloc: Global, sys: &System, grid: &Grid) -> Result<Sequence, Repl
     if !holds_seeds(sys, grid) {
         return Err(ReplayStop::NoSeedThere);
     }
+    let tiles = grid.count();
     let mut order = Sequence::make(alloc);
+    order.reserve(tiles as usize)?;
     let waiting = list_all(alloc, sys, grid, &mut order)?;
-    let left = grid.count() - order.len() as u32;
+    let left = tiles - order.len() as u32;
     if left == 0 {
         return Ok(order);
     }
@@ -82,6 +85,7 @@ fn list_seeds(
     waiting: &mut WaitingSites,
 ) -> Result<(), NoMemory>
     requires valid { IsValid sys.now }
+    requires area { grid.now.area ≡ sys.now.area }
     requires fits { Fits sys.now grid.now.tiles }
     requires seeded { HoldsSeeds sys.now grid.now.tiles }
     requires unlisted { order.old ≡ [] }
@@ -92,8 +96,10 @@ fn list_seeds(
     ensures ready { OnOk result
         (AreReadySites sys.now grid.now.tiles order.new waiting.new.ready) }
 {
+    let area = grid.area();
     for seed in sys.seeds() {
-        list_place(sys, grid, order, waiting, *seed)?;
+        let number = site_index(&area, seed.site);
+        list_place(sys, grid, order, waiting, *seed, number)?;
     }
     Ok(())
 }
@@ -106,6 +112,7 @@ fn list_ready(
     waiting: &mut WaitingSites,
 ) -> Result<(), NoMemory>
     requires valid { IsValid sys.now }
+    requires area { grid.now.area ≡ sys.now.area }
     requires fits { Fits sys.now grid.now.tiles }
     requires distinct { HasDistinctSites grid.now.tiles }
     requires begun { BeginsCanonical sys.now grid.now.tiles order.old }
@@ -114,9 +121,12 @@ fn list_ready(
     ensures canonical { OnOk result (IsCanonical sys.now grid.now.tiles order.new) }
     ensures lacks { OnOk result (AreLacks sys.now grid.now.tiles order.new waiting.new) }
 {
-    while let Some(site) = waiting.take_least() {
-        let tile = grid.at(site).unwrap();
-        list_place(sys, grid, order, waiting, Place { site, tile })?;
+    let area = grid.area();
+    let mut row = Row::least(&area);
+    while let Some(number) = waiting.take_least() {
+        let site = row.site(&area, number);
+        let tile = grid.tile(number).unwrap();
+        list_place(sys, grid, order, waiting, Place { site, tile }, number)?;
     }
     Ok(())
 }
@@ -129,9 +139,12 @@ fn list_place(
     order: &mut Sequence,
     waiting: &mut WaitingSites,
     place: Place,
+    number: usize,
 ) -> Result<(), NoMemory>
     requires valid { IsValid sys.now }
+    requires area { grid.now.area ≡ sys.now.area }
     requires fits { Fits sys.now grid.now.tiles }
+    requires number { IsSiteNumber sys.now.area place.site number }
     requires placed { tile_at grid.now.tiles place.site ≡ Some place.tile }
     requires empty { tile_at order.old place.site ≡ None }
     requires held { due_at sys.now.seeds sys.now.tau place.site ≤
@@ -145,6 +158,6 @@ fn list_place(
         (AreReadySites sys.now grid.now.tiles order.new waiting.new.ready) }
 {
     order.push(place)?;
-    waiting.lower_beside(sys, grid, place);
+    waiting.lower_beside(sys, grid, place, number);
     Ok(())
 }

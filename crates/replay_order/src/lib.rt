@@ -3,6 +3,7 @@
 
 mod canonical;
 mod legal;
+mod ready;
 mod rest;
 mod stop;
 mod waiting;

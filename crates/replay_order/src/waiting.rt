@@ -6,15 +6,15 @@ ghost use Rattle.atam.specs.Placements.{HasDistinctSites};
 ghost use Rattle.assembly.specs.Cells.{cell_count, site_at};
 ghost use Rattle.atam.specs.TileSystem.{IsType};
 ghost use Rattle.atam.specs.Assembly.{Fits};
-ghost use Rattle.number_set.specs.Numbers.{IsIn};
+ghost use Rattle.replay_order.specs.Inner.ReadyNumbers.{IsAmong};
 ghost use Rattle.replay_order.specs.Inner.Replays.{due_at, given_to, given_beside, Lowers, TakesLeast};
 
-use assembly::{Grid, number_beside, site_index, site_of_index};
-use attach_rule::bond;
-use number_set::NumberSet;
+use crate::ready::ReadyNumbers;
+use assembly::{Grid, number_beside, site_index};
+use attach_rule::bond_with;
 use std::alloc::Global;
 use std::marker::Model;
-use tile_system::{BoxArea, NoMemory, Place, Side, Site, System};
+use tile_system::{BoxArea, NoMemory, Place, Side, System};
 
 // How much pull the tile at each site lacks to be held, and the sites that are ready. A site is
 // ready once, when its tile lacks nothing any more. Each call but `make` takes no memory.
@@ -22,7 +22,7 @@ use tile_system::{BoxArea, NoMemory, Place, Side, Site, System};
 pub(crate) struct WaitingSites {
     area: BoxArea,
     lacks: Vec<u16>,
-    ready: NumberSet,
+    ready: ReadyNumbers,
 }
 
 impl Model for WaitingSites {
@@ -50,10 +50,10 @@ impl WaitingSites {
         ensures area { IfOk result (λ w. w.area ≡ area) }
         ensures lacks { IfOk result (λ w. (i : ℕ) → i < cell_count area →
             slice_index w.lacks i ≡ due_at seeds.now tau (site_at area i)) }
-        ensures empty { IfOk result (λ w. (i : ℕ) → ¬ IsIn w.ready i) }
+        ensures empty { IfOk result (λ w. (i : ℕ) → ¬ IsAmong w.ready i) }
     {
         let sites = area.width() * area.height();
-        let ready = NumberSet::make(alloc, sites)?;
+        let ready = ReadyNumbers::make(alloc, sites)?;
         let mut lacks = Vec::from_elem(alloc, tau as u16, sites as usize)?;
         for seed in seeds {
             lacks[site_index(&area, seed.site)] = 0;
@@ -63,14 +63,16 @@ impl WaitingSites {
 
     // Gives each tile beside a listed one the strength that it has with this.
     #[inline(always)]
-    pub(crate) fn lower_beside(&mut self, sys: &System, grid: &Grid, place: Place)
+    pub(crate) fn lower_beside(&mut self, sys: &System, grid: &Grid, place: Place, number: usize)
+        requires area { grid.now.area ≡ self.old.area }
         requires inside { InBox self.old.area place.site }
+        requires within { number < cell_count self.old.area }
+        requires number { site_at self.old.area number ≡ place.site }
         requires kind { IsType sys.now place.tile }
         requires fits { Fits sys.now grid.now.tiles }
         ensures { Lowers self.old.area (given_beside sys.now grid.now.tiles place)
             self.old self.new }
     {
-        let number = site_index(&self.area, place.site);
         self.lower(sys, grid, place, number, Side::North);
         self.lower(sys, grid, place, number, Side::East);
         self.lower(sys, grid, place, number, Side::South);
@@ -80,6 +82,7 @@ impl WaitingSites {
     // The same for the tile on one side of it, by the number of its site.
     #[inline(always)]
     fn lower(&mut self, sys: &System, grid: &Grid, place: Place, number: usize, side: Side)
+        requires area { grid.now.area ≡ self.old.area }
         requires inside { InBox self.old.area place.site }
         requires within { number < cell_count self.old.area }
         requires number { site_at self.old.area number ≡ place.site }
@@ -95,7 +98,7 @@ impl WaitingSites {
         if lack == 0 {
             return;
         }
-        let strength = bond(sys, grid, place.site, place.tile, side);
+        let strength = bond_with(sys, place.tile, side, grid.tile(beside));
         let left = lack.saturating_sub(strength as u16);
         self.lacks[beside] = left;
         if left == 0 {
@@ -105,14 +108,13 @@ impl WaitingSites {
 
     // Takes the least ready site out.
     #[inline(always)]
-    pub(crate) fn take_least(&mut self) -> Option<Site>
+    pub(crate) fn take_least(&mut self) -> Option<usize>
         ensures area { self.new.area ≡ self.old.area }
         ensures lacks { self.new.lacks ≡ self.old.lacks }
         ensures least { IfSome result (TakesLeast self.old self.new) }
-        ensures none { IfNone result ((i : ℕ) → ¬ IsIn self.old.ready i) }
+        ensures none { IfNone result ((i : ℕ) → ¬ IsAmong self.old.ready i) }
     {
-        let number = self.ready.pop_least()?;
-        Some(site_of_index(&self.area, number))
+        self.ready.take_least()
     }
 
     // Whether the tile at the site with this number lacks something.

@@ -12,7 +12,7 @@ use Rattle.atam.specs.Placements.{tile_at}
 use Rattle.atam.specs.TileSystem.{TileSystem}
 use Rattle.atam.specs.Assembly.{bond, pull}
 use Rattle.assembly.specs.Cells.{cell_count, site_at}
-use Rattle.number_set.specs.Numbers.{Numbers, IsIn, Removes}
+use Rattle.replay_order.specs.Inner.ReadyNumbers.{ReadyNumbers, IsAmong, Loses}
 
 -- a tile stands at the site that is no seed and isn't listed, and whose type is held by the listed places
 pub record IsReadySite (sys : TileSystem) (tiles listed : List Place) (m : Site) : Type 0 where
@@ -26,13 +26,13 @@ pub record IsReadySite (sys : TileSystem) (tiles listed : List Place) (m : Site)
 pub record Waiting : Type 0 where
   pub area : BoxArea
   pub lacks : List ℕ
-  pub ready : Numbers
+  pub ready : ReadyNumbers
 
 -- there is room for each site of the box
-pub record HasEachSite (area : BoxArea) (lacks : List ℕ) (ready : Numbers) : Type 0 where
+pub record HasEachSite (area : BoxArea) (lacks : List ℕ) (ready : ReadyNumbers) : Type 0 where
   pub box_limits : IsBox area
   pub lacks_len : length lacks ≡ cell_count area
-  pub ready_bound : ready.bound ≡ cell_count area
+  pub ready_bound : ready.others.bound ≡ cell_count area
 
 -- how much pull the tile at a site needs: none where there is a seed, and else the temperature
 abbrev pub due_at : List Place → ℕ → Site → ℕ
@@ -46,19 +46,19 @@ pub record AreLacks (sys : TileSystem) (tiles listed : List Place) (waiting : Wa
   pub settled : (i : ℕ) (t : TypeId) → i < cell_count sys.area → tile_at listed (site_at sys.area i) ≡ Some t → slice_index waiting.lacks i ≡ 0
 
 -- the numbers of the sites that are ready
-abbrev pub AreReadySites : TileSystem → List Place → List Place → Numbers → Type 0
-AreReadySites sys tiles listed ready = (i : ℕ) → i < cell_count sys.area → IsIn ready i ↔ IsReadySite sys tiles listed (site_at sys.area i)
+abbrev pub AreReadySites : TileSystem → List Place → List Place → ReadyNumbers → Type 0
+AreReadySites sys tiles listed ready = (i : ℕ) → i < cell_count sys.area → IsAmong ready i ↔ IsReadySite sys tiles listed (site_at sys.area i)
 
 -- the same but for one site
-abbrev pub AreReadySitesBut : TileSystem → List Place → List Place → Numbers → Site → Type 0
-AreReadySitesBut sys tiles listed ready but = (i : ℕ) → i < cell_count sys.area → IsIn ready i ↔ (IsReadySite sys tiles listed (site_at sys.area i) × (site_at sys.area i ≢ but))
+abbrev pub AreReadySitesBut : TileSystem → List Place → List Place → ReadyNumbers → Site → Type 0
+AreReadySitesBut sys tiles listed ready but = (i : ℕ) → i < cell_count sys.area → IsAmong ready i ↔ (IsReadySite sys tiles listed (site_at sys.area i) × (site_at sys.area i ≢ but))
 
 -- each site lacks less by what it is given, and those are added that lack nothing from then on
 pub record Lowers (area : BoxArea) (given : Site → ℕ) (old new : Waiting) : Type 0 where
   pub old_area : old.area ≡ area
   pub new_area : new.area ≡ area
   pub lacks : (i : ℕ) → i < cell_count area → slice_index new.lacks i ≡ slice_index old.lacks i - given (site_at area i)
-  pub ready : (i : ℕ) → i < cell_count area → IsIn new.ready i ↔ (IsIn old.ready i ⊎ ((0 < slice_index old.lacks i) × (slice_index new.lacks i ≡ 0)))
+  pub ready : (i : ℕ) → i < cell_count area → IsAmong new.ready i ↔ (IsAmong old.ready i ⊎ ((0 < slice_index old.lacks i) × (slice_index new.lacks i ≡ 0)))
 
 -- the site on one side of a place is given the strength that the tiles at both have
 abbrev pub given_to : TileSystem → List Place → Place → Side → Site → ℕ
@@ -68,14 +68,12 @@ given_to sys tiles p d m = if same_site (neighbor p.site d) m then bond sys tile
 abbrev pub given_beside : TileSystem → List Place → Place → Site → ℕ
 given_beside sys tiles p m = given_to sys tiles p North m + given_to sys tiles p East m + given_to sys tiles p South m + given_to sys tiles p West m
 
--- the least ready site is taken out
-pub record TakesLeast (old new : Waiting) (m : Site) : Type 0 where
-  pub number : ℕ
+-- the least ready number is taken out
+pub record TakesLeast (old new : Waiting) (number : ℕ) : Type 0 where
   pub within : number < cell_count old.area
-  pub site : site_at old.area number ≡ m
-  pub member : IsIn old.ready number
-  pub least : (i : ℕ) → IsIn old.ready i → number ≤ i
-  pub removed : Removes old.ready new.ready number
+  pub member : IsAmong old.ready number
+  pub least : (i : ℕ) → IsAmong old.ready i → number ≤ i
+  pub removed : Loses old.ready new.ready number
 
 -- the tile at the site with this number lacks something
 pub record IsLackingAt (tiles : List Place) (waiting : Waiting) (i : ℕ) : Type 0 where

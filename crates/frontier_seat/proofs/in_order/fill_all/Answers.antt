@@ -2,10 +2,10 @@ use Rattle.std.proofs.Common.{◌<◌, ◌∙◌, length, inl, inr, sym, subst, 
 use Rattle.atam.specs.declared.area.BoxArea.{BoxArea}
 use Rattle.atam.proofs.Count.{count_in_box}
 use Rattle.assembly.specs.Cells.{cell_count}
-use Rattle.number_set.specs.Numbers.{IsLeastOf}
 use Rattle.number_set.proofs.Counting.{count_below-removes}
+use Rattle.frontier_seat.specs.declared.work_list.Spot.{Spot}
 use Rattle.frontier_seat.specs.Inner.Listings.{IsSpot}
-use Rattle.frontier_seat.proofs.Listing.{closed_none}
+use Rattle.frontier_seat.proofs.Listing.{closed_none, spot_here}
 use Rattle.frontier_seat.proofs.Looked.{less_work}
 use Rattle.frontier_seat.proofs.Ordering.{few_logged, least_listed, order_more, order_stays}
 use Rattle.frontier_seat.proofs.in_order.fill_all.Goals as goal
@@ -41,17 +41,20 @@ loop-number-preserved g c =
     let old = c.loop-number.log.places in
     let new = c.fill.new.log.places in
     let numbers = c.loop-number.work.numbers in
-    let spot = c.spot-spot.result in
-    let is : IsSpot sys.area spot = subst (λ (a : BoxArea). IsSpot a spot) c.area-area.ensures.area c.spot-spot.ensures.spot in
-    let least : IsLeastOf numbers spot.number = subst (IsLeastOf numbers) (sym c.spot-spot.ensures.number) c.in-Some.ensures.least in
+    let site = c.site-site.result in
+    let number = c.in-Some.number in
+    let is : IsSpot c.area-area.result (record { site = site; number = number }) =
+    spot_here c.area-area.result site number (subst (λ (a : BoxArea). number < cell_count a) (inv.area ∙ (c.requires.area ∙ sym c.area-area.ensures.area)) c.in-Some.ensures.within) c.site-site.ensures.site c.site-site.ensures.inside in
+    let spot : Spot = record { site = site; number = number } in
+    let is_own : IsSpot sys.area spot = subst (λ (a : BoxArea). IsSpot a spot) c.area-area.ensures.area is in
     record {
       filling = c.fill.ensures.filling;
       picker = c.fill.ensures.picker;
       area = c.fill.ensures.area ∙ (c.take_least.ensures.area ∙ inv.area);
-      row = c.spot-spot.ensures.row;
+      row = c.site-site.ensures.row;
       lists = c.fill.ensures.lists.lists;
       order = elim c.fill.ensures.fills [
-        | inl fills ↦ order_more sys before after spot.site old new inv.filling.distinct (least_listed sys before numbers spot c.area-area.ensures.valid.box is inv.lists.all least) fills inv.order
+        | inl fills ↦ order_more sys before after spot.site old new inv.filling.distinct (least_listed sys before numbers spot c.area-area.ensures.valid.box is_own inv.lists.all c.in-Some.ensures.least) fills inv.order
         | inr same ↦ order_stays sys before after old new same.0 same.1 inv.order
       ];
       room = c.fill.ensures.room ∙ inv.room;

@@ -1,10 +1,10 @@
 use Rattle.std.proofs.Common.{◌≡◌, ◌+◌, ◌-◌, ◌*◌, length}
 use Rattle.assembly.specs.Cells.{cell_count}
+use Rattle.assembly.specs.Rows.{IsRow}
 use Rattle.number_set.specs.Numbers.{count_below}
 use Rattle.frontier_seat.specs.Inner.Fillings.{GrewInOrder, IsFilling}
 use Rattle.frontier_seat.specs.Inner.Looks.{ListsOpen}
 use Rattle.frontier_seat.specs.Inner.Pickers.{IsPickerOf}
-use Rattle.frontier_seat.specs.Inner.Rows.{IsRow}
 use Rattle.frontier_seat.proofs.in_order.fill_all.Given as goal
 
 -- what is listed is all that may be open, and what grew is logged

@@ -1,7 +1,8 @@
-use Rattle.std.proofs.Common.{List, sym, subst}
+use Rattle.std.proofs.Common.{List, sym, ◌∙◌, ap, subst, arith}
 use Rattle.atam.specs.declared.place.Place.{Place}
 use Rattle.atam.specs.declared.area.BoxArea.{BoxArea}
 use Rattle.atam.specs.Sites.{InBox}
+use Rattle.assembly.specs.Cells.{cell_count, site_at}
 use Rattle.replay_order.specs.Inner.Replays.{AreLacks, AreReadySites, Lowers, given_beside}
 use Rattle.replay_order.proofs.ReadySites.{Fits-tile, lacks_after, ready_after}
 use Rattle.replay_order.proofs.canonical.list_place.Goals as goal
@@ -39,3 +40,12 @@ returns-clause-ready c =
     let lowers = subst Lowered c.requires.lacks.area c.lower_beside.ensures in
     let After : List Place → Type 0 = λ l. AreReadySites sys tiles l new.ready in
     subst After (sym c.in_ok-push.ensures.ok) (ready_after sys tiles s p old new c.requires.empty c.requires.placed c.requires.held lowers c.requires.lacks c.requires.ready)
+
+pub lower_beside-requires-clause-area : goal.lower_beside-requires-clause-area
+lower_beside-requires-clause-area c = c.requires.area ∙ sym c.requires.lacks.area
+
+pub lower_beside-requires-clause-within : goal.lower_beside-requires-clause-within
+lower_beside-requires-clause-within c = omega (arith, c.requires.number.within, ap cell_count c.requires.lacks.area)
+
+pub lower_beside-requires-clause-number : goal.lower_beside-requires-clause-number
+lower_beside-requires-clause-number c = ap (λ area. site_at area c.args.number) c.requires.lacks.area ∙ c.requires.number.site

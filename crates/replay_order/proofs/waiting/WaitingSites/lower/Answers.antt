@@ -1,15 +1,29 @@
-use Rattle.std.proofs.Common.{◌<◌, set, length, refl, inl, inr, subst, arith}
+use Rattle.std.proofs.Common.{◌≡◌, ◌<◌, ◌∙◌, ℕ, List, Option, IfSome, set, length, refl, inl, inr, ap, sym, subst, arith}
 use Rattle.std.proofs.lemmas.List.{get_or_read}
-use Rattle.atam.specs.Sites.{IsBox}
-use Rattle.atam.proofs.Boxes.{near_inside}
+use Rattle.atam.specs.declared.area.BoxArea.{BoxArea}
+use Rattle.atam.specs.declared.site.Site.{Site}
+use Rattle.atam.specs.declared.place.TypeId.{TypeId}
+use Rattle.atam.specs.declared.place.Place.{Place}
+use Rattle.atam.specs.Placements.{tile_at}
+use Rattle.atam.specs.Sites.{neighbor}
+use Rattle.atam.specs.TileSystem.{IsType}
+use Rattle.atam.proofs.Placements.{tile_at-all}
+use Rattle.assembly.specs.Cells.{cell_count, site_at}
 use Rattle.replay_order.specs.Inner.Replays.{Waiting, Lowers, given_to}
 use Rattle.replay_order.proofs.Lowerings.{lowers_outside, lowers_full, lowers_one}
 use Rattle.replay_order.proofs.waiting.WaitingSites.lower.Goals as goal
 
-pub bond-strength-requires-clause-near : goal.bond-strength-requires-clause-near
-bond-strength-requires-clause-near c =
-    let Limited : Waiting → Type 0 = λ w. IsBox w.area in
-    near_inside c.args.self.now.area c.args.place.site (subst Limited c.self.view_is c.self.invariant.box_limits) c.requires.inside
+-- the tile on that side, as the grid's cell tells
+beside_is : (area own : BoxArea) (tiles : List Place) (m : Site) (number : ℕ) (found : Option TypeId) → area ≡ own → site_at own number ≡ m → found ≡ tile_at tiles (site_at area number) → found ≡ tile_at tiles m
+beside_is area own tiles m number found same there is = is ∙ ap (λ a. tile_at tiles (site_at a number)) same ∙ ap (tile_at tiles) there
+
+pub tile-requires : goal.tile-requires
+tile-requires c = omega (arith, c.in-Some.ensures.within, ap cell_count c.requires.area, ap (λ w. cell_count w.area) c.self.view_is)
+
+pub bond_with-strength-requires-clause-beside : goal.bond_with-strength-requires-clause-beside
+bond_with-strength-requires-clause-beside c =
+    let Kind : Option TypeId → Type 0 = λ o. IfSome o (λ t. IsType c.args.sys.now t) in
+    subst Kind (sym c.tile.ensures) (tile_at-all (λ t. IsType c.args.sys.now t) c.args.grid.now.tiles _ c.requires.fits.types)
 
 pub returns-in_default : goal.returns-in_default
 returns-in_default c =
@@ -42,13 +56,15 @@ returns-then-left-eq0 c =
     let within : beside < length old.lacks = omega (arith, c.in-Some.ensures.within, c.self.invariant.lacks_len) in
     let lack = get_or_read old.lacks beside c.index-lack.result.now within c.index-lack.ensures 0 in
     let new : Waiting = record { area = old.area; lacks = set old.lacks beside left; ready = c.insert.new.self } in
+    let there = neighbor c.args.place.site c.args.side in
+    let bond = c.bond_with-strength.ensures.value tiles c.args.place.site (beside_is c.args.grid.now.area _ tiles there beside _ (c.requires.area ∙ ap (λ w. w.area) (sym c.self.view_is)) c.in-Some.ensures.site c.tile.ensures) in
     let Lowered : Waiting → Type 0 = λ w. Lowers w.area (given_to sys tiles c.args.place c.args.side) w new in
     subst Lowered c.self.view_is (
     lowers_one old.area sys tiles c.args.place c.args.side old refl beside c.in-Some.ensures.site new left refl within (omega (arith, lack, c.if-lack-eq0.false))
-    (omega (arith, lack, c.saturating_sub-left.ensures, c.bond-strength.ensures.value)) refl
+    (omega (arith, lack, c.saturating_sub-left.ensures, bond)) refl
     (λ m. (
-      λ is_in. elim ((c.insert.ensures.adds m).0 is_in) [ inl before ↦ inl before | inr one ↦ inr (one, c.if-left-eq0.true) ],
-      λ either. elim either [ inl before ↦ (c.insert.ensures.adds m).1 (inl before) | inr one ↦ (c.insert.ensures.adds m).1 (inr one.0) ],
+      λ is_in. elim ((c.insert.ensures.gains m).0 is_in) [ inl before ↦ inl before | inr one ↦ inr (one, c.if-left-eq0.true) ],
+      λ either. elim either [ inl before ↦ (c.insert.ensures.gains m).1 (inl before) | inr one ↦ (c.insert.ensures.gains m).1 (inr one.0) ],
     ))
     )
 
@@ -62,9 +78,11 @@ returns-else-left-eq0 c =
     let within : beside < length old.lacks = omega (arith, c.in-Some.ensures.within, c.self.invariant.lacks_len) in
     let lack = get_or_read old.lacks beside c.index-lack.result.now within c.index-lack.ensures 0 in
     let new : Waiting = record { area = old.area; lacks = set old.lacks beside left; ready = old.ready } in
+    let there = neighbor c.args.place.site c.args.side in
+    let bond = c.bond_with-strength.ensures.value tiles c.args.place.site (beside_is c.args.grid.now.area _ tiles there beside _ (c.requires.area ∙ ap (λ w. w.area) (sym c.self.view_is)) c.in-Some.ensures.site c.tile.ensures) in
     let Lowered : Waiting → Type 0 = λ w. Lowers w.area (given_to sys tiles c.args.place c.args.side) w new in
     subst Lowered c.self.view_is (
     lowers_one old.area sys tiles c.args.place c.args.side old refl beside c.in-Some.ensures.site new left refl within (omega (arith, lack, c.if-lack-eq0.false))
-    (omega (arith, lack, c.saturating_sub-left.ensures, c.bond-strength.ensures.value)) refl
+    (omega (arith, lack, c.saturating_sub-left.ensures, bond)) refl
     (λ m. (λ is_in. inl is_in, λ either. elim either [ inl before ↦ before | inr one ↦ absurd (c.if-left-eq0.false one.1) ]))
     )

@@ -1,25 +1,22 @@
 // A row of a box.
 ghost use Rattle.std.specs.Prelude.{◌≡◌, ◌<◌};
-ghost use Rattle.atam.specs.Sites.{IsBox};
-ghost use Rattle.assembly.specs.Cells.{cell_count};
-ghost use Rattle.frontier_seat.specs.Inner.Listings.{IsSpot};
-ghost use Rattle.frontier_seat.specs.Inner.Rows.{HasNumber, IsRow};
+ghost use Rattle.atam.specs.Sites.{InBox, IsBox};
+ghost use Rattle.assembly.specs.Cells.{cell_count, site_at};
+ghost use Rattle.assembly.specs.Rows.{HasNumber, IsRow};
 
-use crate::work_list::Spot;
-use assembly::site_of_index;
+use crate::site_of_index;
 use tile_system::{BoxArea, Site};
 
-// A row of a box, and the number of its first site. The sites in it are found by their numbers
-// without a division.
-#[derive(Clone, Copy)]
-pub(crate) struct Row {
-    pub(crate) y: i32,
-    pub(crate) first: usize,
+/// A row of a box. It finds the sites in it by their numbers without a division.
+#[derive(Clone, Copy, Debug)]
+pub struct Row {
+    y: i32,
+    first: usize,
 }
 
 impl Row {
-    // The least row.
-    pub(crate) fn least(area: &BoxArea) -> Row
+    /// The least row.
+    pub fn least(area: &BoxArea) -> Row
         requires { IsBox area.now }
         ensures { IsRow area.now result }
     {
@@ -59,21 +56,19 @@ impl Row {
         Row::of_number(area, number)
     }
 
-    // The site with this number, to whose row it moves.
+    /// The site with this number, to whose row it moves. It divides only where that is another row
+    /// than before.
     #[inline(always)]
-    pub(crate) fn spot(&mut self, area: &BoxArea, number: usize) -> Spot
+    pub fn site(&mut self, area: &BoxArea, number: usize) -> Site
         requires limits { IsBox area.now }
         requires row { IsRow area.now self.old }
         requires within { number < cell_count area.now }
         ensures row { IsRow area.now self.new }
-        ensures spot { IsSpot area.now result }
-        ensures number { result.number ≡ number }
+        ensures site { result ≡ site_at area.now number }
+        ensures inside { InBox area.now result }
     {
         *self = self.moved_to(area, number);
         let x = area.x0 + (number - self.first) as i32;
-        Spot {
-            site: Site { y: self.y, x },
-            number,
-        }
+        Site { y: self.y, x }
     }
 }

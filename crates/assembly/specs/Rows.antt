@@ -2,7 +2,7 @@
 use Rattle.std.specs.Prelude.{◌≡◌, ℕ, ◌+◌, ◌*◌, ◌≤◌, ◌<◌, nat_abs, ◌-ℤ◌, ◌≤ℤ◌}
 use Rattle.atam.specs.declared.area.BoxArea.{BoxArea}
 use Rattle.atam.specs.Sites.{width_of}
-use Rattle.frontier_seat.specs.declared.row.Row.{Row}
+use Rattle.assembly.specs.declared.row.Row.{Row}
 
 -- the row is in the box, and the number is that of its first site
 pub record IsRow (area : BoxArea) (row : Row) : Type 0 where
