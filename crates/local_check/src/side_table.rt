@@ -107,8 +107,8 @@ impl Placed for SideSets {
 }
 
 /// The sides of the places of a legal sequence, with the first place that isn't held exactly and
-/// the first rival, in memory for a grid over the box, for the sequence and for an index of the
-/// types. Its time grows with the number of places and with the number of sites of the box.
+/// the first rival, in memory for a grid over the box and for an index of the types, and a byte for
+/// each place. Its time grows with the number of places and with the number of sites of the box.
 pub fn inputs(alloc: Global, sys: &System, seq: &Sequence) -> Result<SideSets, NoMemory>
     requires legal { IsLegal sys.now seq.now }
     requires fits { Fits sys.now seq.now }

@@ -26,8 +26,8 @@ pub(crate) struct Survey {
     pub(crate) breaches: Breaches,
 }
 
-// Looks at what stands beside each place in the grid of all of them. Known are for each place the
-// sides beside which a tile stood before it, as its earlier sides, in whose stead its own are put.
+// Looks at what stands beside each place in the grid of all of them. At first the earlier sides of
+// a place are all those beside which a tile stood before it. What is found takes their room.
 #[inline(never)]
 pub(crate) fn survey_places(
     alloc: Global,
@@ -69,8 +69,8 @@ pub(crate) fn survey_places(
     Ok(Survey { sides, breaches })
 }
 
-// A grid with all places of a sequence, and for each as its earlier sides those beside which a tile
-// stood before it.
+// A grid with all places of a sequence, and for each the sides beside which a tile stood before it,
+// as its earlier sides.
 #[derive(Drop)]
 pub(crate) struct Stand {
     pub(crate) grid: Grid,

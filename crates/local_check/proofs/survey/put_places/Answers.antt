@@ -41,11 +41,11 @@ loop-index-preserved c =
     let sides = c.loop-index.before.items in
     let sets = earlier_sets sides in
     let stood = c.standing-stood.result in
-    let count : length sets ≡ i = length-map sides (λ (s : PlaceSides). s.earlier) ∙ c.loop-index.invariant.count in
+    let count : length sets ≡ i = length-map sides (λ (a : PlaceSides). a.earlier) ∙ c.loop-index.invariant.count in
     let pushed : earlier_sets c.push_reserved.new.self.items ≡ sets ++ stood ∷ [] =
     ap earlier_sets c.push_reserved.ensures.items
-    ∙ map-append (λ (s : PlaceSides). s.earlier) sides (c.of.result ∷ [])
-    ∙ ap (λ (of : PlaceSides). sets ++ of.earlier ∷ []) c.of.ensures
+    ∙ map-append (λ (a : PlaceSides). a.earlier) sides (c.of.result ∷ [])
+    ∙ ap (λ (a : PlaceSides). sets ++ a.earlier ∷ []) c.of.ensures
     in
     let within : i < length s = omega (arith, c.loop-index-test.true, c.len-index-end.ensures) in
     let beside = c.beside_at.ensures in
