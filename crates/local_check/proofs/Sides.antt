@@ -28,7 +28,7 @@ use Rattle.attach_rule.specs.declared.facing.FacingGlues.{FacingGlues}
 use Rattle.attach_rule.specs.Bonds.{AreBonds}
 use Rattle.attach_rule.specs.Facing.{FacesSite}
 use Rattle.local_check.specs.Judgement.{FindsInexact, FindsRival}
-use Rattle.local_check.specs.Inner.Sides.{bond_if, sum_on, pull_on, bound_by, bound_sides, difference, complement, sides_beside, AreBeforeAt, AreEarlierBelow, AreBeforeFrom, AreOutputsAt, AreEarlierSides, AreOutputSides}
+use Rattle.local_check.specs.Inner.Sides.{bond_if, sum_on, pull_on, bound_by, bound_sides, difference, complement, sides_beside, AreBeforeAt, AreEarlierBelow, AreBeforeFrom, AreOutputsBelow, AreEarlierSides, AreOutputSides}
 use Rattle.atam.proofs.Opening.{bond-beside}
 use Rattle.atam.proofs.Tiles.{SameTiles}
 use Rattle.local_check.proofs.Sites.{slice_get-some, slice_get-set, slice_get-apart, distinct-take}
@@ -234,11 +234,15 @@ module _ (sys : TileSystem) (s : List Place) (sets : List SideSet) (i : ℕ) (p 
   before_set each k q sides later at_k found =
       each k q sides (omega (arith, later)) at_k (slice_get-apart sets i k x sides (λ same. let never : ⊥ = omega (arith, later, same) in never) found)
 
-pub outputs_more : (sys : TileSystem) (s : List Place) (sets : List SideSet) (x : SideSet) → AreOutputsAt sys s sets →
-    ((d : Side) → has x d ≡ is_output sys s (length sets) d) → AreOutputsAt sys s (sets ++ x ∷ [])
-outputs_more sys s sets x each last k sides found d = elim (push_at sets x k sides found) [
-  | inl old ↦ each k sides old d
-  | inr new ↦ ap (λ a. has a d) (sym new.0) ∙ last d ∙ ap (λ j. is_output sys s j d) (sym new.1)
+pub outputs_set : (sys : TileSystem) (s : List Place) (sets : List SideSet) (i : ℕ) (x : SideSet) → i < length sets → AreOutputsBelow sys s i sets →
+    ((d : Side) → has x d ≡ is_output sys s i d) → AreOutputsBelow sys s (i + 1) (set sets i x)
+outputs_set sys s sets i x within each here k sides below found d = elim (cases_lt k i) [
+  | inl less ↦ each k sides less (slice_get-apart sets i k x sides (λ same. let never : ⊥ = omega (arith, less, same) in never) found) d
+  | inr more ↦
+      let same : i ≡ k = omega (arith, below, more) in
+      let Found : ℕ → Type 0 = λ j. slice_get (set sets i x) j ≡ Some sides in
+      let value : x ≡ sides = same_Some x sides (sym (slice_get-set sets i x within) ∙ subst Found (sym same) found) in
+      ap (λ a. has a d) (sym value) ∙ here d ∙ ap (λ j. is_output sys s j d) same
 ]
 
 -- the output sides of one place

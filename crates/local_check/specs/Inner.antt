@@ -1,3 +1,4 @@
 pub mod Sides
 pub mod SideBits
+pub mod PlaceSides
 pub mod PlaceFindings

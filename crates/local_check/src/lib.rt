@@ -5,6 +5,7 @@ mod breaches;
 mod findings;
 mod judgement;
 mod laws;
+mod place_sides;
 mod side_set;
 mod side_table;
 mod survey;

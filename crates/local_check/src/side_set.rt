@@ -1,16 +1,16 @@
 // A set of sides.
-ghost use Rattle.std.specs.Prelude.{◌≡◌, ◌≤◌, IsTrue};
+ghost use Rattle.std.specs.Prelude.{◌≡◌, ◌≤◌, ◌<◌, IsTrue};
 ghost use Rattle.atam.specs.declared.limits.TheConstants.{MOST_STRENGTH};
 ghost use Rattle.attach_rule.specs.Bonds.{AreStrengths};
 ghost use Rattle.local_check.specs.SideSets.{has};
+ghost use Rattle.local_check.specs.Inner.SideBits.{set_of};
 ghost use Rattle.local_check.specs.Inner.Sides.{bound_by, standing, intersection, difference, complement, bond_if, sum_on, glues_on};
 
 use attach_rule::{FacingGlues, Strengths};
 use std::marker::Model;
 use tile_system::{Beside, Side};
 
-// The sides of a tile that something holds of. It is one byte, with a bit for each side, since
-// there are two sets for each place of a sequence.
+// The sides of a tile that something holds of, with a bit for each side.
 #[derive(Clone, Copy)]
 pub(crate) struct SideSet {
     bits: u8,
@@ -35,6 +35,24 @@ impl Model for SideSet {
 impl SideSet {
     // The set of no sides.
     pub(crate) const NONE: SideSet = SideSet { bits: 0 };
+
+    // The set as a number.
+    #[inline(always)]
+    pub(crate) fn bits(self) -> u8
+        ensures back { set_of result ≡ self }
+        ensures small { result < 16 }
+    {
+        self.bits
+    }
+
+    // The set with this number.
+    #[inline(always)]
+    pub(crate) fn from_bits(bits: u8) -> SideSet
+        requires { bits < 16 }
+        ensures { result ≡ set_of bits }
+    {
+        SideSet { bits }
+    }
 
     // The sides for which it holds.
     #[inline(always)]

@@ -5,6 +5,7 @@ ghost use Rattle.atam.specs.Assembly.{Fits};
 ghost use Rattle.atam.specs.Growth.{IsLegal};
 ghost use Rattle.local_check.specs.SideSets.{has, input_at, output_at, AreSidesOf};
 
+use crate::place_sides::PlaceSides;
 use crate::side_set::SideSet;
 use crate::survey::{Stand, Survey, put_places, survey_places};
 use assembly::{Grid, Sequence};
@@ -19,30 +20,27 @@ use type_index::TypeIndex;
 pub struct SideSets {
     grid: Grid,
     seed_count: usize,
-    earlier: Vec<SideSet>,
-    outputs: Vec<SideSet>,
+    sides: Vec<PlaceSides>,
     index: TypeIndex,
     inexact: Option<(Site, u32)>,
     rival: Option<(Site, TypeId)>,
 }
 
 impl Model for SideSets {
-    ghost use Rattle.std.specs.Prelude.{◌≡◌, length};
     ghost use Rattle.local_check.specs.SideSets.{SideTable};
+    ghost use Rattle.local_check.specs.Inner.PlaceSides.{earlier_sets, output_sets};
 
     ghost Value = { SideTable };
 
     ghost view = { λ s. record {
       tiles = s.grid.tiles;
       seeds = s.seed_count;
-      earlier = s.earlier.items;
-      outputs = s.outputs.items;
+      earlier = earlier_sets s.sides.items;
+      outputs = output_sets s.sides.items;
       index = s.index;
       inexact = s.inexact;
       rival = s.rival;
     } };
-
-    ghost invariant = { λ s. length s.earlier.items ≡ length s.outputs.items };
 }
 
 impl SideSets {
@@ -59,7 +57,7 @@ impl SideSets {
         requires { i < length self.now.outputs }
         ensures { result ≡ output_at self.now i side }
     {
-        self.outputs[i].has(side)
+        self.sides[i].outputs().has(side)
     }
 
     // The input sides of a place.
@@ -70,7 +68,7 @@ impl SideSets {
         if i < self.seed_count {
             SideSet::NONE
         } else {
-            self.earlier[i]
+            self.sides[i].earlier()
         }
     }
 
@@ -109,8 +107,8 @@ impl Placed for SideSets {
 }
 
 /// The sides of the places of a legal sequence, with the first place that isn't held exactly and
-/// the first rival, in memory for a grid over the box, for the sequence and for an index of the
-/// types. Its time grows with the number of places and with the number of sites of the box.
+/// the first rival, in memory for a grid over the box and for an index of the types, and a byte for
+/// each place. Its time grows with the number of places and with the number of sites of the box.
 pub fn inputs(alloc: Global, sys: &System, seq: &Sequence) -> Result<SideSets, NoMemory>
     requires legal { IsLegal sys.now seq.now }
     requires fits { Fits sys.now seq.now }
@@ -119,16 +117,11 @@ pub fn inputs(alloc: Global, sys: &System, seq: &Sequence) -> Result<SideSets, N
     let _valid = sys.tau();
     let Stand { grid, before } = put_places(alloc, sys, seq)?;
     let index = TypeIndex::build(alloc, sys)?;
-    let Survey {
-        earlier,
-        outputs,
-        breaches,
-    } = survey_places(alloc, sys, seq, &grid, before, &index)?;
+    let Survey { sides, breaches } = survey_places(alloc, sys, seq, &grid, before, &index)?;
     Ok(SideSets {
         grid,
         seed_count: sys.seeds().len(),
-        earlier,
-        outputs,
+        sides,
         index,
         inexact: breaches.inexact,
         rival: breaches.rival,

@@ -88,10 +88,13 @@ AreEarlierAt sys s sets = (k : ℕ) (p : Place) (sides : SideSet) → slice_get 
 abbrev pub AreOutputsAt : TileSystem → List Place → List SideSet → Type 0
 AreOutputsAt sys s sets = (k : ℕ) (sides : SideSet) → slice_get sets k ≡ Some sides → (d : Side) → has sides d ≡ is_output sys s k d
 
--- the one of the places before an index, the other of those from it on
+-- these of the places before an index, and the first of those from it on
 abbrev pub AreEarlierBelow : TileSystem → List Place → ℕ → List SideSet → Type 0
 AreEarlierBelow sys s n sets = (k : ℕ) (p : Place) (sides : SideSet) → k < n → slice_get s k ≡ Some p → slice_get sets k ≡ Some sides →
     sides ≡ bound_sides sys (take (max (length sys.seeds) k) s) p.site p.tile
+
+abbrev pub AreOutputsBelow : TileSystem → List Place → ℕ → List SideSet → Type 0
+AreOutputsBelow sys s n sets = (k : ℕ) (sides : SideSet) → k < n → slice_get sets k ≡ Some sides → (d : Side) → has sides d ≡ is_output sys s k d
 
 abbrev pub AreBeforeFrom : TileSystem → List Place → ℕ → List SideSet → Type 0
 AreBeforeFrom sys s n sets = (k : ℕ) (p : Place) (sides : SideSet) → n ≤ k → slice_get s k ≡ Some p → slice_get sets k ≡ Some sides →

@@ -1,5 +1,6 @@
 use Rattle.std.proofs.Common.{◌≡◌, ◌≤◌, length, take, max, vec_capacity}
 use Rattle.atam.specs.Placements.{SamePlacements}
+use Rattle.local_check.specs.Inner.PlaceSides.{earlier_sets}
 use Rattle.local_check.specs.Inner.Sides.{AreBeforeAt}
 use Rattle.local_check.proofs.survey.put_places.Given as goal
 
@@ -11,5 +12,5 @@ invariant-loop-index l = record {
   placed : SamePlacements (take (max (length l.sys.seeds) l.index) l.seq) l.grid.tiles;
   count : length l.before.items ≡ l.index;
   room : length l.seq ≤ vec_capacity l.before;
-  before : AreBeforeAt l.sys l.seq l.before.items;
+  before : AreBeforeAt l.sys l.seq (earlier_sets l.before.items);
 }

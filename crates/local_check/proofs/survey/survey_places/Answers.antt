@@ -1,7 +1,8 @@
 use Rattle.std.proofs.Common.{◌≡◌, ◌<◌, ◌≤◌, ◌+◌, ◌∙◌, ℕ, List, length, take, set, max, not, slice_get, Option, Some, arith, rules, refl, sym, ap, subst}
 use Rattle.std.proofs.Math.Nat.{le_refl}
-use Rattle.std.proofs.lemmas.List.{length-set}
-use Rattle.std.proofs.lemmas.Option.{slice_get_read, slice_get_within}
+use Rattle.std.proofs.lemmas.List.{length-set, length-map, map-set}
+use Rattle.std.specs.Option.{option_map}
+use Rattle.std.proofs.lemmas.Option.{slice_get_read, slice_get_within, slice_get-map}
 use Rattle.atam.specs.declared.place.TypeId.{TypeId}
 use Rattle.atam.specs.declared.area.BoxArea.{BoxArea}
 use Rattle.atam.specs.declared.site.Site.{Site}
@@ -20,8 +21,9 @@ use Rattle.attach_rule.specs.declared.facing.FacingGlues.{FacingGlues}
 use Rattle.attach_rule.specs.Facing.{FacesSite}
 use Rattle.local_check.specs.SideSets.{SideSet, has}
 use Rattle.local_check.specs.Judgement.{FindsInexact, FindsRival}
-use Rattle.local_check.specs.Inner.Sides.{AreEarlierBelow, AreBeforeFrom, AreOutputsAt, bound_sides, intersection, difference, complement, pull_on, standing}
-use Rattle.local_check.proofs.Sides.{bound_sides-same, earlier_set, before_set, outputs_more, output_here, has-complement, length-push}
+use Rattle.local_check.specs.Inner.PlaceSides.{PlaceSides, earlier_sets, output_sets}
+use Rattle.local_check.specs.Inner.Sides.{AreEarlierBelow, AreBeforeFrom, AreOutputsBelow, bound_sides, intersection, difference, complement, pull_on, standing}
+use Rattle.local_check.proofs.Sides.{bound_sides-same, earlier_set, before_set, outputs_set, output_here, has-complement}
 use Rattle.local_check.proofs.Standing.{earlier_standing, outputs_standing, pull_standing}
 use Rattle.local_check.proofs.Judging.{one_map, part_of_tiles, seed_inexact, seed_rival, rival_more}
 use Rattle.local_check.proofs.survey.survey_places.Goals as goal
@@ -52,8 +54,9 @@ loop-index-preserved c =
     let legal = c.requires.legal in
     let distinct = c.requires.valid.distinct_seeds in
     let found = c.at-finding.result in
-    let earlier_sets = c.loop-index.earlier.items in
-    let output_sets = c.loop-index.outputs.items in
+    let sides = c.loop-index.sides.items in
+    let earlier_before = earlier_sets sides in
+    let outputs_before = output_sets sides in
     let within : i < length s = omega (arith, c.loop-index-test.true, c.len-index-end.ensures) in
     let seeded : n ≤ length s = seeds_within sys.seeds s legal.seeds in
     let extends = part_of_tiles sys s whole distinct legal c.requires.placements k part (omega (arith, within, seeded)) (λ m. refl) in
@@ -64,9 +67,17 @@ loop-index-preserved c =
       west = tile_at part (neighbor p.site West);
     } in
     let stand : StandBeside part p.site beside = record { north = refl; east = refl; south = refl; west = refl } in
-    let within_sets : i < length earlier_sets = omega (arith, within, c.loop-index.invariant.count) in
-    let stood = c.index.result.now in
-    let read : slice_get earlier_sets i ≡ Some stood = slice_get_read earlier_sets (length earlier_sets) i stood refl within_sets c.index.ensures in
+    let earlier_count : length earlier_before ≡ length s = length-map sides (λ (a : PlaceSides). a.earlier) ∙ c.loop-index.invariant.count in
+    let output_count : length outputs_before ≡ length s = length-map sides (λ (a : PlaceSides). a.outputs) ∙ c.loop-index.invariant.count in
+    let within_earlier : i < length earlier_before = omega (arith, within, earlier_count) in
+    let within_outputs : i < length outputs_before = omega (arith, within, output_count) in
+    let within_sides : i < length sides = omega (arith, within, c.loop-index.invariant.count) in
+    let stood = c.earlier-stood.result in
+    let read : slice_get earlier_before i ≡ Some stood =
+    slice_get-map (λ (a : PlaceSides). a.earlier) sides i
+    ∙ ap (option_map (λ (a : PlaceSides). a.earlier)) (slice_get_read sides (length sides) i c.index.result.now refl within_sides c.index.ensures)
+    ∙ ap (λ (a : SideSet). Some a) (sym c.earlier-stood.ensures)
+    in
     let before : stood ≡ standing beside = c.loop-index.invariant.before i p stood (le_refl i) c.get-place.ensures read in
     let finding = c.at-finding.ensures.finding in
     let earlier_is : found.earlier ≡ bound_sides sys part p.site p.tile =
@@ -92,23 +103,24 @@ loop-index-preserved c =
     outputs_are
     in
     let Sets : List SideSet → Type 0 = λ l. (length l ≡ length s) × AreEarlierBelow sys s (i + 1) l × AreBeforeFrom sys s (i + 1) l in
-    let sets : Sets (set earlier_sets i found.earlier) = (
-      length-set earlier_sets i found.earlier ∙ c.loop-index.invariant.count,
-      earlier_set sys s earlier_sets i p found.earlier c.get-place.ensures within_sets c.loop-index.invariant.earlier earlier_is,
-      before_set sys s earlier_sets i p found.earlier c.get-place.ensures within_sets c.loop-index.invariant.before,
-    ) in
-    let Outputs : List SideSet → Type 0 = λ l. AreOutputsAt sys s l in
+    let put = c.of.result in
+    let earlier_put : earlier_sets (set sides i put) ≡ set earlier_before i found.earlier =
+    map-set (λ (a : PlaceSides). a.earlier) sides i put ∙ ap (λ (a : PlaceSides). set earlier_before i a.earlier) c.of.ensures
+    in
+    let outputs_put : output_sets (set sides i put) ≡ set outputs_before i found.outputs =
+    map-set (λ (a : PlaceSides). a.outputs) sides i put ∙ ap (λ (a : PlaceSides). set outputs_before i a.outputs) c.of.ensures
+    in
+    let Earlier : List SideSet → Type 0 = λ l. AreEarlierBelow sys s (i + 1) l in
+    let Before : List SideSet → Type 0 = λ l. AreBeforeFrom sys s (i + 1) l in
+    let Outputs : List SideSet → Type 0 = λ l. AreOutputsBelow sys s (i + 1) l in
     let Inexact : Option (Site × ℕ) → Type 0 = λ first. FindsInexact sys s (i + 1) first in
     let Rival : Option (Site × TypeId) → Type 0 = λ first. FindsRival sys s (i + 1) first in
     record {
       within = omega (arith, within);
-      count = sets.0;
-      earlier = sets.1;
-      before = sets.2;
-      output_count = ap length c.push_reserved.ensures.items ∙ length-push output_sets found.outputs ∙ ap (λ j. j + 1) c.loop-index.invariant.output_count;
-      outputs =
-          subst Outputs (sym c.push_reserved.ensures.items)
-          (outputs_more sys s output_sets found.outputs c.loop-index.invariant.outputs (λ d. here d ∙ ap (λ j. is_output sys s j d) (sym c.loop-index.invariant.output_count)));
+      count = length-set sides i put ∙ c.loop-index.invariant.count;
+      earlier = subst Earlier (sym earlier_put) (earlier_set sys s earlier_before i p found.earlier c.get-place.ensures within_earlier c.loop-index.invariant.earlier earlier_is);
+      before = subst Before (sym earlier_put) (before_set sys s earlier_before i p found.earlier c.get-place.ensures within_earlier c.loop-index.invariant.before);
+      outputs = subst Outputs (sym outputs_put) (outputs_set sys s outputs_before i found.outputs within_outputs c.loop-index.invariant.outputs here);
       known = c.at-finding.ensures.known;
       inexact = elim c.if-index-seed_count.branch [
         | then-index-seed_count w ↦
@@ -150,19 +162,28 @@ pub returns-clause-earlier : goal.returns-clause-earlier
 returns-clause-earlier c =
     let whole : c.loop-index.index ≡ length c.args.seq.now = omega (arith, c.loop-index-test.false, c.len-index-end.ensures, c.loop-index.invariant.within) in
     record {
-      count = c.loop-index.invariant.count;
+      count = length-map c.loop-index.sides.items (λ (a : PlaceSides). a.earlier) ∙ c.loop-index.invariant.count;
       each = λ k p sides there found.
           c.loop-index.invariant.earlier k p sides (omega (arith, slice_get_within c.args.seq.now k p there, whole)) there found;
+    }
+
+pub returns-clause-outputs : goal.returns-clause-outputs
+returns-clause-outputs c =
+    let whole : c.loop-index.index ≡ length c.args.seq.now = omega (arith, c.loop-index-test.false, c.len-index-end.ensures, c.loop-index.invariant.within) in
+    let sets = output_sets c.loop-index.sides.items in
+    let count : length sets ≡ length c.args.seq.now = length-map c.loop-index.sides.items (λ (a : PlaceSides). a.outputs) ∙ c.loop-index.invariant.count in
+    record {
+      count = count;
+      each = λ k sides found d. c.loop-index.invariant.outputs k sides (omega (arith, slice_get_within sets k sides found, count, whole)) found d;
     }
 
 pub loop-index-init : goal.loop-index-init
 loop-index-init c = record {
   within = omega arith;
-  count = c.requires.before.count;
+  count = sym (length-map c.args.before.items (λ (a : PlaceSides). a.earlier)) ∙ c.requires.before.count;
   earlier = λ k p sides below there found. let never : ⊥ = omega (arith, below) in absurd never;
   before = λ k p sides later there found. c.requires.before.each k p sides there found;
-  output_count = search rules;
-  outputs = search rules;
+  outputs = λ k sides below found d. let never : ⊥ = omega (arith, below) in absurd never;
   known = search rules;
   inexact = search rules;
   rival = search rules;
