@@ -19,14 +19,15 @@ use tile_system::{NoMemory, System};
 /// Grows with so many workers, from what the seat has seen, each in a thread of its own but worker
 /// 0. The list has what each worker has won. The box is cut into bands of rows, of which every one
 /// in so many is a worker's own: it claims there first, and where nothing is left there it looks
-/// beside its bands at what others have placed. Each copies the grid, and ends when for a while none
-/// of them had anything to do; then their seats and grids are joined, and worker 0 goes on alone until the box is
-/// closed. One worker begins with that, and copies no grid. Where several types attach, worker w
-/// chooses by PCG's generator of state `choice` and stream w, which worker 0 makes anew when it
-/// goes on alone. With the choice 0 one worker claims the least site of those at which it has to
-/// look; with any other the generator says where in the box the next one is looked for, so that
-/// each of them may come first. A worker calls the gate once, before its first claim. No clause
-/// says more of either. Where memory is wanting the seats are dropped, and the table stays usable.
+/// beside its bands at what others have placed. Each copies the grid, and ends when none of them
+/// has anything to do; then their seats and grids are joined, and worker 0 goes on alone until the
+/// box is closed. One worker begins with that, and copies no grid. Where several types attach,
+/// worker w chooses by PCG's generator of state `choice` and stream w, which worker 0 makes anew
+/// when it goes on alone. With the choice 0 one worker claims the least site of those at which it
+/// has to look; with any other the generator says where in the box the next one is looked for, so
+/// that each of them may come first. A worker calls the gate once, before its first claim. No
+/// clause says more of either. Where memory is wanting the seats are dropped, and the table stays
+/// usable.
 pub fn grow_on<R: Threads + Sync, G: Gate>(
     rt: &R,
     alloc: Global,

@@ -59,7 +59,7 @@ pub(crate) fn work<G: Gate>(
     ensures seat { IfOk result (λ r. IsSeatOf table.now r.seat) }
 {
     gate.arrive(share.worker);
-    let mut scout = begin(alloc, sys, seat, seen, team)?;
+    let mut scout = begin(alloc, sys, seat, seen, share.worker, team)?;
     let mut picks = Picks::make(choice, share.worker);
     take_turns(sys, table, &mut scout, &mut picks, share, team);
     let won = scout.won();
@@ -73,6 +73,7 @@ fn begin(
     sys: &System,
     seat: SiteSeat,
     seen: &Grid,
+    worker: u32,
     team: &Team,
 ) -> Result<Scout, NoMemory>
     requires system { seat.sys ≡ sys.now }
@@ -81,9 +82,9 @@ fn begin(
     ensures { IfOk result (λ scout. scout ≡ record { seat = seat; grid = seen.now; won = 0 }) }
 {
     let made = scout_of(alloc, sys, seat, seen);
-    team.begin();
+    team.begin(worker);
     if made.is_err() {
-        team.rest();
+        team.leave(worker);
     }
     made
 }
@@ -122,15 +123,15 @@ fn take_turns(
     } else {
         FIRST_OF_OTHERS
     };
-    let mut is_over = burst(sys, table, scout, picks, share, most);
-    let mut waiting = Waiting::NONE;
+    let mut is_over = burst(sys, table, scout, picks, share, most, team);
+    let mut waiting = Waiting::of(share.worker);
     for _turn in 0..MOST_TURNS {
         if is_over || waiting.is_over {
             break;
         }
         is_over = take_turn(sys, table, scout, picks, share, &mut waiting, team);
     }
-    waiting.stop_work(team);
+    team.leave(share.worker);
 }
 
 // One turn. It tells whether the box is closed.
@@ -150,16 +151,18 @@ fn take_turn(
 {
     if scout.has_own() {
         waiting.go_on(team);
-        return burst(sys, table, scout, picks, share, BURST);
+        return burst(sys, table, scout, picks, share, BURST, team);
     }
+    let bursts = team.bursts();
     scout.see_edges(sys, table, share.worker, share.of);
     if !scout.has_own() {
-        waiting.wait(team);
+        waiting.wait(team, bursts);
     }
     false
 }
 
-// One burst. It picks the ledger, and tells whether the box is closed.
+// One burst, which the others are told of. It picks the ledger, and tells whether the box is
+// closed.
 fn burst(
     sys: &System,
     table: &SiteTable,
@@ -167,6 +170,7 @@ fn burst(
     picks: &mut Picks,
     share: Share,
     most: u32,
+    team: &Team,
 ) -> bool
     requires seat { IsSeatOf table.now scout.old.seat }
     requires system { table.now.sys ≡ sys.now }
@@ -174,6 +178,7 @@ fn burst(
     ensures { GrowsOn scout.old scout.new }
 {
     let ended = burst_counted::<Brand>(sys, table, scout, picks, share, most, Blank::new(1));
+    team.end_burst();
     match ended {
         Burst::Quiet => true,
         Burst::Spent => false,

@@ -1,112 +1,114 @@
 // What workers tell each other beside the table. It bears on time alone, so no contract says of it.
-use std::sync::atomic::{AtomicU64, Ordering};
+use std::sync::atomic::{AtomicU16, AtomicU64, Ordering};
 use std::{hint, thread};
 
-// A worker ends after so many turns in a row in which no worker had anything to do.
-const PATIENCE: u32 = 40;
-
-// And after so many in which none had while some have not begun: where no thread can be made they
-// begin after this one's end.
+// A worker ends after so many turns in a row with nothing to do while some have not begun: where no
+// thread can be made they begin after its end.
 const PATIENCE_AT_START: u32 = 1000;
 
 // Between two such turns it spins so often, and leaves the processor's core to a worker that has
 // something to do.
 const PAUSE: u32 = 40;
 
-// One that has begun, in the high half of the counts. One that has nothing to do is 1 in the low
-// half.
-const BEGINNING: u64 = 1 << 32;
-
-// How many workers there are, how many have begun, and how many of these have nothing to do.
+// Sets of workers, with a bit for each, and how many bursts all have done.
 #[derive(Drop)]
 pub(crate) struct Team {
-    size: u32,
-    counts: AtomicU64,
+    all: u16,
+    begun: AtomicU16,
+    // Those that have ended.
+    gone: AtomicU16,
+    // Those that have looked since the last burst, and found nothing to do.
+    settled: AtomicU16,
+    bursts: AtomicU64,
 }
 
 impl Team {
     // So many workers, of which none has begun.
     pub(crate) fn of(size: u32) -> Team {
+        let mut all = 0;
+        for worker in 0..size {
+            all = all | bit_of(worker);
+        }
         Team {
-            size,
-            counts: AtomicU64::new(0),
+            all,
+            begun: AtomicU16::new(0),
+            gone: AtomicU16::new(0),
+            settled: AtomicU16::new(0),
+            bursts: AtomicU64::new(0),
         }
     }
 
-    // A worker begins with something to do.
-    pub(crate) fn begin(&self) {
-        self.counts.fetch_add(BEGINNING, Ordering::SeqCst);
+    pub(crate) fn begin(&self, worker: u32) {
+        self.begun.fetch_or(bit_of(worker), Ordering::SeqCst);
     }
 
-    // A worker has nothing to do any more.
-    pub(crate) fn rest(&self) {
-        self.counts.fetch_add(1, Ordering::SeqCst);
+    pub(crate) fn leave(&self, worker: u32) {
+        self.gone.fetch_or(bit_of(worker), Ordering::SeqCst);
     }
 
-    // It has something again.
-    fn resume(&self) {
-        self.counts.fetch_sub(1, Ordering::SeqCst);
+    // A burst is done, so the others have to look again.
+    pub(crate) fn end_burst(&self) {
+        self.bursts.fetch_add(1, Ordering::SeqCst);
+        self.settled.store(0, Ordering::SeqCst);
     }
 
-    // For how many turns a worker is to wait that nobody has anything to do, or none where one has.
-    fn patience(&self) -> Option<u32> {
-        let counts = self.counts.load(Ordering::SeqCst);
-        let begun = counts / BEGINNING;
-        if counts % BEGINNING < begun {
-            return None;
-        }
-        if begun < u64::from(self.size) {
-            return Some(PATIENCE_AT_START);
-        }
-        Some(PATIENCE)
+    pub(crate) fn bursts(&self) -> u64 {
+        self.bursts.load(Ordering::SeqCst)
+    }
+
+    // Whether none of those that have begun has anything to do.
+    fn rests(&self) -> bool {
+        let begun = self.begun.load(Ordering::SeqCst);
+        let gone = self.gone.load(Ordering::SeqCst);
+        let settled = self.settled.load(Ordering::SeqCst);
+        begun == settled | gone
+    }
+
+    fn has_begun(&self) -> bool {
+        self.begun.load(Ordering::SeqCst) == self.all
     }
 }
 
-// One worker's waiting: whether it rests, for how many turns in a row nobody had anything to do,
-// and whether these are enough.
+// The waiting of one worker: for how many turns in a row it had nothing to do, and whether it has
+// waited enough.
 #[derive(Drop)]
 pub(crate) struct Waiting {
-    rests: bool,
+    worker: u32,
     turns: u32,
     pub(crate) is_over: bool,
 }
 
 impl Waiting {
-    // It has something to do.
-    pub(crate) const NONE: Waiting = Waiting {
-        rests: false,
-        turns: 0,
-        is_over: false,
-    };
-
-    // One turn with nothing to do, and a pause.
-    pub(crate) fn wait(&mut self, team: &Team) {
-        self.stop_work(team);
-        self.turns = self.turns.saturating_add(1);
-        match team.patience() {
-            Some(most) => self.is_over = self.turns >= most,
-            None => self.turns = 0,
+    pub(crate) fn of(worker: u32) -> Waiting {
+        Waiting {
+            worker,
+            turns: 0,
+            is_over: false,
         }
+    }
+
+    // There is something to do.
+    pub(crate) fn go_on(&mut self, team: &Team) {
+        team.settled
+            .fetch_and(!bit_of(self.worker), Ordering::SeqCst);
+        self.turns = 0;
+    }
+
+    // One turn in which nothing was found, when all had done so many bursts before, and a pause.
+    pub(crate) fn wait(&mut self, team: &Team, bursts: u64) {
+        if team.bursts() == bursts {
+            team.settled.fetch_or(bit_of(self.worker), Ordering::SeqCst);
+        }
+        self.turns = self.turns.saturating_add(1);
+        self.is_over = team.rests() && (team.has_begun() || self.turns >= PATIENCE_AT_START);
         for _ in 0..PAUSE {
             hint::spin_loop();
         }
         thread::yield_now();
     }
+}
 
-    // Nothing is left to do.
-    pub(crate) fn stop_work(&mut self, team: &Team) {
-        if !self.rests {
-            team.rest();
-            self.rests = true;
-        }
-    }
-
-    // There is something to do again.
-    pub(crate) fn go_on(&mut self, team: &Team) {
-        if self.rests {
-            team.resume();
-            self.rests = false;
-        }
-        self.turns = 0;
-    }
+// There are at most 16 workers.
+fn bit_of(worker: u32) -> u16 {
+    1 << (worker % 16)
 }
