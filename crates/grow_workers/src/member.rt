@@ -67,7 +67,7 @@ pub(crate) fn work<G: Gate>(
     Ok(Part { seat, grid, won })
 }
 
-// A worker's scout. That it has begun is counted, and so is that it can't.
+// A worker's scout. The others are told that it has begun, and where it can't that it has ended.
 fn begin(
     alloc: Global,
     sys: &System,
@@ -103,7 +103,7 @@ fn scout_of(alloc: Global, sys: &System, seat: SiteSeat, seen: &Grid) -> Result<
     }
 }
 
-// The first burst, and turns until there has long been nothing to do.
+// The first burst, and turns until no worker has anything to do.
 #[tactic(auto, using(frontier_seat::proofs::Looked::goes_further))]
 fn take_turns(
     sys: &System,
