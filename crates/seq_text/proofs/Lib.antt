@@ -2,6 +2,7 @@ pub mod Fields
 pub mod Fitting
 pub mod Growths
 pub mod HeldLines
+pub mod LineEnds
 pub mod Printed
 pub mod Scratch
 pub mod PlainLines

@@ -6,6 +6,8 @@ mod closed;
 mod kind;
 mod laws;
 mod legality;
+mod line_ends;
+mod number_texts;
 mod places;
 mod plain;
 mod reader;

@@ -5,6 +5,8 @@ ghost use Rattle.tile_io.specs.Prints.{Prints};
 ghost use Rattle.tile_io.specs.Chunks.{PassesOn};
 ghost use Rattle.seq_text.specs.GrowthLines.{place_line, place_lines};
 
+use crate::line_ends::LineEnds;
+use crate::number_texts::NumberTexts;
 use assembly::Sequence;
 use tile_io::{Chunk, Failed, Sink};
 use tile_system::{Place, System};
@@ -19,25 +21,28 @@ pub fn print_places<K: Sink>(sys: &System, places: &Sequence, sink: &mut K) -> R
 {
     // a system is valid
     let _tau = sys.tau();
+    let ends = LineEnds::new(sys);
+    let mut numbers = NumberTexts::new();
     let mut chunk = Chunk::new();
-    put_places(sys, places, &mut chunk, sink)?;
+    put_places(places, &ends, &mut numbers, &mut chunk, sink)?;
     chunk.flush(sink)
 }
 
 // Adds the lines to what is held.
 fn put_places<K: Sink>(
-    sys: &System,
     places: &Sequence,
+    ends: &LineEnds,
+    numbers: &mut NumberTexts,
     chunk: &mut Chunk,
     sink: &mut K,
 ) -> Result<(), Failed>
-    requires valid { IsValid sys.now }
-    requires known { All (λ p. IsType sys.now p.tile) places.now }
+    requires valid { IsValid ends.now }
+    requires known { All (λ p. IsType ends.now p.tile) places.now }
     ensures { PassesOn K.written K.faults sink.old sink.new chunk.old chunk.new result
-        (place_lines sys.now places.now) }
+        (place_lines ends.now places.now) }
 {
     for index in 0..places.len() {
-        put_place(sys, places.get(index), chunk, sink)?;
+        put_place(places.get(index), ends, numbers, chunk, sink)?;
     }
     Ok(())
 }
@@ -45,24 +50,21 @@ fn put_places<K: Sink>(
 // Adds the line of one tile.
 #[inline(always)]
 fn put_place<K: Sink>(
-    sys: &System,
     place: Place,
+    ends: &LineEnds,
+    numbers: &mut NumberTexts,
     chunk: &mut Chunk,
     sink: &mut K,
 ) -> Result<(), Failed>
-    requires valid { IsValid sys.now }
-    requires known { IsType sys.now place.tile }
+    requires valid { IsValid ends.now }
+    requires known { IsType ends.now place.tile }
     ensures { PassesOn K.written K.faults sink.old sink.new chunk.old chunk.new result
-        (place_line sys.now place) }
+        (place_line ends.now place) }
 {
-    let name = sys.type_name(place.tile);
     chunk.make_room(sink, LONGEST_PLACE_LINE)?;
-    chunk.hold(b"place ");
-    chunk.hold_number(place.site.x);
-    chunk.hold(b" ");
-    chunk.hold_number(place.site.y);
-    chunk.hold(b" ");
-    chunk.hold(name);
-    chunk.hold(b"\n");
+    chunk.hold_front(b"place   ", 6);
+    numbers.hold(place.site.x, chunk);
+    numbers.hold(place.site.y, chunk);
+    ends.hold(place.tile, chunk);
     Ok(())
 }

@@ -1,12 +1,10 @@
 // Bytes held back in front of a sink, so that they go out in large pieces.
 ghost use Rattle.std.specs.Prelude.{◌≡◌, ◌≤◌, ◌+◌, [], ◌∷◌, ◌++◌, List, ℕ, length, take, map, flat_map, OnOk};
-ghost use Rattle.std.specs.Fmt.{decimal, signed_decimal};
 ghost use Rattle.tile_io.specs.Chunks.{PassesOn};
 ghost use Rattle.tile_io.specs.Lines.{line_of};
 ghost use Rattle.tile_io.specs.Prints.{Prints};
 
 use crate::{Failed, Sink, write_all};
-use itoa::write_digits;
 use std::marker::Model;
 
 /// How many bytes are held back at most.
@@ -87,29 +85,19 @@ impl Chunk {
         self.len = end;
     }
 
-    /// Adds a number, where there is room for the longest.
+    /// Adds the front of a text. All of the text is copied, which takes no call.
     #[inline(always)]
-    pub fn hold_number(&mut self, number: i32)
-        requires { length self.old + 11 ≤ CHUNK_ROOM }
-        ensures bytes { self.new ≡ self.old ++ signed_decimal number }
-        ensures len { length self.new ≤ length self.old + 11 }
+    pub fn hold_front<const N: usize>(&mut self, text: &[u8; N], len: usize)
+        requires within { len ≤ N }
+        requires room { length self.old + N ≤ CHUNK_ROOM }
+        ensures bytes { self.new ≡ self.old ++ take len text.now }
+        ensures len { length self.new ≡ length self.old + len }
     {
-        if number < 0 {
-            self.hold(b"-");
-        }
-        self.hold_digits(number.unsigned_abs());
-    }
-
-    // Adds the digits of a number that isn't negative.
-    #[inline(always)]
-    fn hold_digits(&mut self, number: u32)
-        requires { length self.old + 10 ≤ CHUNK_ROOM }
-        ensures bytes { self.new ≡ self.old ++ decimal number }
-        ensures len { length self.new ≤ length self.old + 10 }
-    {
-        let end = self.len + digit_count(number);
-        write_digits(u64::from(number), &mut self.bytes, end);
-        self.len = end;
+        // what stands in no other memory is copied by moves of words alone
+        let copied = *text;
+        let start = self.len;
+        self.bytes[start..start + N].copy_from_slice(&copied);
+        self.len = start + len;
     }
 
     /// Writes what is held, and holds nothing then, also where a write fails.
@@ -172,24 +160,4 @@ pub fn print_line<K: Sink>(sink: &mut K, first: &[u8], rest: &[&[u8]]) -> Result
     let mut chunk = Chunk::new();
     chunk.put_line(sink, first, rest)?;
     chunk.flush(sink)
-}
-
-// The number of digits that write a number.
-#[inline(always)]
-fn digit_count(number: u32) -> usize
-    ensures count { result ≡ length (decimal number) }
-    ensures bound { result ≤ 10 }
-{
-    match number {
-        0..=9 => 1,
-        10..=99 => 2,
-        100..=999 => 3,
-        1_000..=9_999 => 4,
-        10_000..=99_999 => 5,
-        100_000..=999_999 => 6,
-        1_000_000..=9_999_999 => 7,
-        10_000_000..=99_999_999 => 8,
-        100_000_000..=999_999_999 => 9,
-        _ => 10,
-    }
 }

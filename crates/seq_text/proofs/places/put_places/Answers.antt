@@ -7,7 +7,7 @@ use Rattle.seq_text.proofs.places.put_places.Goals as goal
 
 pub returns-in_err-put_place : goal.returns-in_err-put_place
 returns-in_err-put_place g c =
-    let line = place_line c.args.sys.now in
+    let line = place_line c.args.ends.now in
     let places = c.args.places.now in
     let p = err_from_is_err_and c.from_residual.result c.from_residual.ensures.1 in
     let within : c.loop-index.index < length places = omega (arith, c.loop-index-test.true, c.len-index-end.ensures) in
@@ -16,7 +16,7 @@ returns-in_err-put_place g c =
 
 pub loop-index-preserved : goal.loop-index-preserved
 loop-index-preserved g c =
-    let line = place_line c.args.sys.now in
+    let line = place_line c.args.ends.now in
     let places = c.args.places.now in
     let within : c.loop-index.index < length places = omega (arith, c.loop-index-test.true, c.len-index-end.ensures) in
     let there = ap line (sym (get_or_from_slice_get places c.loop-index.index c.get.result c.get.result c.get.ensures)) in

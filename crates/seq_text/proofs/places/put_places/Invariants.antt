@@ -8,4 +8,4 @@ use Rattle.seq_text.proofs.places.put_places.Given as goal
 abbrev pub invariant-loop-index : goal.invariant-loop-index
 invariant-loop-index g l =
     PassesOn {T = Unit {0}} {E = Failed} g.K.Sink.written g.K.Sink.faults l.initial.sink l.sink l.initial.chunk l.chunk (Ok tt)
-    (place_lines l.sys (take l.index l.places))
+    (place_lines l.ends (take l.index l.places))
