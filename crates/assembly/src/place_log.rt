@@ -1,4 +1,4 @@
-// The seeds, and the tiles that came after them, in order.
+// Places in order, in memory that was taken before they come.
 ghost use Rattle.std.specs.Prelude.{◌≡◌, ◌<◌, ◌≤◌, ◌+◌, [], ◌∷◌, ◌++◌, length, IfOk};
 ghost use Rattle.atam.specs.declared.limits.TheConstants.{MOST_TYPES};
 ghost use Rattle.atam.specs.Sites.{IsNearSite};
@@ -10,7 +10,8 @@ use std::alloc::Global;
 use std::marker::Model;
 use tile_system::{NoMemory, Place, System};
 
-/// The seeds, and the tiles that came after them, in their order: eight bytes a site of the box.
+/// Places near the middle of the plane in their order, with room for a number of them that is known
+/// before they come: eight bytes each.
 #[derive(Drop)]
 pub struct PlaceLog {
     places: PackedPlaces,
@@ -25,6 +26,16 @@ impl Model for PlaceLog {
 }
 
 impl PlaceLog {
+    /// No place, with room for so many.
+    pub fn with_room(alloc: Global, count: usize) -> Result<PlaceLog, NoMemory>
+        ensures empty { IfOk result (λ log. log.places ≡ []) }
+        ensures room { IfOk result (λ log. count ≤ log.room) }
+    {
+        let mut places = PackedPlaces::make(alloc);
+        places.reserve(count)?;
+        Ok(PlaceLog { places })
+    }
+
     /// The seeds alone, with room for a tile more at each site of the box.
     pub fn make(alloc: Global, sys: &System) -> Result<PlaceLog, NoMemory>
         ensures seeds { IfOk result (λ log. log.places ≡ sys.now.seeds) }
@@ -41,7 +52,7 @@ impl PlaceLog {
         Ok(PlaceLog { places })
     }
 
-    /// One tile more.
+    /// One place more.
     #[inline(always)]
     pub fn push(&mut self, place: Place)
         requires near { IsNearSite place.site }
@@ -53,7 +64,7 @@ impl PlaceLog {
         self.places.push_near(place);
     }
 
-    /// The tiles as a sequence.
+    /// The places as a sequence.
     pub fn into_sequence(self) -> Sequence
         ensures { result ≡ self.places }
     {

@@ -87,12 +87,4 @@ impl Sequence {
         }
         true
     }
-
-    /// Takes memory for so many more places at once, so that they aren't moved as they come.
-    pub fn reserve(&mut self, count: usize) -> Result<(), NoMemory>
-        ensures ok { OnOk result (self.new ≡ self.old) }
-        ensures unchanged { OnErr result (self.new ≡ self.old) }
-    {
-        self.places.reserve(count)
-    }
 }

@@ -101,6 +101,10 @@ module _ (sys : TileSystem) (tiles s : List Place) (begun : BeginsCanonical sys 
 pub seeds_part : (sys : TileSystem) (tiles : List Place) → HoldsSeeds sys tiles → IsPartOf sys.seeds tiles
 seeds_part sys tiles held p seed = tile_at-Contains tiles p.site p.tile (All-contains (λ q. tile_at tiles q.site ≡ Some q.tile) sys.seeds p held seed)
 
+-- and there are no more of them than tiles
+pub few_seeds : (sys : TileSystem) (tiles : List Place) → HasDistinctSites sys.seeds → HasDistinctSites tiles → HoldsSeeds sys tiles → length sys.seeds ≤ length tiles
+few_seeds sys tiles seeds_distinct distinct held = count_in_part sys.seeds tiles seeds_distinct distinct (seeds_part sys tiles held)
+
 -- a producible assembly lacks no seed
 pub lacks_no_seed : (sys : TileSystem) (tiles : List Place) → HasDistinctSites sys.seeds → HasDistinctSites tiles → IsProducible sys tiles → LacksSeed sys tiles → ⊥
 lacks_no_seed sys tiles seeds_distinct distinct producible lacks =

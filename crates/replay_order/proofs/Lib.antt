@@ -1,3 +1,4 @@
+pub mod SideGlues
 pub mod Pulls
 pub mod Dues
 pub mod Lowerings

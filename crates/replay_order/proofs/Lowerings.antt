@@ -70,6 +70,13 @@ module _ (area : BoxArea) (sys : TileSystem) (tiles : List Place) (p : Place) (d
       | inr differ ↦ inl (given_to-other sys tiles p d (site_at area i) (apart i differ.1))
     ])
 
+    -- nothing is given where the tiles have no bond
+    pub lowers_unbound : bond sys tiles p.site p.tile d ≡ 0 → Lowers area (given_to sys tiles p d) old old
+    lowers_unbound none = lowers_nothing (λ i below. elim (eqb_tells i number) [
+      | inl same ↦ inl (given_to-here sys tiles p d (site_at area i) (sym there ∙ ap (site_at area) (sym same.1)) ∙ none)
+      | inr differ ↦ inl (given_to-other sys tiles p d (site_at area i) (apart i differ.1))
+    ])
+
     -- a number is written
     pub lowers_one : (new : Waiting) (left : ℕ) → new.area ≡ area → number < length old.lacks → 0 < get_or old.lacks number 0 →
         left ≡ get_or old.lacks number 0 - bond sys tiles p.site p.tile d → new.lacks ≡ set old.lacks number left →

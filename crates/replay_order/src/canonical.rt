@@ -1,5 +1,5 @@
 // The canonical order of an assembly.
-ghost use Rattle.std.specs.Prelude.{◌≡◌, ◌≢◌, ◌↔◌, ◌≤◌, IsOk, ◌∷◌, ◌++◌, [], Some, None, IfOk, OnOk};
+ghost use Rattle.std.specs.Prelude.{◌≡◌, ◌≢◌, ◌↔◌, ◌<◌, ◌≤◌, IsOk, ◌∷◌, ◌++◌, [], length, Some, None, IfOk};
 ghost use Rattle.std.specs.Bool.{OnTrue, OnFalse};
 ghost use Rattle.atam.specs.Placements.{HasDistinctSites, tile_at};
 ghost use Rattle.atam.specs.TileSystem.{IsValid};
@@ -10,17 +10,18 @@ ghost use Rattle.assembly.specs.Cells.{IsSiteNumber};
 ghost use Rattle.replay_order.specs.Inner.Replays.{due_at, AreLacks, AreReadySites, AreReadySitesBut};
 ghost use Rattle.replay_order.specs.ReplayAnswers.{HoldsSeeds, LacksSeed, IsReplayAnswer};
 
+use crate::bonds::Bonds;
 use crate::rest::least_left;
 use crate::stop::ReplayStop;
 use crate::waiting::WaitingSites;
-use assembly::{Grid, Row, Sequence, site_index};
+use assembly::{Grid, PlaceLog, Row, Sequence, site_index};
 use std::alloc::Global;
 use tile_system::{NoMemory, Place, Placed, System};
 
 /// The canonical sequence of a producible grid: the seeds, and then at each step the place with
 /// the least site that the places so far hold. It is legal, and has exactly the grid's placements.
-/// It takes memory for the sequence, and some two bytes for each site of the box. Its time grows
-/// with the number of tiles, and with the number of sites of the box.
+/// It takes memory for the sequence, some two bytes for each site of the box, and sixteen for each
+/// type. Its time grows with the number of tiles, of sites of the box, and of types.
 pub fn replay(alloc: Global, sys: &System, grid: &Grid) -> Result<Sequence, ReplayStop>
     requires area { grid.now.area ≡ sys.now.area }
     requires fits { Fits sys.now grid.now.tiles }
@@ -35,9 +36,9 @@ pub fn replay(alloc: Global, sys: &System, grid: &Grid) -> Result<Sequence, Repl
         return Err(ReplayStop::NoSeedThere);
     }
     let tiles = grid.count();
-    let mut order = Sequence::make(alloc);
-    order.reserve(tiles as usize)?;
-    let waiting = list_all(alloc, sys, grid, &mut order)?;
+    let mut log = PlaceLog::with_room(alloc, tiles as usize)?;
+    let waiting = list_all(alloc, sys, grid, &mut log)?;
+    let order = log.into_sequence();
     let left = tiles - order.len() as u32;
     if left == 0 {
         return Ok(order);
@@ -62,102 +63,94 @@ fn list_all(
     alloc: Global,
     sys: &System,
     grid: &Grid,
-    order: &mut Sequence,
+    log: &mut PlaceLog,
 ) -> Result<WaitingSites, NoMemory>
     requires area { grid.now.area ≡ sys.now.area }
     requires fits { Fits sys.now grid.now.tiles }
     requires seeded { HoldsSeeds sys.now grid.now.tiles }
-    requires unlisted { order.old ≡ [] }
-    ensures canonical { IfOk result (λ _. IsCanonical sys.now grid.now.tiles order.new) }
-    ensures lacks { IfOk result (AreLacks sys.now grid.now.tiles order.new) }
+    requires unlisted { log.old.places ≡ [] }
+    requires room { length grid.now.tiles ≤ log.old.room }
+    ensures canonical { IfOk result (λ _. IsCanonical sys.now grid.now.tiles log.new.places) }
+    ensures lacks { IfOk result (AreLacks sys.now grid.now.tiles log.new.places) }
 {
+    let bonds = Bonds::make(alloc, sys)?;
     let mut waiting = WaitingSites::make(alloc, grid.area(), sys.tau(), sys.seeds())?;
-    list_seeds(sys, grid, order, &mut waiting)?;
-    list_ready(sys, grid, order, &mut waiting)?;
+    list_seeds(&bonds, grid, log, &mut waiting);
+    list_ready(&bonds, grid, log, &mut waiting);
     Ok(waiting)
 }
 
 // Lists the seeds, and adds the sites that are ready then.
-fn list_seeds(
-    sys: &System,
-    grid: &Grid,
-    order: &mut Sequence,
-    waiting: &mut WaitingSites,
-) -> Result<(), NoMemory>
-    requires valid { IsValid sys.now }
-    requires area { grid.now.area ≡ sys.now.area }
-    requires fits { Fits sys.now grid.now.tiles }
-    requires seeded { HoldsSeeds sys.now grid.now.tiles }
-    requires unlisted { order.old ≡ [] }
-    requires lacks { AreLacks sys.now grid.now.tiles order.old waiting.old }
-    requires ready { AreReadySites sys.now grid.now.tiles order.old waiting.old.ready }
-    ensures listed { OnOk result (order.new ≡ sys.now.seeds) }
-    ensures lacks { OnOk result (AreLacks sys.now grid.now.tiles order.new waiting.new) }
-    ensures ready { OnOk result
-        (AreReadySites sys.now grid.now.tiles order.new waiting.new.ready) }
+fn list_seeds(bonds: &Bonds, grid: &Grid, log: &mut PlaceLog, waiting: &mut WaitingSites)
+    requires valid { IsValid bonds.now }
+    requires area { grid.now.area ≡ bonds.now.area }
+    requires fits { Fits bonds.now grid.now.tiles }
+    requires seeded { HoldsSeeds bonds.now grid.now.tiles }
+    requires unlisted { log.old.places ≡ [] }
+    requires room { length grid.now.tiles ≤ log.old.room }
+    requires lacks { AreLacks bonds.now grid.now.tiles log.old.places waiting.old }
+    requires ready { AreReadySites bonds.now grid.now.tiles log.old.places waiting.old.ready }
+    ensures listed { log.new.places ≡ bonds.now.seeds }
+    ensures room { length grid.now.tiles ≤ log.new.room }
+    ensures lacks { AreLacks bonds.now grid.now.tiles log.new.places waiting.new }
+    ensures ready { AreReadySites bonds.now grid.now.tiles log.new.places waiting.new.ready }
 {
     let area = grid.area();
-    for seed in sys.seeds() {
+    for seed in bonds.system().seeds() {
         let number = site_index(&area, seed.site);
-        list_place(sys, grid, order, waiting, *seed, number)?;
+        list_place(bonds, grid, log, waiting, *seed, number);
     }
-    Ok(())
 }
 
 // Lists the ready place with the least site as long as there is one.
-fn list_ready(
-    sys: &System,
-    grid: &Grid,
-    order: &mut Sequence,
-    waiting: &mut WaitingSites,
-) -> Result<(), NoMemory>
-    requires valid { IsValid sys.now }
-    requires area { grid.now.area ≡ sys.now.area }
-    requires fits { Fits sys.now grid.now.tiles }
+fn list_ready(bonds: &Bonds, grid: &Grid, log: &mut PlaceLog, waiting: &mut WaitingSites)
+    requires valid { IsValid bonds.now }
+    requires area { grid.now.area ≡ bonds.now.area }
+    requires fits { Fits bonds.now grid.now.tiles }
     requires distinct { HasDistinctSites grid.now.tiles }
-    requires begun { BeginsCanonical sys.now grid.now.tiles order.old }
-    requires lacks { AreLacks sys.now grid.now.tiles order.old waiting.old }
-    requires ready { AreReadySites sys.now grid.now.tiles order.old waiting.old.ready }
-    ensures canonical { OnOk result (IsCanonical sys.now grid.now.tiles order.new) }
-    ensures lacks { OnOk result (AreLacks sys.now grid.now.tiles order.new waiting.new) }
+    requires begun { BeginsCanonical bonds.now grid.now.tiles log.old.places }
+    requires room { length grid.now.tiles ≤ log.old.room }
+    requires lacks { AreLacks bonds.now grid.now.tiles log.old.places waiting.old }
+    requires ready { AreReadySites bonds.now grid.now.tiles log.old.places waiting.old.ready }
+    ensures canonical { IsCanonical bonds.now grid.now.tiles log.new.places }
+    ensures lacks { AreLacks bonds.now grid.now.tiles log.new.places waiting.new }
 {
     let area = grid.area();
     let mut row = Row::least(&area);
     while let Some(number) = waiting.take_least() {
         let site = row.site(&area, number);
         let tile = grid.tile(number).unwrap();
-        list_place(sys, grid, order, waiting, Place { site, tile }, number)?;
+        list_place(bonds, grid, log, waiting, Place { site, tile }, number);
     }
-    Ok(())
 }
 
 // Lists a place of the grid, and adds the sites that become ready.
 #[inline(always)]
 fn list_place(
-    sys: &System,
+    bonds: &Bonds,
     grid: &Grid,
-    order: &mut Sequence,
+    log: &mut PlaceLog,
     waiting: &mut WaitingSites,
     place: Place,
     number: usize,
-) -> Result<(), NoMemory>
-    requires valid { IsValid sys.now }
-    requires area { grid.now.area ≡ sys.now.area }
-    requires fits { Fits sys.now grid.now.tiles }
-    requires number { IsSiteNumber sys.now.area place.site number }
+)
+    requires valid { IsValid bonds.now }
+    requires area { grid.now.area ≡ bonds.now.area }
+    requires fits { Fits bonds.now grid.now.tiles }
+    requires number { IsSiteNumber bonds.now.area place.site number }
     requires placed { tile_at grid.now.tiles place.site ≡ Some place.tile }
-    requires empty { tile_at order.old place.site ≡ None }
-    requires held { due_at sys.now.seeds sys.now.tau place.site ≤
-        pull sys.now order.old place.site place.tile }
-    requires lacks { AreLacks sys.now grid.now.tiles order.old waiting.old }
-    requires ready { AreReadySitesBut sys.now grid.now.tiles
-        order.old waiting.old.ready place.site }
-    ensures listed { OnOk result (order.new ≡ order.old ++ place ∷ []) }
-    ensures lacks { OnOk result (AreLacks sys.now grid.now.tiles order.new waiting.new) }
-    ensures ready { OnOk result
-        (AreReadySites sys.now grid.now.tiles order.new waiting.new.ready) }
+    requires empty { tile_at log.old.places place.site ≡ None }
+    requires room { length log.old.places < log.old.room }
+    requires held { due_at bonds.now.seeds bonds.now.tau place.site ≤
+        pull bonds.now log.old.places place.site place.tile }
+    requires lacks { AreLacks bonds.now grid.now.tiles log.old.places waiting.old }
+    requires ready { AreReadySitesBut bonds.now grid.now.tiles
+        log.old.places waiting.old.ready place.site }
+    ensures listed { log.new.places ≡ log.old.places ++ place ∷ [] }
+    ensures room { log.new.room ≡ log.old.room }
+    ensures lacks { AreLacks bonds.now grid.now.tiles log.new.places waiting.new }
+    ensures ready { AreReadySites bonds.now grid.now.tiles log.new.places waiting.new.ready }
 {
-    order.push(place)?;
-    waiting.lower_beside(sys, grid, place, number);
-    Ok(())
+    log.push(place);
+    waiting.lower_beside(bonds, grid, place, number);
 }

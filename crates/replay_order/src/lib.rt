@@ -1,6 +1,7 @@
 //! The canonical order of an assembly, and the legality of a given order.
 #![tactic(auto)]
 
+mod bonds;
 mod canonical;
 mod legal;
 mod ready;

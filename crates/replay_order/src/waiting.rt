@@ -9,12 +9,12 @@ ghost use Rattle.atam.specs.Assembly.{Fits};
 ghost use Rattle.replay_order.specs.Inner.ReadyNumbers.{IsAmong};
 ghost use Rattle.replay_order.specs.Inner.Replays.{due_at, given_to, given_beside, Lowers, TakesLeast};
 
+use crate::bonds::Bonds;
 use crate::ready::ReadyNumbers;
 use assembly::{Grid, number_beside, site_index};
-use attach_rule::bond_with;
 use std::alloc::Global;
 use std::marker::Model;
-use tile_system::{BoxArea, NoMemory, Place, Side, System};
+use tile_system::{BoxArea, NoMemory, Place, Side};
 
 // How much pull the tile at each site lacks to be held, and the sites that are ready. A site is
 // ready once, when its tile lacks nothing any more. Each call but `make` takes no memory.
@@ -63,32 +63,32 @@ impl WaitingSites {
 
     // Gives each tile beside a listed one the strength that it has with this.
     #[inline(always)]
-    pub(crate) fn lower_beside(&mut self, sys: &System, grid: &Grid, place: Place, number: usize)
+    pub(crate) fn lower_beside(&mut self, bonds: &Bonds, grid: &Grid, place: Place, number: usize)
         requires area { grid.now.area ≡ self.old.area }
         requires inside { InBox self.old.area place.site }
         requires within { number < cell_count self.old.area }
         requires number { site_at self.old.area number ≡ place.site }
-        requires kind { IsType sys.now place.tile }
-        requires fits { Fits sys.now grid.now.tiles }
-        ensures { Lowers self.old.area (given_beside sys.now grid.now.tiles place)
+        requires kind { IsType bonds.now place.tile }
+        requires fits { Fits bonds.now grid.now.tiles }
+        ensures { Lowers self.old.area (given_beside bonds.now grid.now.tiles place)
             self.old self.new }
     {
-        self.lower(sys, grid, place, number, Side::North);
-        self.lower(sys, grid, place, number, Side::East);
-        self.lower(sys, grid, place, number, Side::South);
-        self.lower(sys, grid, place, number, Side::West);
+        self.lower(bonds, grid, place, number, Side::North);
+        self.lower(bonds, grid, place, number, Side::East);
+        self.lower(bonds, grid, place, number, Side::South);
+        self.lower(bonds, grid, place, number, Side::West);
     }
 
     // The same for the tile on one side of it, by the number of its site.
     #[inline(always)]
-    fn lower(&mut self, sys: &System, grid: &Grid, place: Place, number: usize, side: Side)
+    fn lower(&mut self, bonds: &Bonds, grid: &Grid, place: Place, number: usize, side: Side)
         requires area { grid.now.area ≡ self.old.area }
         requires inside { InBox self.old.area place.site }
         requires within { number < cell_count self.old.area }
         requires number { site_at self.old.area number ≡ place.site }
-        requires kind { IsType sys.now place.tile }
-        requires fits { Fits sys.now grid.now.tiles }
-        ensures { Lowers self.old.area (given_to sys.now grid.now.tiles place side)
+        requires kind { IsType bonds.now place.tile }
+        requires fits { Fits bonds.now grid.now.tiles }
+        ensures { Lowers self.old.area (given_to bonds.now grid.now.tiles place side)
             self.old self.new }
     {
         let Some(beside) = number_beside(&self.area, place.site, number, side) else {
@@ -98,12 +98,16 @@ impl WaitingSites {
         if lack == 0 {
             return;
         }
-        let strength = bond_with(sys, place.tile, side, grid.tile(beside));
-        let left = lack.saturating_sub(strength as u16);
-        self.lacks[beside] = left;
-        if left == 0 {
-            self.ready.insert(beside);
+        let Some(tile) = grid.tile(beside) else {
+            return;
+        };
+        let strength = bonds.between(place.tile, side, tile);
+        if strength < lack {
+            self.lacks[beside] = lack - strength;
+            return;
         }
+        self.lacks[beside] = 0;
+        self.ready.insert(beside);
     }
 
     // Takes the least ready site out.

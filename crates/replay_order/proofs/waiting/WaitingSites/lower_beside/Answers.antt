@@ -8,7 +8,7 @@ use Rattle.replay_order.proofs.waiting.WaitingSites.lower_beside.Goals as goal
 
 pub returns : goal.returns
 returns c =
-    let sys = c.args.sys.now in
+    let sys = c.args.bonds.now in
     let tiles = c.args.grid.now.tiles in
     let p = c.args.place in
     let a = c.args.self.now in
