@@ -29,8 +29,8 @@ use tile_system::System;
 // More claims than a box has sites.
 const MOST_CLAIMS: u32 = u32::MAX;
 
-/// A seat with the grid of what it has seen, an index of types, and room to work: with the grid, two
-/// bytes and an eighth a site, and four KiB for each 32 rows.
+/// A seat with the grid of what it has seen, an index of types, and room to work: with the grid,
+/// two bytes and an eighth a site.
 #[derive(Drop)]
 pub struct Scout {
     growing: Growing,

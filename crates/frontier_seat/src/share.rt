@@ -1,66 +1,111 @@
 // The part of a work list that a worker looks at first.
-ghost use Rattle.std.specs.Prelude.{◌≡◌, ◌<◌, ◌≤◌, ◌+◌, ◌*◌, ◌/◌, ℕ, IfOk, IfSome};
+ghost use Rattle.std.specs.Prelude.{◌<◌, IfSome};
+ghost use Rattle.atam.specs.Sites.{IsBox};
 ghost use Rattle.number_set.specs.Numbers.{IsIn};
 
 use number_set::NumberSet;
-use std::alloc::Global;
-use std::marker::Model;
-use tile_system::NoMemory;
+use tile_system::BoxArea;
 
-// The rows of a band, the columns of a block of it, and the blocks of a band across the widest box.
+// The rows of a band, and the columns of a block of it.
 const BAND_ROWS: u32 = 32;
 
 const BLOCK_COLUMNS: u32 = 64;
 
-const BAND_BLOCKS: u32 = 16;
-
-// The sites of a block, and of a band across the widest box.
-const BLOCK_SITES: u32 = BAND_ROWS * BLOCK_COLUMNS;
-
-const BAND_SITES: u32 = BAND_BLOCKS * BLOCK_SITES;
-
 // The most bands of a box.
 const MOST_BANDS: u32 = 32;
+
+// The sites of a row that are in one block, which begins at this column, by their numbers: from the
+// one on and below the other.
+#[derive(Clone, Copy)]
+struct Span {
+    column: u32,
+    row: u32,
+    from: usize,
+    to: usize,
+}
+
+impl Span {
+    // The span of the site in this column and row.
+    fn at(area: &BoxArea, column: u32, row: u32) -> Span
+        requires { IsBox area.now }
+    {
+        let width = area.width() as usize;
+        let column = column / BLOCK_COLUMNS * BLOCK_COLUMNS;
+        let first = row as usize * width;
+        Span {
+            column,
+            row,
+            from: first + column as usize,
+            to: first + width.min(column as usize + BLOCK_COLUMNS as usize),
+        }
+    }
+
+    // The least listed site in the spans of its block, in the rows from the one on and below the
+    // other.
+    fn in_rows(self, numbers: &NumberSet, area: &BoxArea, from: u32, to: u32) -> Option<usize>
+        requires { IsBox area.now }
+        ensures below { IfSome result (λ n. n < numbers.now.bound) }
+        ensures listed { IfSome result (IsIn numbers.now) }
+    {
+        let width = area.width() as usize;
+        let end = to as usize * width;
+        let mut row = from;
+        while row < to {
+            let span = Span::at(area, self.column, row);
+            let number = numbers.least_between(span.from, end)?;
+            if number < span.to {
+                return Some(number);
+            }
+            row = (row + 1).max((number / width) as u32);
+        }
+        None
+    }
+
+    // The same in all rows of the block, from its own one on.
+    fn in_block(self, numbers: &NumberSet, area: &BoxArea) -> Option<usize>
+        requires { IsBox area.now }
+        ensures below { IfSome result (λ n. n < numbers.now.bound) }
+        ensures listed { IfSome result (IsIn numbers.now) }
+    {
+        let bottom = self.row / BAND_ROWS * BAND_ROWS;
+        let top = area.height().min(bottom.saturating_add(BAND_ROWS));
+        if let Some(number) = self.in_rows(numbers, area, self.row, top) {
+            return Some(number);
+        }
+        self.in_rows(numbers, area, bottom, self.row)
+    }
+}
 
 // What one of several workers has for its own of a work list: the listed sites in its bands of 32
 // rows. It goes through a band by blocks of 64 columns, and through a block by rows, so that its
 // claims lie together in memory, and it leaves a block only where nothing is listed there any more,
 // so that the next band can go on beside it soon. All this says is what is looked at first, so
-// contracts see the number of rows alone.
+// clauses say no more than that it is listed.
 #[derive(Drop)]
 pub(crate) struct Share {
-    own: NumberSet,
-    rows: u32,
     // A bit for each own band, and none where the worker has all sites.
     bands: u32,
-    // The first place of the block in which it looked last.
-    block: usize,
-}
-
-impl Model for Share {
-    ghost use Rattle.std.specs.Prelude.{◌≡◌, ◌<◌, ◌≤◌, ◌+◌, ◌*◌, ◌/◌, ℕ};
-
-    ghost Value = { ℕ };
-
-    ghost view = { λ s. s.rows };
-
-    ghost invariant = { λ s. (s.own.bound ≡ (s.rows + 31) / 32 * 32768) × (s.rows ≤ 1024)
-        × (s.block < s.own.bound) };
+    // Where it looked last.
+    last: Span,
 }
 
 impl Share {
-    // No site of a box of so many rows. All are the worker's own: it works alone.
-    pub(crate) fn make(alloc: Global, rows: u32) -> Result<Share, NoMemory>
-        requires { (0 < rows) × (rows ≤ 1024) }
-        ensures { IfOk result (λ share. share ≡ rows) }
+    // All sites are the worker's own: it works alone.
+    pub(crate) fn whole() -> Share {
+        let last = Span {
+            column: 0,
+            row: 0,
+            from: 0,
+            to: 0,
+        };
+        Share { bands: 0, last }
+    }
+
+    // Makes every of-th band the worker's own, or all sites where it is the only one.
+    pub(crate) fn deal(&mut self, share: u32, of: u32)
+        requires { share < of }
     {
-        let places = (rows + (BAND_ROWS - 1)) / BAND_ROWS * BAND_SITES;
-        Ok(Share {
-            own: NumberSet::make(alloc, places)?,
-            rows,
-            bands: 0,
-            block: 0,
-        })
+        self.bands = if of == 1 { 0 } else { every(share, of) };
     }
 
     // Whether the worker has no bands, but all sites.
@@ -69,116 +114,120 @@ impl Share {
         self.bands == 0
     }
 
-    // Whether a listed site is in the worker's bands.
-    #[inline(always)]
-    pub(crate) fn has_some(&self) -> bool {
-        self.own.least().is_some()
+    fn owns_band(&self, band: u32) -> bool {
+        band < MOST_BANDS && (self.bands >> band) & 1 != 0
     }
 
-    #[inline(always)]
     fn owns(&self, row: u32) -> bool {
-        row < MOST_BANDS * BAND_ROWS && (self.bands >> (row / BAND_ROWS)) & 1 != 0
+        self.owns_band(row / BAND_ROWS)
     }
 
-    // Whether a row is beside the worker's bands, and in none of them.
+    // Whether a row of a box is beside the worker's bands, and in none of them.
     pub(crate) fn is_beside(&self, row: u32) -> bool {
-        if row >= self.rows {
+        if row >= MOST_BANDS * BAND_ROWS {
             return false;
         }
         !self.owns(row) && (self.owns(row + 1) || row > 0 && self.owns(row - 1))
     }
 
-    // A site that is listed is the worker's own where it is in one of its bands.
+    // Whether one of the worker's own sites is listed.
+    pub(crate) fn has_some(&self, numbers: &NumberSet, area: &BoxArea) -> bool
+        requires { IsBox area.now }
+    {
+        self.in_bands(numbers, area, 0).is_some()
+    }
+
+    // The next of the worker's own sites, if it is in the span in which it looked last.
     #[inline(always)]
-    pub(crate) fn add(&mut self, column: u32, row: u32)
-        requires column { column < 1024 }
-        requires row { row < self.old }
-        ensures { self.new ≡ self.old }
+    pub(crate) fn here(&self, numbers: &NumberSet) -> Option<usize>
+        ensures below { IfSome result (λ n. n < numbers.now.bound) }
+        ensures listed { IfSome result (IsIn numbers.now) }
     {
-        if self.owns(row) {
-            self.own.insert(place_of(column, row));
+        numbers.least_between(self.last.from, self.last.to)
+    }
+
+    // The same where none is left there: in its block, else in the next own band that has one.
+    pub(crate) fn elsewhere(&self, numbers: &NumberSet, area: &BoxArea) -> Option<usize>
+        requires { IsBox area.now }
+        ensures below { IfSome result (λ n. n < numbers.now.bound) }
+        ensures listed { IfSome result (IsIn numbers.now) }
+    {
+        if self.owns(self.last.row) {
+            if let Some(number) = self.last.in_block(numbers, area) {
+                return Some(number);
+            }
         }
+        self.from_band(numbers, area, self.last.row / BAND_ROWS)
     }
 
-    // A site that is listed no longer.
-    #[inline(always)]
-    pub(crate) fn leave(&mut self, column: u32, row: u32)
-        requires column { column < 1024 }
-        requires row { row < self.old }
-        ensures { self.new ≡ self.old }
+    // The least of the worker's own sites in the band of this row, from the number on, else in the
+    // next own band that has one.
+    pub(crate) fn from_number(
+        &self,
+        numbers: &NumberSet,
+        area: &BoxArea,
+        number: usize,
+        row: u32,
+    ) -> Option<usize>
+        requires { IsBox area.now }
+        ensures below { IfSome result (λ n. n < numbers.now.bound) }
+        ensures listed { IfSome result (IsIn numbers.now) }
     {
-        if self.owns(row) {
-            self.own.remove(place_of(column, row));
+        let band = row / BAND_ROWS;
+        if self.owns_band(band) {
+            if let Some(number) = in_band(numbers, area, band, number) {
+                return Some(number);
+            }
         }
+        self.from_band(numbers, area, band.saturating_add(1))
     }
 
-    // The first own place from the block on in which the worker looked last, else the first of all.
-    #[inline(always)]
-    fn next_place(&self) -> Option<usize>
-        ensures { IfSome result (λ place. place < (self.now + 31) / 32 * 32768) }
+    // The worker looks at the site in this column and row, and goes on beside it.
+    pub(crate) fn move_to(&mut self, area: &BoxArea, column: u32, row: u32)
+        requires { IsBox area.now }
     {
-        if let Some(place) = self.own.least_from(self.block) {
-            return Some(place);
+        self.last = Span::at(area, column, row);
+    }
+
+    // The least of the worker's own sites in the first band that has one, from this band on, else
+    // of all.
+    fn from_band(&self, numbers: &NumberSet, area: &BoxArea, band: u32) -> Option<usize>
+        requires { IsBox area.now }
+        ensures below { IfSome result (λ n. n < numbers.now.bound) }
+        ensures listed { IfSome result (IsIn numbers.now) }
+    {
+        if let Some(number) = self.in_bands(numbers, area, band) {
+            return Some(number);
         }
-        self.own.least()
+        self.in_bands(numbers, area, 0)
     }
 
-    // The column and row of the next of the worker's own sites.
-    #[inline(always)]
-    pub(crate) fn first(&mut self) -> Option<(u32, u32)>
-        ensures { self.new ≡ self.old }
+    // The same, but from this band on only.
+    fn in_bands(&self, numbers: &NumberSet, area: &BoxArea, from: u32) -> Option<usize>
+        requires { IsBox area.now }
+        ensures below { IfSome result (λ n. n < numbers.now.bound) }
+        ensures listed { IfSome result (IsIn numbers.now) }
     {
-        let place = self.next_place()?;
-        self.block = place / BLOCK_SITES as usize * BLOCK_SITES as usize;
-        Some(site_of(place as u32))
-    }
-
-    // The same from the place of this site on, if there is one.
-    pub(crate) fn first_from(&mut self, column: u32, row: u32) -> Option<(u32, u32)>
-        requires column { column < 1024 }
-        requires row { row < self.old }
-        ensures { self.new ≡ self.old }
-    {
-        let Some(place) = self.own.least_from(place_of(column, row)) else {
-            return self.first();
-        };
-        Some(site_of(place as u32))
-    }
-
-    // Makes every of-th band the worker's own, or all sites where it is the only one. It tells
-    // whether other bands were its own before: then its listed sites are to be added anew.
-    pub(crate) fn deal(&mut self, share: u32, of: u32) -> bool
-        requires { share < of }
-        ensures { self.new ≡ self.old }
-    {
-        let bands = if of == 1 { 0 } else { every(share, of) };
-        if bands == self.bands {
-            return false;
+        for band in from..MOST_BANDS {
+            if self.owns_band(band) {
+                if let Some(number) = in_band(numbers, area, band, 0) {
+                    return Some(number);
+                }
+            }
         }
-        self.bands = bands;
-        empty(&mut self.own);
-        bands != 0
+        None
     }
 }
 
-// The place of a site in the order that a worker goes by.
-#[inline(always)]
-fn place_of(column: u32, row: u32) -> usize
-    requires column { column < 1024 }
-    requires row { row < 1024 }
-    ensures { result < (row / 32 + 1) * 32768 }
+// The least listed site of a band from this number on.
+fn in_band(numbers: &NumberSet, area: &BoxArea, band: u32, from: usize) -> Option<usize>
+    requires { IsBox area.now }
+    ensures below { IfSome result (λ n. n < numbers.now.bound) }
+    ensures listed { IfSome result (IsIn numbers.now) }
 {
-    let block = row / BAND_ROWS * BAND_BLOCKS + column / BLOCK_COLUMNS;
-    let within = row % BAND_ROWS * BLOCK_COLUMNS + column % BLOCK_COLUMNS;
-    (block * BLOCK_SITES + within) as usize
-}
-
-// The column and row of the site with this place.
-#[inline(always)]
-fn site_of(place: u32) -> (u32, u32) {
-    let column = place / BLOCK_SITES % BAND_BLOCKS * BLOCK_COLUMNS + place % BLOCK_COLUMNS;
-    let row = place / BAND_SITES * BAND_ROWS + place / BLOCK_COLUMNS % BAND_ROWS;
-    (column, row)
+    let sites = area.width() as usize * BAND_ROWS as usize;
+    let first = band as usize * sites;
+    numbers.least_between(from.max(first), first + sites)
 }
 
 // A bit for every of-th band.
@@ -192,14 +241,4 @@ fn every(share: u32, of: u32) -> u32
         }
     }
     bands
-}
-
-// Takes out all numbers.
-pub(crate) fn empty(numbers: &mut NumberSet)
-    ensures bound { numbers.new.bound ≡ numbers.old.bound }
-    ensures none { (n : ℕ) → ¬ IsIn numbers.new n }
-{
-    while let Some(number) = numbers.least() {
-        numbers.remove(number);
-    }
 }

@@ -22,8 +22,8 @@ pub(crate) struct Spot {
 }
 
 // Sites of a box, each listed at most once, with room for all, and which of them are looked at
-// first: an eighth of a byte a site, and four KiB for each 32 rows. The row of the site that was
-// looked at last is kept, since the next one is mostly in it.
+// first: an eighth of a byte a site. The row of the site that was looked at last is kept, since the
+// next one is mostly in it.
 #[derive(Drop)]
 pub(crate) struct WorkList {
     area: BoxArea,
@@ -34,7 +34,7 @@ pub(crate) struct WorkList {
 
 impl Model for WorkList {
     ghost use Rattle.std.specs.Prelude.{◌≡◌};
-    ghost use Rattle.atam.specs.Sites.{IsBox, height_of};
+    ghost use Rattle.atam.specs.Sites.{IsBox};
     ghost use Rattle.assembly.specs.Cells.{cell_count};
     ghost use Rattle.frontier_seat.specs.Inner.Listings.{ListedSites};
     ghost use Rattle.assembly.specs.Rows.{IsRow};
@@ -44,7 +44,7 @@ impl Model for WorkList {
     ghost view = { λ w. record { area = w.area; numbers = w.numbers } };
 
     ghost invariant = { λ w. IsBox w.area × (w.numbers.bound ≡ cell_count w.area)
-        × (w.share ≡ height_of w.area) × IsRow w.area w.row };
+        × IsRow w.area w.row };
 }
 
 impl WorkList {
@@ -58,7 +58,7 @@ impl WorkList {
         Ok(WorkList {
             area,
             numbers: NumberSet::make(alloc, count)?,
-            share: Share::make(alloc, area.height())?,
+            share: Share::whole(),
             row: Row::least(&area),
         })
     }
@@ -84,21 +84,6 @@ impl WorkList {
         Spot { site, number }
     }
 
-    // The column and row of the next of the worker's own sites, which is looked for from the site
-    // with this number on.
-    #[inline(always)]
-    fn own_from(&mut self, from: u32) -> Option<(u32, u32)>
-        requires { from < cell_count self.old.area }
-        ensures { self.new ≡ self.old }
-    {
-        if from == 0 {
-            return self.share.first();
-        }
-        let spot = self.spot_of(from as usize);
-        let (column, row) = column_and_row(&self.area, spot.site);
-        self.share.first_from(column, row)
-    }
-
     // The next of the worker's own sites, if any is left.
     #[inline(always)]
     fn next_own(&mut self, from: u32) -> Option<Spot>
@@ -107,17 +92,44 @@ impl WorkList {
         ensures spot { IfSome result (IsSpot self.old.area) }
         ensures listed { IfSome result (λ spot. IsIn self.old.numbers spot.number) }
     {
-        let (column, row) = self.own_from(from)?;
-        let width = self.area.width();
-        if column >= width || row >= self.area.height() {
-            return None;
+        if from > 0 {
+            return self.own_from(from);
         }
-        let number = row as usize * width as usize + column as usize;
-        if !self.numbers.contains(number) {
-            return None;
+        if let Some(number) = self.share.here(&self.numbers) {
+            return Some(self.spot_of(number));
         }
-        let site = self.area.site(column, row);
-        Some(Spot { site, number })
+        self.own_elsewhere()
+    }
+
+    // The same where the worker goes on elsewhere than it looked last.
+    #[inline(never)]
+    fn own_elsewhere(&mut self) -> Option<Spot>
+        ensures same { self.new ≡ self.old }
+        ensures spot { IfSome result (IsSpot self.old.area) }
+        ensures listed { IfSome result (λ spot. IsIn self.old.numbers spot.number) }
+    {
+        let area = self.area;
+        let number = self.share.elsewhere(&self.numbers, &area)?;
+        let spot = self.spot_of(number);
+        let (column, row) = column_and_row(&area, spot.site);
+        self.share.move_to(&area, column, row);
+        Some(spot)
+    }
+
+    // The same where it is looked for from the site with this number on.
+    fn own_from(&mut self, from: u32) -> Option<Spot>
+        requires { from < cell_count self.old.area }
+        ensures same { self.new ≡ self.old }
+        ensures spot { IfSome result (IsSpot self.old.area) }
+        ensures listed { IfSome result (λ spot. IsIn self.old.numbers spot.number) }
+    {
+        let area = self.area;
+        let first = self.spot_of(from as usize);
+        let (_column, row) = column_and_row(&area, first.site);
+        let number = self
+            .share
+            .from_number(&self.numbers, &area, from as usize, row)?;
+        Some(self.spot_of(number))
     }
 
     // The next site to look at: where several work, one of the worker's own, if any is left. It is
@@ -177,7 +189,6 @@ impl WorkList {
         ensures adds { Adds self.old.numbers self.new.numbers spot.number }
     {
         self.numbers.insert(spot.number);
-        self.add_own(spot.site);
     }
 
     // A site that is to be looked at no longer.
@@ -188,33 +199,6 @@ impl WorkList {
         ensures removes { Removes self.old.numbers self.new.numbers spot.number }
     {
         self.numbers.remove(spot.number);
-        self.leave_own(spot.site);
-    }
-
-    // A listed site of the worker's bands is its own.
-    #[inline(always)]
-    fn add_own(&mut self, site: Site)
-        requires { InBox self.old.area site }
-        ensures { self.new ≡ self.old }
-    {
-        if self.share.is_whole() {
-            return;
-        }
-        let (column, row) = column_and_row(&self.area, site);
-        self.share.add(column, row);
-    }
-
-    // A site that is listed no longer is not.
-    #[inline(always)]
-    fn leave_own(&mut self, site: Site)
-        requires { InBox self.old.area site }
-        ensures { self.new ≡ self.old }
-    {
-        if self.share.is_whole() {
-            return;
-        }
-        let (column, row) = column_and_row(&self.area, site);
-        self.share.leave(column, row);
     }
 
     // Makes every of-th band of rows the worker's own.
@@ -222,33 +206,15 @@ impl WorkList {
         requires { share < of }
         ensures { self.new ≡ self.old }
     {
-        if self.share.deal(share, of) {
-            self.add_listed();
-        }
-    }
-
-    // The listed sites of its bands are the worker's own.
-    fn add_listed(&mut self)
-        ensures { self.new ≡ self.old }
-    {
-        let count = self.count() as usize;
-        let mut at = 0;
-        while at < count {
-            let Some(number) = self.numbers.least_from(at) else {
-                return;
-            };
-            let spot = self.spot_of(number);
-            self.add_own(spot.site);
-            at = number + 1;
-        }
+        self.share.deal(share, of);
     }
 
     // Whether a listed site is the worker's own.
     pub(crate) fn has_own(&self) -> bool {
-        self.share.has_some()
+        self.share.has_some(&self.numbers, &self.area)
     }
 
-    // Whether a row is beside the worker's bands, and in none of them.
+    // Whether a row of the box is beside the worker's bands, and in none of them.
     pub(crate) fn is_beside(&self, row: u32) -> bool {
         self.share.is_beside(row)
     }
@@ -279,7 +245,6 @@ impl WorkList {
         }
         if let Some(number) = number_beside(&self.area, spot, side) {
             self.numbers.insert(number);
-            self.add_own(spot.site.step(side));
         }
     }
 
@@ -398,8 +363,6 @@ fn is_closed_row(grid: &Grid, row: u32) -> bool
 fn column_and_row(area: &BoxArea, site: Site) -> (u32, u32)
     requires limits { IsBox area.now }
     requires inside { InBox area.now site }
-    ensures column { result.0 < 1024 }
-    ensures row { result.1 < height_of area.now }
 {
     ((site.x - area.x0) as u32, (site.y - area.y0) as u32)
 }

@@ -5,6 +5,10 @@ use Rattle.frontier_seat.specs.Inner.Listings.{AreEmptySites, ListsFrontierTo}
 use Rattle.frontier_seat.proofs.Listing.{frontier_to, row_more}
 use Rattle.frontier_seat.proofs.work_list.WorkList.list_frontier.Goals as goal
 
+pub list_row-requires-clause-before : goal.list_row-requires-clause-before
+list_row-requires-clause-before c =
+    subst (λ (a : BoxArea). ListsFrontierTo a c.args.grid.now.tiles c.loop-row.self.numbers (c.loop-row.row * width_of a)) (sym c.loop-row.invariant.area) c.loop-row.invariant.lists
+
 pub loop-row-preserved : goal.loop-row-preserved
 loop-row-preserved c =
     let area = c.args.self.now.area in

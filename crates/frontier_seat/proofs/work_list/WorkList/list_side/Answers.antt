@@ -1,6 +1,5 @@
-use Rattle.std.proofs.Common.{◌≡◌, None, ap, refl, sym, subst}
+use Rattle.std.proofs.Common.{◌≡◌, None, refl, subst}
 use Rattle.atam.specs.Sites.{neighbor}
-use Rattle.number_set.specs.Numbers.{Numbers}
 use Rattle.attach_rule.proofs.Held.{empty_from}
 use Rattle.frontier_seat.specs.Inner.Listings.{ListedSites, ListsSide}
 use Rattle.frontier_seat.proofs.Listing.{lists_side, lists_no_side}
@@ -10,10 +9,8 @@ pub returns-in-Some-clause-lists : goal.returns-in-Some-clause-lists
 returns-in-Some-clause-lists c =
     let none : c.args.there ≡ None = empty_from c.args.there c.args.there _ refl c.is_some.ensures c.if-is_some.false in
     let m = neighbor c.args.spot.site c.args.side in
-    let numbers = ap (λ (w : ListedSites). w.numbers) c.add_own.ensures in
-    subst (λ (w : ListedSites). ListsSide w.area m c.args.there w.numbers c.add_own.new.self.numbers) c.self.view_is
-    (subst (λ (n : Numbers). ListsSide c.self.inside.area m c.args.there c.self.inside.numbers n) (sym numbers)
-    (lists_side c.self.inside.area m c.in-Some.number c.args.there c.self.inside.numbers c.insert.new.self c.in-Some.ensures none c.insert.ensures.adds))
+    subst (λ (w : ListedSites). ListsSide w.area m c.args.there w.numbers c.insert.new.self) c.self.view_is
+    (lists_side c.self.inside.area m c.in-Some.number c.args.there c.self.inside.numbers c.insert.new.self c.in-Some.ensures none c.insert.ensures.adds)
 
 pub returns-in_default-clause-lists : goal.returns-in_default-clause-lists
 returns-in_default-clause-lists c =
