@@ -1,17 +1,20 @@
 -- Cursors along the list of the types that have a glue on a side.
-use Rattle.std.proofs.Common.{◌≡◌, ◌≢◌, ℕ, ◌+◌, ◌<◌, ◌≤◌, [], length, sym, refl, subst, ap, ◌∙◌, inl, inr, arith, tests, Option, Some, None, IfSome, zero-le}
-use Rattle.std.specs.Prelude.{slice_index}
+use Rattle.std.proofs.Common.{◌≡◌, ◌≢◌, ℕ, ◌+◌, ◌<◌, ◌≤◌, List, [], length, get_or, set, get_or-set_same, get_or-set_other, sym, refl, subst, ap, ◌∙◌, inl, inr, arith, tests, Option, Some, None, IfSome, zero-le}
+use Rattle.std.specs.Option.{option_map_or}
+use Rattle.std.specs.Prelude.{slice_get, slice_index}
 use Rattle.std.proofs.Math.Nat.{le_refl}
 use Rattle.std.proofs.lemmas.Bool.{cases_eq}
 use Rattle.std.proofs.lemmas.Option.{none-some}
 use Rattle.atam.specs.declared.limits.TheConstants.{MOST_STRENGTH}
 use Rattle.atam.specs.declared.site.Side.{Side}
 use Rattle.atam.specs.declared.place.GlueId.{GlueId}
-use Rattle.atam.specs.TileSystem.{TileSystem, IsValid, side_glue, strength_of, strength_between}
+use Rattle.atam.specs.TileSystem.{TileSystem, Glue, IsValid, side_glue, strength_of, strength_between}
 use Rattle.atam.specs.Assembly.{interaction}
 use Rattle.atam.proofs.Bonds.{interaction-none}
+use Rattle.atam.proofs.Lists.{All-slice_get}
 use Rattle.atam.proofs.Systems.{side_glue-in_range}
 use Rattle.type_index.specs.declared.cursor.Cursor.{Cursor}
+use Rattle.type_index.specs.Codes.{code_of}
 use Rattle.type_index.specs.Indexes.{IsNextBearer, SideLinks, AreListsOf}
 use Rattle.type_index.specs.Inner.Cursors.{IsCursor}
 
@@ -27,6 +30,41 @@ between_unlike sys g h unpaired unlike = grind (arith, tests)
 unlike : (sys : TileSystem) (own : Option GlueId) (g : GlueId) → sys.pairs ≡ [] → own ≢ Some g → interaction sys own (Some g) ≡ 0
 unlike sys None g unpaired apart = refl
 unlike sys (Some h) g unpaired apart = between_unlike sys h g unpaired (λ same. apart (ap (λ k. let glue : GlueId = record { 0 = k } in Some glue) same))
+
+-- a side with a glue's code has the glue's own strength with it, and one with another code has none
+pub strength_met : (sys : TileSystem) (own : Option GlueId) (g : GlueId) → code_of own ≡ g.0 + 1 → interaction sys own (Some g) ≡ strength_of sys g
+strength_met sys None g met = let never : ⊥ = omega (arith, met) in absurd never
+strength_met sys (Some h) g met =
+    let same : h.0 ≡ g.0 = omega (arith, met) in
+    let Met : ℕ → Type 0 = λ k. (let o : GlueId = record { 0 = k } in interaction sys (Some o) (Some g)) ≡ strength_of sys g in
+    subst Met (sym same) (between_same sys g)
+
+pub strength_missed : (sys : TileSystem) (own : Option GlueId) (g : GlueId) → sys.pairs ≡ [] → code_of own ≢ g.0 + 1 → interaction sys own (Some g) ≡ 0
+strength_missed sys None g unpaired apart = refl
+strength_missed sys (Some h) g unpaired apart = between_unlike sys h g unpaired (λ same. apart (ap (λ k. k + 1) same))
+
+-- a side with a glue's code has the glue, so that it is one of the system
+pub met_known : (sys : TileSystem) (own : Option GlueId) (g : GlueId) → IfSome own (λ h. h.0 < length sys.glues) → code_of own ≡ g.0 + 1 → g.0 < length sys.glues
+met_known sys None g known met = let never : ⊥ = omega (arith, met) in absurd never
+met_known sys (Some h) g known met = omega (arith, known, met)
+
+-- no strength is above the greatest
+found_within : (sys : TileSystem) (g : GlueId) (found : Option Glue) → IsValid sys → slice_get sys.glues g.0 ≡ found → option_map_or (λ h. h.strength) found 0 ≤ MOST_STRENGTH
+found_within sys g None valid is = zero-le
+found_within sys g (Some h) valid is = All-slice_get (λ (e : Glue). e.strength ≤ MOST_STRENGTH) sys.glues g.0 h valid.strengths is
+
+pub strength_within : (sys : TileSystem) (g : GlueId) → IsValid sys → strength_of sys g ≤ MOST_STRENGTH
+strength_within sys g valid = found_within sys g (slice_get sys.glues g.0) valid refl
+
+-- one strength more
+pub strengths_more : (sys : TileSystem) (strengths : List ℕ) (n strength : ℕ) → n < length strengths → strength ≡ strength_of sys (record { 0 = n }) →
+    ((g : GlueId) → g.0 < n → slice_index strengths g.0 ≡ strength_of sys g) → (g : GlueId) → g.0 < n + 1 → slice_index (set strengths n strength) g.0 ≡ strength_of sys g
+strengths_more sys strengths n strength within is each g below = elim (cases_eq g.0 n) [
+  | inl same ↦
+      let Is : ℕ → Type 0 = λ k. get_or (set strengths n strength) k 0 ≡ strength_of sys (record { 0 = k }) in
+      subst Is (sym same) (get_or-set_same strengths n strength 0 within ∙ is)
+  | inr apart ↦ get_or-set_other strengths n g.0 strength 0 apart ∙ each g (omega (arith, below, apart))
+]
 
 -- a glue interacts with none more strongly than with itself
 pub most_itself : (sys : TileSystem) (own glue : Option GlueId) → sys.pairs ≡ [] → interaction sys own glue ≤ interaction sys glue glue

@@ -4,7 +4,7 @@ use Rattle.atam.specs.declared.site.Side.{Side}
 use Rattle.atam.specs.declared.site.Side.TheVariants.{North, East, South, West}
 use Rattle.atam.specs.declared.place.GlueId.{GlueId}
 use Rattle.atam.specs.declared.place.TypeId.{TypeId}
-use Rattle.atam.specs.TileSystem.{TileSystem, IsType, side_glue}
+use Rattle.atam.specs.TileSystem.{TileSystem, IsType, side_glue, strength_of}
 use Rattle.type_index.specs.Codes.{code_of}
 
 -- a type has the glue on this side
@@ -39,12 +39,18 @@ pub record AreListsFrom (sys : TileSystem) (d : Side) (from : ℕ) (links : Side
 abbrev pub AreListsOf : TileSystem → Side → SideLinks → Type 0
 AreListsOf sys d links = AreListsFrom sys d 0 links
 
--- such lists for each side
+-- the strength of each glue
+pub record AreStrengthsOf (sys : TileSystem) (strengths : List ℕ) : Type 0 where
+  pub count : length strengths ≡ length sys.glues
+  pub each : (g : GlueId) → g.0 < length sys.glues → slice_index strengths g.0 ≡ strength_of sys g
+
+-- such lists for each side, and a strength for each glue
 pub record TypeLists : Type 0 where
   pub north : SideLinks
   pub east : SideLinks
   pub south : SideLinks
   pub west : SideLinks
+  pub strengths : List ℕ
 
 -- those of the types of a system
 pub record IsIndexOf (sys : TileSystem) (lists : TypeLists) : Type 0 where
@@ -52,3 +58,4 @@ pub record IsIndexOf (sys : TileSystem) (lists : TypeLists) : Type 0 where
   pub east : AreListsOf sys East lists.east
   pub south : AreListsOf sys South lists.south
   pub west : AreListsOf sys West lists.west
+  pub strengths : AreStrengthsOf sys lists.strengths

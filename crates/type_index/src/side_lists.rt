@@ -4,7 +4,7 @@ ghost use Rattle.atam.specs.declared.site.Side.{Side};
 ghost use Rattle.atam.specs.declared.place.GlueId.{GlueId};
 ghost use Rattle.atam.specs.TileSystem.{TileSystem, IsValid, IsType, side_glue};
 ghost use Rattle.type_index.specs.Codes.{code_of};
-ghost use Rattle.type_index.specs.Indexes.{AreListsOf, AreListsFrom};
+ghost use Rattle.type_index.specs.Indexes.{AreListsOf, AreListsFrom, AreStrengthsOf};
 ghost use Rattle.type_index.specs.Inner.Cursors.{IsCursor};
 ghost use Rattle.type_index.specs.Inner.Linking.{PutsFirst};
 
@@ -91,8 +91,9 @@ impl SideLists {
 
     // The first type that interacts with a glue that faces the side.
     #[inline(always)]
-    pub(crate) fn start(&self, sys: &System, glue: Option<GlueId>) -> Cursor
-        requires { length self.now.first ≡ length sys.now.glues }
+    pub(crate) fn start(&self, sys: &System, strengths: &[u8], glue: Option<GlueId>) -> Cursor
+        requires lists { length self.now.first ≡ length sys.now.glues }
+        requires strengths { AreStrengthsOf sys.now strengths.now }
         ensures { (d : Side) → AreListsOf sys.now d self.now → IsCursor sys.now d glue 0 result }
     {
         let _valid = sys.tau();
@@ -108,7 +109,7 @@ impl SideLists {
         }
         Cursor {
             at: self.first[glue.0 as usize] as usize,
-            strength: sys.strength(glue),
+            strength: u32::from(strengths[glue.0 as usize]),
         }
     }
 

@@ -2,7 +2,7 @@ use Rattle.std.proofs.Common.{◌≡◌, ◌<◌, ◌∙◌, ℕ, ap, arith, get
 use Rattle.std.proofs.lemmas.Grind.{get_or_default_zero}
 use Rattle.std.proofs.lemmas.Option.{same_Some}
 use Rattle.type_index.specs.Indexes.{IsNextBearer}
-use Rattle.type_index.proofs.Cursors.{cursor_next, cursor_none}
+use Rattle.type_index.proofs.Cursors.{cursor_next, cursor_none, strength_within}
 use Rattle.type_index.proofs.side_lists.SideLists.start.Goals as goal
 
 -- a glue past the last
@@ -25,6 +25,8 @@ returns c d lists =
     let read : c.index.result.now ≡ get_or c.args.self.now.first g.0 0 =
     c.index.ensures ∙ get_or_default_zero c.self.inside.first.items g.0 c.index.result.now within ∙ ap (λ xs. get_or xs g.0 0) first_is
     in
+    let strength = c.from.ensures ∙ c.requires.strengths.each g known in
+    let bound = strength_within sys g c.tau-valid.ensures.valid in
     rw c.in-Some.is (
-    cursor_next sys d c.tau-valid.ensures.valid g 0 _ c.strength.ensures.strength c.strength.ensures.bound (subst Next (sym read) (lists.first g known))
+    cursor_next sys d c.tau-valid.ensures.valid g 0 _ strength (omega (arith, strength, bound)) (subst Next (sym read) (lists.first g known))
     )
