@@ -30,7 +30,8 @@ use Rattle.attach_rule.specs.Facing.{FacesSite, facing_pull}
 use Rattle.type_index.specs.HeldTypes.{IsHeld, FirstHeldBut}
 use Rattle.type_index.specs.Others.{IsFirstBut}
 use Rattle.local_check.specs.Inner.Sides.{bond_if, glues_on}
-use Rattle.local_check.specs.Judgement.{AllExactBelow, NoRivalBelow, IsLeastRival, FindsInexact, FindsRival}
+use Rattle.local_check.specs.Judgement.{IsLeastRival, FindsInexact, FindsRival}
+use Rattle.local_check.specs.Inner.Ranges.{AllExactIn, NoRivalIn, FindsInexactIn, FindsRivalIn}
 use Rattle.local_check.proofs.Sides.{apart}
 
 -- the test of two neighbours of a site
@@ -76,10 +77,10 @@ facing_on sys own glue true = refl
 facing_on sys own glue false = interaction-none sys own
 
 -- one index more
-module _ (sys : TileSystem) (s : List Place) (n : ℕ) (p : Place) (there : slice_get s n ≡ Some p) where
-  pub exact_more : AllExactBelow sys s n → IsExact sys s n p → AllExactBelow sys s (n + 1)
-  exact_more all last i q later below at_i = elim (cases_lt i n) [
-    | inl less ↦ all i q later less at_i
+module _ (sys : TileSystem) (s : List Place) (start n : ℕ) (p : Place) (there : slice_get s n ≡ Some p) where
+  pub exact_more : AllExactIn sys s start n → IsExact sys s n p → AllExactIn sys s start (n + 1)
+  exact_more all last i q later from below at_i = elim (cases_lt i n) [
+    | inl less ↦ all i q later from less at_i
     | inr more ↦
         let one : n ≡ i = omega (arith, below, more) in
         let At : ℕ → Type 0 = λ j. slice_get s j ≡ Some p in
@@ -87,9 +88,9 @@ module _ (sys : TileSystem) (s : List Place) (n : ℕ) (p : Place) (there : slic
         subst (λ r. IsExact sys s i r) same (subst (λ j. IsExact sys s j p) one last)
   ]
 
-  pub no_rival_more : NoRivalBelow sys s n → ((t : TypeId) → ¬ IsRival sys s n p t) → NoRivalBelow sys s (n + 1)
-  no_rival_more none last i q t later below at_i rival = elim (cases_lt i n) [
-    | inl less ↦ none i q t later less at_i rival
+  pub no_rival_more : NoRivalIn sys s start n → ((t : TypeId) → ¬ IsRival sys s n p t) → NoRivalIn sys s start (n + 1)
+  no_rival_more none last i q t later from below at_i rival = elim (cases_lt i n) [
+    | inl less ↦ none i q t later from less at_i rival
     | inr more ↦
         let one : i ≡ n = omega (arith, below, more) in
         let At : ℕ → Type 0 = λ j. slice_get s j ≡ Some q in
@@ -99,13 +100,84 @@ module _ (sys : TileSystem) (s : List Place) (n : ℕ) (p : Place) (there : slic
   ]
 
 -- nothing is asked of a seed
-pub seed_inexact : (sys : TileSystem) (s : List Place) (n : ℕ) (found : Option (Site × ℕ)) → n < length sys.seeds → FindsInexact sys s n found → FindsInexact sys s (n + 1) found
-seed_inexact sys s n None seed finds = λ i p later below there. let never : ⊥ = omega (arith, seed, later, below) in absurd never
-seed_inexact sys s n (Some first) seed finds = finds
+pub seed_inexact : (sys : TileSystem) (s : List Place) (start n : ℕ) (found : Option (Site × ℕ)) → n < length sys.seeds →
+    FindsInexactIn sys s start n found → FindsInexactIn sys s start (n + 1) found
+seed_inexact sys s start n None seed finds = λ i p later from below there. let never : ⊥ = omega (arith, seed, later, below) in absurd never
+seed_inexact sys s start n (Some first) seed finds = finds
 
-pub seed_rival : (sys : TileSystem) (s : List Place) (n : ℕ) (found : Option (Site × TypeId)) → n < length sys.seeds → FindsRival sys s n found → FindsRival sys s (n + 1) found
-seed_rival sys s n None seed finds = λ i p t later below there. let never : ⊥ = omega (arith, seed, later, below) in absurd never
-seed_rival sys s n (Some first) seed finds = finds
+pub seed_rival : (sys : TileSystem) (s : List Place) (start n : ℕ) (found : Option (Site × TypeId)) → n < length sys.seeds →
+    FindsRivalIn sys s start n found → FindsRivalIn sys s start (n + 1) found
+seed_rival sys s start n None seed finds = λ i p t later from below there. let never : ⊥ = omega (arith, seed, later, below) in absurd never
+seed_rival sys s start n (Some first) seed finds = finds
+
+-- in two ranges, of which the one begins where the other ends, what is found in the first, or else in the second
+module _ (sys : TileSystem) (s : List Place) (start middle end : ℕ) (meet : start ≤ middle) where
+  pub inexact_joined : (left right : Option (Site × ℕ)) → FindsInexactIn sys s start middle left → FindsInexactIn sys s middle end right → FindsInexactIn sys s start end (option_or left right)
+  inexact_joined (Some first) right one other = one
+  inexact_joined None None one other = λ i p later from below there. elim (cases_lt i middle) [
+    | inl before ↦ one i p later from before there
+    | inr behind ↦ other i p later behind below there
+  ]
+  inexact_joined None (Some first) one other = record {
+    index = other.index;
+    place = other.place;
+    from = omega (arith, meet, other.from);
+    later = other.later;
+    there = other.there;
+    site = other.site;
+    pull = other.pull;
+    inexact = other.inexact;
+    first = λ i p later from below there. elim (cases_lt i middle) [
+      | inl before ↦ one i p later from before there
+      | inr behind ↦ other.first i p later behind below there
+    ];
+  }
+
+  pub rival_joined : (left right : Option (Site × TypeId)) → FindsRivalIn sys s start middle left → FindsRivalIn sys s middle end right → FindsRivalIn sys s start end (option_or left right)
+  rival_joined (Some first) right one other = one
+  rival_joined None None one other = λ i p t later from below there. elim (cases_lt i middle) [
+    | inl before ↦ one i p t later from before there
+    | inr behind ↦ other i p t later behind below there
+  ]
+  rival_joined None (Some first) one other = record {
+    index = other.index;
+    place = other.place;
+    from = omega (arith, meet, other.from);
+    later = other.later;
+    there = other.there;
+    site = other.site;
+    rival = other.rival;
+    first = λ i p t later from below there. elim (cases_lt i middle) [
+      | inl before ↦ one i p t later from before there
+      | inr behind ↦ other.first i p t later behind below there
+    ];
+  }
+
+-- what is found from the first place on is what is found of all
+pub inexact_whole : (sys : TileSystem) (s : List Place) (n : ℕ) (found : Option (Site × ℕ)) → FindsInexactIn sys s 0 n found → FindsInexact sys s n found
+inexact_whole sys s n None all = λ i p later below there. all i p later (omega arith) below there
+inexact_whole sys s n (Some first) finds = record {
+  index = finds.index;
+  place = finds.place;
+  later = finds.later;
+  there = finds.there;
+  site = finds.site;
+  pull = finds.pull;
+  inexact = finds.inexact;
+  first = λ i p later below there. finds.first i p later (omega arith) below there;
+}
+
+pub rival_whole : (sys : TileSystem) (s : List Place) (n : ℕ) (found : Option (Site × TypeId)) → FindsRivalIn sys s 0 n found → FindsRival sys s n found
+rival_whole sys s n None none = λ i p t later below there. none i p t later (omega arith) below there
+rival_whole sys s n (Some first) finds = record {
+  index = finds.index;
+  place = finds.place;
+  later = finds.later;
+  there = finds.there;
+  site = finds.site;
+  rival = finds.rival;
+  first = λ i p t later below there. finds.first i p t later (omega arith) below there;
+}
 
 module _ (sys : TileSystem) (s tiles : List Place) (distinct : HasDistinctSites sys.seeds) (legal : IsLegal sys s) (same : SamePlacements s tiles) where
   pub one_map : SameTiles s tiles
@@ -232,17 +304,18 @@ module _ (sys : TileSystem) (s tiles : List Place) (distinct : HasDistinctSites 
       }
 
       -- so a search finds it with one place more, if it found none before
-      pub rival_more : (found : Option (Site × TypeId)) (other : Option TypeId) → length sys.seeds ≤ i → FindsRival sys s i found → FirstHeldBut sys (glues_on sides glues) p.tile other →
-          FindsRival sys s (i + 1) (option_or found (option_map (λ t. (p.site, t)) other))
-      rival_more (Some found) other later finds first = finds
-      rival_more None None later none first = no_rival_more sys s i p there none (no_rival first)
-      rival_more None (Some t) later none first = record {
+      pub rival_more : (start : ℕ) (found : Option (Site × TypeId)) (other : Option TypeId) → start ≤ i → length sys.seeds ≤ i → FindsRivalIn sys s start i found →
+          (found ≡ None → FirstHeldBut sys (glues_on sides glues) p.tile other) → FindsRivalIn sys s start (i + 1) (option_or found (option_map (λ t. (p.site, t)) other))
+      rival_more start (Some found) other from later finds first = finds
+      rival_more start None None from later none first = no_rival_more sys s start i p there none (no_rival (first refl))
+      rival_more start None (Some t) from later none first = record {
         index = i;
         place = p;
+        from = from;
         later = later;
         there = there;
         site = refl;
-        rival = least_rival t first;
+        rival = least_rival t (first refl);
         first = none;
       }
 
@@ -254,3 +327,9 @@ exact_all sys s (Some first) none finds = absurd (none-some first none)
 pub no_rival_all : (sys : TileSystem) (s : List Place) (found : Option (Site × TypeId)) → None ≡ found → FindsRival sys s (length s) found → HasNoRivals sys s
 no_rival_all sys s None none finds = λ i p t later there. finds i p t later (slice_get_within s i p there) there
 no_rival_all sys s (Some first) none finds = absurd (none-some first none)
+
+-- where none is found with one place more, there was none before, nor one here
+pub none_so_far : (m : Site) (found : Option (Site × TypeId)) (other : Option TypeId) → option_or found (option_map (λ t. (m, t)) other) ≡ None → (found ≡ None) × (other ≡ None)
+none_so_far m None None none = (refl, refl)
+none_so_far m None (Some t) none = absurd (none-some (m, t) (sym none))
+none_so_far m (Some first) other none = absurd (none-some first (sym none))

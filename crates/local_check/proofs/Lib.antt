@@ -5,3 +5,4 @@ pub mod Sides
 pub mod Judging
 pub mod PlaceFindings
 pub mod Standing
+pub mod StoodSites

@@ -21,7 +21,7 @@ use Rattle.local_check.specs.Inner.Sides.{bound_sides, intersection, difference,
 use Rattle.local_check.proofs.Sites.{slice_get-set, slice_get-apart}
 use Rattle.local_check.specs.declared.findings.Finding.{Finding}
 use Rattle.local_check.specs.declared.findings.Known.{Known}
-use Rattle.local_check.specs.Inner.PlaceFindings.{IsFinding, IsKnown}
+use Rattle.local_check.specs.Inner.PlaceFindings.{IsFinding, IsKnown, FindingTable, ArePlaceFindings}
 
 abbrev pub none_set : SideSet
 none_set = record { north = false; east = false; south = false; west = false }
@@ -40,15 +40,15 @@ same_facing sys tiles m f g faces_f faces_g = λ k. record {
 }
 
 -- one more that is known
-pub known_set : (sys : TileSystem) (last : List Known) (t : TypeId) (f : Known) → t.0 < length last →
-    ((u : TypeId) (g : Known) → slice_get last u.0 ≡ Some g → IsKnown sys u g) → IsKnown sys t f →
-    (u : TypeId) (g : Known) → slice_get (set last t.0 f) u.0 ≡ Some g → IsKnown sys u g
-known_set sys last t f within each here u g at = elim (cases_eq u.0 t.0) [
+pub known_set : (sys : TileSystem) (seeks : Bool) (last : List Known) (t : TypeId) (f : Known) → t.0 < length last →
+    ((u : TypeId) (g : Known) → slice_get last u.0 ≡ Some g → IsKnown sys seeks u g) → IsKnown sys seeks t f →
+    (u : TypeId) (g : Known) → slice_get (set last t.0 f) u.0 ≡ Some g → IsKnown sys seeks u g
+known_set sys seeks last t f within each here u g at = elim (cases_eq u.0 t.0) [
   | inl same ↦
       let type_is : t ≡ u = λ k. record { 0 = sym same k } in
       let At : ℕ → Type 0 = λ j. slice_get (set last t.0 f) j ≡ Some g in
       let value : f ≡ g = same_Some f g (sym (slice_get-set last t.0 f within) ∙ subst At same at) in
-      subst (λ (h : Known). IsKnown sys u h) value (subst (λ (v : TypeId). IsKnown sys v f) type_is here)
+      subst (λ (h : Known). IsKnown sys seeks u h) value (subst (λ (v : TypeId). IsKnown sys seeks v f) type_is here)
   | inr other ↦ each u g (slice_get-apart last t.0 u.0 f g other at)
 ]
 
@@ -82,13 +82,13 @@ module _ (sys : TileSystem) (tiles : List Place) (m : Site) (t : TypeId) (glues 
     west = on_none sides.west g.west (faces_g.west ∙ sym faces.west ∙ unfaced.west);
   }
 
-  pub nothing_found : (before : SideSet) (f : Finding) → 1 ≤ sys.tau → before ≡ none_set → f.earlier ≡ none_set → f.outputs ≡ none_set → f.sum ≡ 0 → f.rival ≡ None →
-      IsFinding sys tiles m t before f
-  nothing_found before f some_tau stood earlier outputs sum rival = record {
+  pub nothing_found : (before : SideSet) (seeks : Bool) (f : Finding) → 1 ≤ sys.tau → before ≡ none_set → f.earlier ≡ none_set → f.outputs ≡ none_set → f.sum ≡ 0 → f.rival ≡ None →
+      IsFinding sys tiles m t before seeks f
+  nothing_found before seeks f some_tau stood earlier outputs sum rival = record {
     earlier = earlier ∙ (λ k. intersection (none_bound k) (sym stood k));
     outputs = outputs ∙ (λ k. difference (none_bound k) (sym stood k));
     sum = sum ∙ ap (λ sides. pull_on sys tiles m t sides) (sym stood);
-    rival = λ g faces_g.
+    rival = λ _ g faces_g.
         let kept : FacingGlues = glues_on (complement f.outputs) g in
         let none = kept_none (complement f.outputs) g faces_g in
         let Rival : Option TypeId → Type 0 = λ found. FirstHeldBut sys kept t found in
@@ -96,11 +96,24 @@ module _ (sys : TileSystem) (tiles : List Place) (m : Site) (t : TypeId) (glues 
   }
 
 -- each is known so in a list of them
-pub all_known : (sys : TileSystem) (last : List Known) (n : ℕ) (f : Known) → last ≡ replicate n f → ((t : TypeId) → IsKnown sys t f) →
-    (t : TypeId) (g : Known) → slice_get last t.0 ≡ Some g → IsKnown sys t g
-all_known sys last n f are each t g at =
+pub all_known : (sys : TileSystem) (seeks : Bool) (last : List Known) (n : ℕ) (f : Known) → last ≡ replicate n f → ((t : TypeId) → IsKnown sys seeks t f) →
+    (t : TypeId) (g : Known) → slice_get last t.0 ≡ Some g → IsKnown sys seeks t g
+all_known sys seeks last n f are each t g at =
     let At : List Known → Type 0 = λ l. slice_get l t.0 ≡ Some g in
     let there = subst At are at in
     let within : t.0 < n = omega (arith, slice_get_within (replicate n f) t.0 g there, length-replicate n f) in
     let value : f ≡ g = sym (get_or-replicate n t.0 f f within) ∙ get_or_from_slice_get (replicate n f) t.0 g f there in
-    subst (λ (h : Known). IsKnown sys t h) value (each t)
+    subst (λ (h : Known). IsKnown sys seeks t h) value (each t)
+
+-- where no more rivals are sought, what was found is still known
+pub known_unsought : (sys : TileSystem) (seeks : Bool) (t : TypeId) (f : Known) → IsKnown sys seeks t f → IsKnown sys false t f
+known_unsought sys seeks t f known tiles m glues faces of_glues =
+    let is = known tiles m glues faces of_glues in
+    record { earlier = is.earlier; outputs = is.outputs; sum = is.sum; rival = λ sought. cc sought }
+
+pub all_unsought : (sys : TileSystem) (table : FindingTable) → ArePlaceFindings sys table → ArePlaceFindings sys (record { last = table.last; cache = table.cache; seeks = false })
+all_unsought sys table are = record {
+  count = are.count;
+  each = λ t f at. known_unsought sys table.seeks t f (are.each t f at);
+  cache = are.cache;
+}

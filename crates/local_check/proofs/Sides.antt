@@ -1,5 +1,5 @@
 -- Input and output sides, by bonds.
-use Rattle.std.proofs.Common.{◌≡◌, ◌≢◌, ◌⊎◌, ◌<◌, ◌≤◌, ◌+◌, ◌++◌, ℕ, zero, suc, Bool, true, false, not, ◌&&◌, nat_lt, nat_le, max, List, [], ◌∷◌, length, length-append, take, set, Option, Some, None, slice_get, is_some, refl, sym, ◌∙◌, ap, subst, inl, inr, arith}
+use Rattle.std.proofs.Common.{◌≡◌, ◌≢◌, ◌⊎◌, ◌<◌, ◌≤◌, ◌+◌, ◌++◌, ℕ, zero, suc, Bool, true, false, not, ◌&&◌, nat_lt, nat_le, max, List, [], ◌∷◌, length, length-append, take, Option, Some, None, slice_get, refl, sym, ◌∙◌, ap, subst, inl, inr, arith}
 use Rattle.std.proofs.lemmas.Int.{ints}
 use Rattle.std.proofs.lemmas.Bool.{cases_lt}
 use Rattle.std.proofs.lemmas.Bool.Decides.{nat_tests}
@@ -28,10 +28,10 @@ use Rattle.attach_rule.specs.declared.facing.FacingGlues.{FacingGlues}
 use Rattle.attach_rule.specs.Bonds.{AreBonds}
 use Rattle.attach_rule.specs.Facing.{FacesSite}
 use Rattle.local_check.specs.Judgement.{FindsInexact, FindsRival}
-use Rattle.local_check.specs.Inner.Sides.{bond_if, sum_on, pull_on, bound_by, bound_sides, difference, complement, sides_beside, AreBeforeAt, AreEarlierBelow, AreBeforeFrom, AreOutputsBelow, AreEarlierSides, AreOutputSides}
+use Rattle.local_check.specs.Inner.Sides.{bond_if, sum_on, pull_on, bound_by, bound_sides, difference, complement, AreEarlierFrom, AreOutputsFrom}
 use Rattle.atam.proofs.Opening.{bond-beside}
 use Rattle.atam.proofs.Tiles.{SameTiles}
-use Rattle.local_check.proofs.Sites.{slice_get-some, slice_get-set, slice_get-apart, distinct-take}
+use Rattle.local_check.proofs.Sites.{slice_get-some, distinct-take}
 
 pub has-bound : (sys : TileSystem) (tiles : List Place) (m : Site) (t : TypeId) (d : Side) → has (bound_sides sys tiles m t) d ≡ nat_lt 0 (bond sys tiles m t d)
 has-bound sys tiles m t North = refl
@@ -188,14 +188,6 @@ bound_sides-same sys a b m t same =
     let at : (d : Side) → bond sys a m t d ≡ bond sys b m t d = λ d. bond-beside sys a b m t d (same (neighbor m d)) in
     λ k. record { north = nat_lt 0 (at North k); east = nat_lt 0 (at East k); south = nat_lt 0 (at South k); west = nat_lt 0 (at West k) }
 
-pub sides_beside-same : (a b : List Place) (m : Site) → SameTiles a b → sides_beside a m ≡ sides_beside b m
-sides_beside-same a b m same = λ k. record {
-  north = is_some (same (neighbor m North) k);
-  east = is_some (same (neighbor m East) k);
-  south = is_some (same (neighbor m South) k);
-  west = is_some (same (neighbor m West) k);
-}
-
 -- an element of a list with one more element, by its index
 push_at : {A : Type 0} (s : List A) (x : A) (k : ℕ) (y : A) → slice_get (s ++ x ∷ []) k ≡ Some y → (slice_get s k ≡ Some y) ⊎ ((x ≡ y) × (k ≡ length s))
 push_at [] x zero y e = inr (same_Some x y e, refl)
@@ -206,44 +198,48 @@ push_at (a ∷ s) x (suc k) y e = elim (push_at s x k y e) [ inl h ↦ inl h | i
 pub length-push : {A : Type 0} (s : List A) (x : A) → length (s ++ x ∷ []) ≡ length s + 1
 length-push s x = length-append s (x ∷ [])
 
-module _ (sys : TileSystem) (s : List Place) (sets : List SideSet) (p : Place) (x : SideSet) (there : slice_get s (length sets) ≡ Some p) where
-  pub before_more : AreBeforeAt sys s sets → x ≡ sides_beside (take (max (length sys.seeds) (length sets)) s) p.site → AreBeforeAt sys s (sets ++ x ∷ [])
-  before_more each last k q sides at_k found = elim (push_at sets x k sides found) [
+-- one set more is that of the sides that interact, or of the output sides
+module _ (sys : TileSystem) (s : List Place) (start : ℕ) (sets : List SideSet) (x : SideSet) where
+  pub earlier_more : (p : Place) → slice_get s (start + length sets) ≡ Some p → AreEarlierFrom sys s start sets →
+      x ≡ bound_sides sys (take (max (length sys.seeds) (start + length sets)) s) p.site p.tile → AreEarlierFrom sys s start (sets ++ x ∷ [])
+  earlier_more p there each last k q sides at_k found = elim (push_at sets x k sides found) [
     | inl old ↦ each k q sides at_k old
     | inr new ↦
-        let At : ℕ → Type 0 = λ j. slice_get s j ≡ Some q in
+        let At : ℕ → Type 0 = λ j. slice_get s (start + j) ≡ Some q in
         let one : p ≡ q = same_Some p q (sym there ∙ subst At new.1 at_k) in
-        sym new.0 ∙ last ∙ (λ i. sides_beside (take (max (length sys.seeds) (sym new.1 i)) s) (one i).site)
+        sym new.0 ∙ last ∙ (λ i. bound_sides sys (take (max (length sys.seeds) (start + sym new.1 i)) s) (one i).site (one i).tile)
   ]
 
--- one set more is that of the sides that interact
-module _ (sys : TileSystem) (s : List Place) (sets : List SideSet) (i : ℕ) (p : Place) (x : SideSet) (there : slice_get s i ≡ Some p) (within : i < length sets) where
-  pub earlier_set : AreEarlierBelow sys s i sets → x ≡ bound_sides sys (take (max (length sys.seeds) i) s) p.site p.tile → AreEarlierBelow sys s (i + 1) (set sets i x)
-  earlier_set each here k q sides below at_k found = elim (cases_lt k i) [
-    | inl less ↦ each k q sides less at_k (slice_get-apart sets i k x sides (λ same. let never : ⊥ = omega (arith, less, same) in never) found)
-    | inr more ↦
-        let same : i ≡ k = omega (arith, below, more) in
-        let At : ℕ → Type 0 = λ j. slice_get s j ≡ Some q in
-        let Found : ℕ → Type 0 = λ j. slice_get (set sets i x) j ≡ Some sides in
-        let one : p ≡ q = same_Some p q (sym there ∙ subst At (sym same) at_k) in
-        let value : x ≡ sides = same_Some x sides (sym (slice_get-set sets i x within) ∙ subst Found (sym same) found) in
-        sym value ∙ here ∙ (λ j. bound_sides sys (take (max (length sys.seeds) (same j)) s) (one j).site (one j).tile)
+  pub outputs_more : AreOutputsFrom sys s start sets → ((d : Side) → has x d ≡ is_output sys s (start + length sets) d) → AreOutputsFrom sys s start (sets ++ x ∷ [])
+  outputs_more each last k sides found d = elim (push_at sets x k sides found) [
+    | inl old ↦ each k sides old d
+    | inr new ↦ ap (λ a. has a d) (sym new.0) ∙ last d ∙ ap (λ j. is_output sys s (start + j) d) (sym new.1)
   ]
 
-  pub before_set : AreBeforeFrom sys s i sets → AreBeforeFrom sys s (i + 1) (set sets i x)
-  before_set each k q sides later at_k found =
-      each k q sides (omega (arith, later)) at_k (slice_get-apart sets i k x sides (λ same. let never : ⊥ = omega (arith, later, same) in never) found)
+-- an element of two lists, one behind the other
+joined_at : {A : Type 0} (xs ys : List A) (k : ℕ) (y : A) → slice_get (xs ++ ys) k ≡ Some y → (slice_get xs k ≡ Some y) ⊎ ((j : ℕ) × (k ≡ length xs + j) × (slice_get ys j ≡ Some y))
+joined_at [] ys k y e = inr (k, omega arith, e)
+joined_at (x ∷ xs) ys zero y e = inl e
+joined_at (x ∷ xs) ys (suc k) y e = elim (joined_at xs ys k y e) [ inl h ↦ inl h | inr h ↦ inr (h.0, omega (arith, h.1), h.2) ]
 
-pub outputs_set : (sys : TileSystem) (s : List Place) (sets : List SideSet) (i : ℕ) (x : SideSet) → i < length sets → AreOutputsBelow sys s i sets →
-    ((d : Side) → has x d ≡ is_output sys s i d) → AreOutputsBelow sys s (i + 1) (set sets i x)
-outputs_set sys s sets i x within each here k sides below found d = elim (cases_lt k i) [
-  | inl less ↦ each k sides less (slice_get-apart sets i k x sides (λ same. let never : ⊥ = omega (arith, less, same) in never) found) d
-  | inr more ↦
-      let same : i ≡ k = omega (arith, below, more) in
-      let Found : ℕ → Type 0 = λ j. slice_get (set sets i x) j ≡ Some sides in
-      let value : x ≡ sides = same_Some x sides (sym (slice_get-set sets i x within) ∙ subst Found (sym same) found) in
-      ap (λ a. has a d) (sym value) ∙ here d ∙ ap (λ j. is_output sys s j d) same
-]
+-- the sets of two ranges, of which the one begins where the other ends
+module _ (sys : TileSystem) (s : List Place) (start middle : ℕ) (left right : List SideSet) (meet : start + length left ≡ middle) where
+  pub earlier_joined : AreEarlierFrom sys s start left → AreEarlierFrom sys s middle right → AreEarlierFrom sys s start (left ++ right)
+  earlier_joined one other k p sides at_k found = elim (joined_at left right k sides found) [
+    | inl in_left ↦ one k p sides at_k in_left
+    | inr behind ↦
+        let index : start + k ≡ middle + behind.0 = omega (arith, behind.1, meet) in
+        let At : ℕ → Type 0 = λ i. slice_get s i ≡ Some p in
+        other behind.0 p sides (subst At index at_k) behind.2 ∙ ap (λ i. bound_sides sys (take (max (length sys.seeds) i) s) p.site p.tile) (sym index)
+  ]
+
+  pub outputs_joined : AreOutputsFrom sys s start left → AreOutputsFrom sys s middle right → AreOutputsFrom sys s start (left ++ right)
+  outputs_joined one other k sides found d = elim (joined_at left right k sides found) [
+    | inl in_left ↦ one k sides in_left d
+    | inr behind ↦
+        let index : start + k ≡ middle + behind.0 = omega (arith, behind.1, meet) in
+        other behind.0 sides behind.2 d ∙ ap (λ i. is_output sys s i d) (sym index)
+  ]
 
 -- the output sides of one place
 pub output_here : (sys : TileSystem) (s : List Place) (distinct : HasDistinctSites sys.seeds) (legal : IsLegal sys s) (i : ℕ) (p : Place) → slice_get s i ≡ Some p →
@@ -262,23 +258,28 @@ has_at-some sets i x d there = rw there refl
 
 -- the table of a sequence
 module _ (sys : TileSystem) (s tiles : List Place) (earlier outputs : List SideSet) (distinct : HasDistinctSites sys.seeds) (legal : IsLegal sys s) where
-  pub table : AreEarlierSides sys s earlier → AreOutputSides sys s outputs → SamePlacements s tiles → (seeds : ℕ) → seeds ≡ length sys.seeds →
+  pub table : length earlier ≡ length s → length outputs ≡ length s → AreEarlierFrom sys s 0 earlier → AreOutputsFrom sys s 0 outputs → SamePlacements s tiles → (seeds : ℕ) → seeds ≡ length sys.seeds →
       (index : TypeLists) → IsIndexOf sys index →
       (inexact : Option (Site × ℕ)) → FindsInexact sys s (length s) inexact → (rival : Option (Site × TypeId)) → FindsRival sys s (length s) rival →
       AreSidesOf sys s (record { tiles = tiles; seeds = seeds; earlier = earlier; outputs = outputs; index = index; inexact = inexact; rival = rival })
-  table are_earlier are_outputs same seeds is_count index is_index inexact is_inexact rival is_rival = record {
+  table earlier_count output_count are_earlier are_outputs same seeds is_count index is_index inexact is_inexact rival is_rival = record {
     same = same;
-    count = are_outputs.count;
+    count = output_count;
     inputs = λ i d within.
         let p = slice_get-some s i within in
-        let x = slice_get-some earlier i (omega (arith, within, are_earlier.count)) in
+        let x = slice_get-some earlier i (omega (arith, within, earlier_count)) in
+        let index : 0 + i ≡ i = omega arith in
+        let At : ℕ → Type 0 = λ j. slice_get s j ≡ Some p.0 in
         let value : has x.0 d ≡ nat_lt 0 (earlier_bond sys s i p.0 d) =
-        ap (λ a. has a d) (are_earlier.each i p.0 x.0 p.1 x.1) ∙ has-bound sys (take (max (length sys.seeds) i) s) p.0.site p.0.tile d
+        ap (λ a. has a d) (are_earlier i p.0 x.0 (subst At (sym index) p.1) x.1)
+        ∙ ap (λ j. has (bound_sides sys (take (max (length sys.seeds) j) s) p.0.site p.0.tile) d) index
+        ∙ has-bound sys (take (max (length sys.seeds) i) s) p.0.site p.0.tile d
         in
         (λ k. nat_le (is_count k) i && (has_at-some earlier i x.0 d x.1 ∙ value) k) ∙ sym (input_by_bond sys s distinct legal i p.0 p.1 d);
     outputs = λ i d within.
-        let x = slice_get-some outputs i (omega (arith, within, are_outputs.count)) in
-        has_at-some outputs i x.0 d x.1 ∙ are_outputs.each i x.0 x.1 d;
+        let x = slice_get-some outputs i (omega (arith, within, output_count)) in
+        let index : 0 + i ≡ i = omega arith in
+        has_at-some outputs i x.0 d x.1 ∙ are_outputs i x.0 x.1 d ∙ ap (λ j. is_output sys s j d) index;
     index = is_index;
     inexact = is_inexact;
     rival = is_rival;

@@ -11,9 +11,7 @@ use Rattle.atam.specs.TileSystem.{TileSystem}
 use Rattle.atam.specs.Assembly.{bond, pull}
 use Rattle.atam.proofs.Bonds.{bond_is, bond-none}
 use Rattle.atam.proofs.Placements.{Extends}
-use Rattle.tile_system.specs.declared.placed.Beside.{Beside}
-use Rattle.tile_system.specs.Neighbors.{StandBeside}
-use Rattle.local_check.specs.Inner.Sides.{bound_sides, standing, intersection, difference, bond_if, pull_on}
+use Rattle.local_check.specs.Inner.Sides.{bound_sides, sides_beside, intersection, difference, bond_if, pull_on}
 
 in_both : (on : Bool) (w : ℕ) → (nat_lt 0 w && on) ≡ nat_lt 0 (bond_if on w)
 in_both true w = elim (nat_lt 0 w) as (λ b. (b && true) ≡ b) [ true ↦ refl | false ↦ refl ]
@@ -23,46 +21,36 @@ in_whole_alone : (on : Bool) (w : ℕ) → (nat_lt 0 w && not on) ≡ (nat_lt 0 
 in_whole_alone true w = elim (nat_lt 0 w) as (λ b. (b && false) ≡ (b && not b)) [ true ↦ refl | false ↦ refl ]
 in_whole_alone false w = refl
 
-module _ (sys : TileSystem) (part whole : List Place) (extends : Extends part whole) (m : Site) (t : TypeId) (beside : Beside) (stand : StandBeside part m beside) where
-  bond_standing : (d : Side) (found : Option TypeId) → found ≡ tile_at part (neighbor m d) → bond sys part m t d ≡ bond_if (is_some found) (bond sys whole m t d)
-  bond_standing d None is = bond-none sys part m t d (sym is)
-  bond_standing d (Some u) is = bond_is sys part m t d u (sym is) ∙ sym (bond_is sys whole m t d u (extends (neighbor m d) u (sym is)))
+module _ (sys : TileSystem) (part whole : List Place) (extends : Extends part whole) (m : Site) (t : TypeId) where
+  bond_found : (d : Side) (found : Option TypeId) → tile_at part (neighbor m d) ≡ found → bond sys part m t d ≡ bond_if (is_some found) (bond sys whole m t d)
+  bond_found d None is = bond-none sys part m t d is
+  bond_found d (Some u) is = bond_is sys part m t d u is ∙ sym (bond_is sys whole m t d u (extends (neighbor m d) u is))
 
-  north : bond sys part m t North ≡ bond_if (is_some beside.north) (bond sys whole m t North)
-  north = bond_standing North beside.north stand.north
+  bond_standing : (d : Side) → bond sys part m t d ≡ bond_if (is_some (tile_at part (neighbor m d))) (bond sys whole m t d)
+  bond_standing d = bond_found d (tile_at part (neighbor m d)) refl
 
-  east : bond sys part m t East ≡ bond_if (is_some beside.east) (bond sys whole m t East)
-  east = bond_standing East beside.east stand.east
-
-  south : bond sys part m t South ≡ bond_if (is_some beside.south) (bond sys whole m t South)
-  south = bond_standing South beside.south stand.south
-
-  west : bond sys part m t West ≡ bond_if (is_some beside.west) (bond sys whole m t West)
-  west = bond_standing West beside.west stand.west
-
-  pub earlier_standing : intersection (bound_sides sys whole m t) (standing beside) ≡ bound_sides sys part m t
+  pub earlier_standing : intersection (bound_sides sys whole m t) (sides_beside part m) ≡ bound_sides sys part m t
   earlier_standing =
-      let side : (d : Side) (on : Bool) → bond sys part m t d ≡ bond_if on (bond sys whole m t d) → (nat_lt 0 (bond sys whole m t d) && on) ≡ nat_lt 0 (bond sys part m t d) =
-      λ d on is. in_both on (bond sys whole m t d) ∙ ap (nat_lt 0) (sym is)
+      let side : (d : Side) → (nat_lt 0 (bond sys whole m t d) && is_some (tile_at part (neighbor m d))) ≡ nat_lt 0 (bond sys part m t d) =
+      λ d. in_both (is_some (tile_at part (neighbor m d))) (bond sys whole m t d) ∙ ap (nat_lt 0) (sym (bond_standing d))
       in
-      let n = side North (is_some beside.north) north in
-      let e = side East (is_some beside.east) east in
-      let s = side South (is_some beside.south) south in
-      let w = side West (is_some beside.west) west in
+      let n = side North in
+      let e = side East in
+      let s = side South in
+      let w = side West in
       λ k. record { north = n k; east = e k; south = s k; west = w k }
 
-  pub outputs_standing : difference (bound_sides sys whole m t) (standing beside) ≡ difference (bound_sides sys whole m t) (bound_sides sys part m t)
+  pub outputs_standing : difference (bound_sides sys whole m t) (sides_beside part m) ≡ difference (bound_sides sys whole m t) (bound_sides sys part m t)
   outputs_standing =
-      let side : (d : Side) (on : Bool) → bond sys part m t d ≡ bond_if on (bond sys whole m t d) →
-      (nat_lt 0 (bond sys whole m t d) && not on) ≡ (nat_lt 0 (bond sys whole m t d) && not (nat_lt 0 (bond sys part m t d))) =
-      λ d on is. in_whole_alone on (bond sys whole m t d) ∙ ap (λ v. nat_lt 0 (bond sys whole m t d) && not (nat_lt 0 v)) (sym is)
+      let side : (d : Side) → (nat_lt 0 (bond sys whole m t d) && not (is_some (tile_at part (neighbor m d)))) ≡ (nat_lt 0 (bond sys whole m t d) && not (nat_lt 0 (bond sys part m t d))) =
+      λ d. in_whole_alone (is_some (tile_at part (neighbor m d))) (bond sys whole m t d) ∙ ap (λ v. nat_lt 0 (bond sys whole m t d) && not (nat_lt 0 v)) (sym (bond_standing d))
       in
-      let n = side North (is_some beside.north) north in
-      let e = side East (is_some beside.east) east in
-      let s = side South (is_some beside.south) south in
-      let w = side West (is_some beside.west) west in
+      let n = side North in
+      let e = side East in
+      let s = side South in
+      let w = side West in
       λ k. record { north = n k; east = e k; south = s k; west = w k }
 
-  pub pull_standing : pull_on sys whole m t (standing beside) ≡ pull sys part m t
+  pub pull_standing : pull_on sys whole m t (sides_beside part m) ≡ pull sys part m t
   unfolding pull
-  pull_standing = λ k. sym north k + sym east k + sym south k + sym west k
+  pull_standing = λ k. sym (bond_standing North) k + sym (bond_standing East) k + sym (bond_standing South) k + sym (bond_standing West) k

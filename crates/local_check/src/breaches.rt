@@ -1,9 +1,9 @@
 // Where a sequence first breaks a condition on its places.
-ghost use Rattle.std.specs.Prelude.{◌≡◌, ◌<◌, ◌≤◌, ◌+◌, length, take, slice_get, Some, option_map};
+ghost use Rattle.std.specs.Prelude.{◌≡◌, ◌<◌, ◌≤◌, ◌+◌, ℕ, length, take, slice_get, Some, option_map};
 ghost use Rattle.std.specs.Option.{option_or};
 ghost use Rattle.atam.specs.declared.place.Place.{Place};
 ghost use Rattle.atam.specs.Assembly.{pull};
-ghost use Rattle.local_check.specs.Judgement.{FindsInexact};
+ghost use Rattle.local_check.specs.Inner.Ranges.{FindsInexactIn};
 
 use assembly::Sequence;
 use tile_system::{Site, System, TypeId};
@@ -34,26 +34,39 @@ impl Breaches {
         rival: Option<TypeId>,
     )
         requires within { index < length seq.now }
-        ensures inexact { (place : Place) → FindsInexact sys.now seq.now index self.old.inexact
+        ensures inexact { (start : ℕ) (place : Place) → start ≤ index
+            → FindsInexactIn sys.now seq.now start index self.old.inexact
             → length sys.now.seeds ≤ index → slice_get seq.now index ≡ Some place
             → pull sys.now (take index seq.now) place.site place.tile ≡ sum
-            → FindsInexact sys.now seq.now (index + 1) self.new.inexact }
+            → FindsInexactIn sys.now seq.now start (index + 1) self.new.inexact }
         ensures rival { (place : Place) → slice_get seq.now index ≡ Some place → self.new.rival ≡
             option_or self.old.rival (option_map (λ t. (place.site, t)) rival) }
     {
-        if sum != sys.tau() || rival.is_some() {
+        if sum != sys.tau() && self.inexact.is_none() || rival.is_some() && self.rival.is_none() {
             self.note(sys, seq, index, sum, rival);
         }
     }
 
-    // The same, out of the way of the many places that break none.
+    // What was found in one range, or else in the range behind it.
+    pub(crate) fn or(self, behind: Breaches) -> Breaches
+        ensures inexact { result.inexact ≡ option_or self.inexact behind.inexact }
+        ensures rival { result.rival ≡ option_or self.rival behind.rival }
+    {
+        Breaches {
+            inexact: self.inexact.or(behind.inexact),
+            rival: self.rival.or(behind.rival),
+        }
+    }
+
+    // The same, out of the way of the many places of which nothing new is to be noted.
     #[inline(never)]
     fn note(&mut self, sys: &System, seq: &Sequence, index: usize, sum: u32, rival: Option<TypeId>)
         requires within { index < length seq.now }
-        ensures inexact { (place : Place) → FindsInexact sys.now seq.now index self.old.inexact
+        ensures inexact { (start : ℕ) (place : Place) → start ≤ index
+            → FindsInexactIn sys.now seq.now start index self.old.inexact
             → length sys.now.seeds ≤ index → slice_get seq.now index ≡ Some place
             → pull sys.now (take index seq.now) place.site place.tile ≡ sum
-            → FindsInexact sys.now seq.now (index + 1) self.new.inexact }
+            → FindsInexactIn sys.now seq.now start (index + 1) self.new.inexact }
         ensures rival { (place : Place) → slice_get seq.now index ≡ Some place → self.new.rival ≡
             option_or self.old.rival (option_map (λ t. (place.site, t)) rival) }
     {

@@ -1,21 +1,22 @@
 // What was found at places whose tiles and surroundings came before.
-ghost use Rattle.std.specs.Prelude.{◌≡◌, IfOk, IfSome, slice_get};
+ghost use Rattle.std.specs.Prelude.{◌≡◌, true, IfOk, IfNone};
 ghost use Rattle.attach_rule.specs.declared.facing.FacingGlues.{FacingGlues};
 ghost use Rattle.atam.specs.Sites.{InBox};
-ghost use Rattle.atam.specs.TileSystem.{IsType, IsValid};
+ghost use Rattle.atam.specs.TileSystem.{TileSystem, IsType, IsValid};
 ghost use Rattle.atam.specs.Assembly.{Fits};
 ghost use Rattle.attach_rule.specs.Facing.{FacesSite};
 ghost use Rattle.type_index.specs.Indexes.{IsIndexOf};
-ghost use Rattle.type_index.specs.Findings.{IsKeyOf};
-ghost use Rattle.local_check.specs.Inner.PlaceFindings.{IsFinding, ArePlaceFindings};
+ghost use Rattle.type_index.specs.HeldTypes.{FirstHeldBut};
+ghost use Rattle.type_index.specs.Findings.{AreFindings, IsKeyOf};
+ghost use Rattle.local_check.specs.Inner.PlaceFindings.{IsFinding, ArePlaceFindings, IsKept};
 
 use crate::side_set::SideSet;
 use assembly::{Grid, site_index};
-use attach_rule::{facing_bonds, glues_facing};
+use attach_rule::FacingGlues;
 use std::alloc::Global;
 use std::marker::Model;
 use tile_system::{NoMemory, Place, Side, Site, System, TypeId};
-use type_index::{FacingCache, TypeIndex, key_of_codes};
+use type_index::{FacingCache, TypeIndex, glues_of_key, key_of_codes};
 
 // What is found at a place, where tiles stood beside some sides before: the sides that interact
 // with those tiles, their pull, the other sides that interact, and the first rival.
@@ -46,10 +47,12 @@ struct Known {
 }
 
 // For each type what was found last at a place of it, so that it need not be looked up again.
+// Rivals are sought until one is found, since only the first one counts.
 #[derive(Drop)]
 pub(crate) struct Findings {
     last: Vec<Known>,
     cache: FacingCache,
+    seeks: bool,
 }
 
 impl Model for Findings {
@@ -57,12 +60,13 @@ impl Model for Findings {
 
     ghost Value = { FindingTable };
 
-    ghost view = { λ f. record { last = f.last.items; cache = f.cache } };
+    ghost view = { λ f. record { last = f.last.items; cache = f.cache; seeks = f.seeks } };
 }
 
 impl Findings {
     pub(crate) fn make(alloc: Global, sys: &System) -> Result<Findings, NoMemory>
-        ensures { IfOk result (ArePlaceFindings sys.now) }
+        ensures known { IfOk result (ArePlaceFindings sys.now) }
+        ensures seeks { IfOk result (λ findings. findings.seeks ≡ true) }
     {
         let _valid = sys.tau();
         let none = Known {
@@ -73,7 +77,20 @@ impl Findings {
         Ok(Findings {
             last: Vec::from_elem(alloc, none, sys.type_count() as usize)?,
             cache: FacingCache::make(alloc, sys)?,
+            seeks: true,
         })
+    }
+
+    // Once a rival is found, no further one is sought.
+    #[inline(always)]
+    pub(crate) fn stop_after(&mut self, rival: Option<TypeId>)
+        ensures known { (sys : TileSystem) → ArePlaceFindings sys self.old
+            → ArePlaceFindings sys self.new }
+        ensures seeks { IfNone rival (self.new.seeks ≡ self.old.seeks) }
+    {
+        if rival.is_some() {
+            self.seeks = false;
+        }
     }
 
     // What is found at a place, in the grid of all of them.
@@ -93,8 +110,9 @@ impl Findings {
         requires kind { IsType sys.now place.tile }
         requires inside { InBox whole.now.area place.site }
         ensures finding { IsFinding sys.now whole.now.tiles place.site place.tile
-            before.now result }
+            before.now self.old.seeks result }
         ensures known { ArePlaceFindings sys.now self.new }
+        ensures seeks { self.new.seeks ≡ self.old.seeks }
     {
         let Place { site, tile } = place;
         let key = key_inside(sys, types, whole, site);
@@ -102,41 +120,26 @@ impl Findings {
         if last.key == key && last.before.is_same(before) {
             return last.finding;
         }
-        self.find(sys, types, whole, site, tile, *before, key);
+        self.find(sys, types, tile, *before, key);
         self.last[tile.0 as usize].finding
     }
 
-    // Finds it anew, and keeps it. It looks up the glues once more, so that the caller holds only
-    // their key.
+    // Finds it anew, from the key of the glues alone, and keeps it.
     #[inline(never)]
-    fn find(
-        &mut self,
-        sys: &System,
-        types: &TypeIndex,
-        whole: &Grid,
-        site: Site,
-        tile: TypeId,
-        before: SideSet,
-        key: u64,
-    )
+    fn find(&mut self, sys: &System, types: &TypeIndex, tile: TypeId, before: SideSet, key: u64)
         requires known { ArePlaceFindings sys.now self.old }
         requires index { IsIndexOf sys.now types.now }
-        requires fits { Fits sys.now whole.now.tiles }
         requires kind { IsType sys.now tile }
-        requires inside { InBox whole.now.area site }
-        requires key { (glues : FacingGlues) → FacesSite sys.now whole.now.tiles site glues
-            → IsKeyOf glues key }
-        ensures finding { IfSome (slice_get self.new.last tile.0)
-            (λ known. IsFinding sys.now whole.now.tiles site tile before known.finding) }
         ensures known { ArePlaceFindings sys.now self.new }
+        ensures kept { IsKept self.new tile key before }
+        ensures seeks { self.new.seeks ≡ self.old.seeks }
     {
-        let _area = whole.area();
-        let glues = glues_facing(sys, whole, site);
-        let bonds = facing_bonds(sys, &glues, tile);
+        let glues = glues_of_key(key);
+        let bonds = types.bonds(sys, &glues, tile);
         let bound = SideSet::bound_by(&bonds);
         let outputs = bound.without(before);
         let kept = outputs.complement().glues_on(&glues);
-        let rival = self.cache.found(sys, types, &kept).other_than(tile);
+        let rival = self.rival(sys, types, &kept, tile);
         let finding = Finding {
             earlier: bound.within(before),
             sum: before.sum_on(&bonds),
@@ -148,6 +151,27 @@ impl Findings {
             before,
             finding,
         };
+    }
+
+    // The first type other than this one that the glues hold, if rivals are sought.
+    fn rival(
+        &mut self,
+        sys: &System,
+        types: &TypeIndex,
+        kept: &FacingGlues,
+        tile: TypeId,
+    ) -> Option<TypeId>
+        requires known { AreFindings sys.now self.old.cache }
+        requires index { IsIndexOf sys.now types.now }
+        ensures rival { self.old.seeks ≡ true → FirstHeldBut sys.now kept.now tile result }
+        ensures known { AreFindings sys.now self.new.cache }
+        ensures last { self.new.last ≡ self.old.last }
+        ensures seeks { self.new.seeks ≡ self.old.seeks }
+    {
+        if !self.seeks {
+            return None;
+        }
+        self.cache.found(sys, types, kept).other_than(tile)
     }
 }
 

@@ -8,10 +8,11 @@ mod laws;
 mod place_sides;
 mod side_set;
 mod side_table;
+mod stood_sites;
 mod survey;
 mod verdict;
 
 pub use judgement::judge;
 pub use laws::{law_one_verdict, law_yes};
-pub use side_table::{SideSets, inputs};
+pub use side_table::{SideSets, inputs, inputs_by};
 pub use verdict::Verdict;

@@ -4,11 +4,11 @@ ghost use Rattle.atam.specs.declared.limits.TheConstants.{MOST_STRENGTH};
 ghost use Rattle.attach_rule.specs.Bonds.{AreStrengths};
 ghost use Rattle.local_check.specs.SideSets.{has};
 ghost use Rattle.local_check.specs.Inner.SideBits.{set_of};
-ghost use Rattle.local_check.specs.Inner.Sides.{bound_by, standing, intersection, difference, complement, bond_if, sum_on, glues_on};
+ghost use Rattle.local_check.specs.Inner.Sides.{bound_by, intersection, difference, complement, bond_if, sum_on, glues_on};
 
 use attach_rule::{FacingGlues, Strengths};
 use std::marker::Model;
-use tile_system::{Beside, Side};
+use tile_system::Side;
 
 // The sides of a tile that something holds of, with a bit for each side.
 #[derive(Clone, Copy)]
@@ -56,7 +56,7 @@ impl SideSet {
 
     // The sides for which it holds.
     #[inline(always)]
-    fn of(north: bool, east: bool, south: bool, west: bool) -> SideSet
+    pub(crate) fn of(north: bool, east: bool, south: bool, west: bool) -> SideSet
         ensures { result ≡ record { north = north; east = east; south = south; west = west } }
     {
         SideSet {
@@ -74,19 +74,6 @@ impl SideSet {
             bonds.east > 0,
             bonds.south > 0,
             bonds.west > 0,
-        )
-    }
-
-    // The sides beside which there is a tile.
-    #[inline(always)]
-    pub(crate) fn standing(beside: &Beside) -> SideSet
-        ensures { result ≡ standing beside.now }
-    {
-        SideSet::of(
-            beside.north.is_some(),
-            beside.east.is_some(),
-            beside.south.is_some(),
-            beside.west.is_some(),
         )
     }
 

@@ -1,24 +1,28 @@
 // The input and output sides of the places of a sequence.
-ghost use Rattle.std.specs.Prelude.{◌≡◌, ◌<◌, length, IfOk};
+ghost use Rattle.std.specs.Prelude.{◌≡◌, ◌<◌, ◌≤◌, List, length, IfOk};
+ghost use Rattle.atam.specs.declared.place.Place.{Place};
 ghost use Rattle.atam.specs.declared.site.Side.{Side};
+ghost use Rattle.atam.specs.Placements.{SamePlacements};
 ghost use Rattle.atam.specs.Assembly.{Fits};
 ghost use Rattle.atam.specs.Growth.{IsLegal};
+ghost use Rattle.local_check.specs.Inner.Surveys.{CanSurvey, IsSurvey};
 ghost use Rattle.local_check.specs.SideSets.{has, input_at, output_at, AreSidesOf};
 
 use crate::place_sides::PlaceSides;
 use crate::side_set::SideSet;
-use crate::survey::{Stand, Survey, put_places, survey_places};
+use crate::survey::{Survey, survey_by, survey_range};
 use assembly::{Grid, Sequence};
 use std::alloc::Global;
 use std::marker::Model;
+use std::thread::Threads;
 use tile_system::{Beside, NoMemory, Placed, Side, Site, System, TypeId};
 use type_index::TypeIndex;
 
-/// The input and output sides of each place of a sequence, a grid of its places, an index of the
+/// The input and output sides of each place of a sequence, the grid of its places, an index of the
 /// system's types, and where the sequence first breaks a condition on its places.
 #[derive(Drop)]
-pub struct SideSets {
-    grid: Grid,
+pub struct SideSets<'a> {
+    grid: &'a Grid,
     seed_count: usize,
     sides: Vec<PlaceSides>,
     index: TypeIndex,
@@ -26,14 +30,14 @@ pub struct SideSets {
     rival: Option<(Site, TypeId)>,
 }
 
-impl Model for SideSets {
+impl<'a> Model for SideSets<'a> {
     ghost use Rattle.local_check.specs.SideSets.{SideTable};
     ghost use Rattle.local_check.specs.Inner.PlaceSides.{earlier_sets, output_sets};
 
     ghost Value = { SideTable };
 
     ghost view = { λ s. record {
-      tiles = s.grid.tiles;
+      tiles = s.grid.now.tiles;
       seeds = s.seed_count;
       earlier = earlier_sets s.sides.items;
       outputs = output_sets s.sides.items;
@@ -43,7 +47,7 @@ impl Model for SideSets {
     } };
 }
 
-impl SideSets {
+impl<'a> SideSets<'a> {
     /// Whether the side interacts with a tile placed before; a seed has no input sides.
     pub fn input(&self, i: usize, side: Side) -> bool
         requires { i < length self.now.outputs }
@@ -94,7 +98,7 @@ impl SideSets {
     }
 }
 
-impl Placed for SideSets {
+impl<'a> Placed for SideSets<'a> {
     ghost placements = { λ s. s.tiles };
 
     fn at(&self, site: Site) -> Option<TypeId> {
@@ -107,23 +111,64 @@ impl Placed for SideSets {
 }
 
 /// The sides of the places of a legal sequence, with the first place that isn't held exactly and
-/// the first rival, in memory for a grid over the box and for an index of the types, and a byte for
-/// each place. Its time grows with the number of places and with the number of sites of the box.
-pub fn inputs(alloc: Global, sys: &System, seq: &Sequence) -> Result<SideSets, NoMemory>
+/// the first rival, by the grid of all its places. It takes memory for an index of the types, and a
+/// byte for each place and for each site of the box. Its time grows with the number of places and
+/// with the number of sites of the box.
+pub fn inputs<'a>(
+    alloc: Global,
+    sys: &System,
+    seq: &Sequence,
+    grid: &'a Grid,
+) -> Result<SideSets<'a>, NoMemory>
     requires legal { IsLegal sys.now seq.now }
     requires fits { Fits sys.now seq.now }
+    requires area { grid.now.area ≡ sys.now.area }
+    requires placements { SamePlacements seq.now grid.now.tiles }
     ensures { IfOk result (AreSidesOf sys.now seq.now) }
 {
     let _valid = sys.tau();
-    let Stand { grid, before } = put_places(alloc, sys, seq)?;
     let index = TypeIndex::build(alloc, sys)?;
-    let Survey { sides, breaches } = survey_places(alloc, sys, seq, &grid, before, &index)?;
-    Ok(SideSets {
+    let survey = survey_range(alloc, sys, seq, grid, &index, 0, seq.len())?;
+    Ok(table(sys, grid, index, survey))
+}
+
+/// The same by so many workers, each of which looks at a range of the places, in a thread of its own
+/// but one. The answer is the same for any number of them. Each takes memory of its own, but for the
+/// index of the types.
+pub fn inputs_by<'a, R: Threads + Sync>(
+    rt: &R,
+    alloc: Global,
+    sys: &System,
+    seq: &Sequence,
+    grid: &'a Grid,
+    workers: u32,
+) -> Result<SideSets<'a>, NoMemory>
+    requires some { 1 ≤ workers }
+    requires few { workers ≤ 16 }
+    requires legal { IsLegal sys.now seq.now }
+    requires fits { Fits sys.now seq.now }
+    requires area { grid.now.area ≡ sys.now.area }
+    requires placements { SamePlacements seq.now grid.now.tiles }
+    ensures { IfOk result (AreSidesOf sys.now seq.now) }
+{
+    let _valid = sys.tau();
+    let index = TypeIndex::build(alloc, sys)?;
+    let survey = survey_by(rt, alloc, sys, seq, grid, &index, 0, seq.len(), workers)?;
+    Ok(table(sys, grid, index, survey))
+}
+
+// What was found of all places, with the grid and the index that it was found by.
+fn table<'a>(sys: &System, grid: &'a Grid, index: TypeIndex, survey: Survey) -> SideSets<'a>
+    ensures { (s : List Place) → CanSurvey sys.now s grid.now index →
+        IsSurvey sys.now s 0 (length s) survey → AreSidesOf sys.now s result }
+{
+    let Survey { sides, breaches } = survey;
+    SideSets {
         grid,
         seed_count: sys.seeds().len(),
         sides,
         index,
         inexact: breaches.inexact,
         rival: breaches.rival,
-    })
+    }
 }

@@ -1,106 +1,141 @@
 // One look at each place of a sequence: its sides, whether it is held exactly, and its rivals.
-ghost use Rattle.std.specs.Prelude.{◌≡◌, length, IfOk};
-ghost use Rattle.atam.specs.Placements.{SamePlacements};
-ghost use Rattle.atam.specs.TileSystem.{IsValid};
-ghost use Rattle.atam.specs.Assembly.{Fits};
-ghost use Rattle.atam.specs.Sites.{InBox};
-ghost use Rattle.atam.specs.Growth.{IsLegal};
-ghost use Rattle.type_index.specs.Indexes.{IsIndexOf};
-ghost use Rattle.local_check.specs.Judgement.{FindsInexact, FindsRival};
-ghost use Rattle.local_check.specs.Inner.PlaceSides.{earlier_sets, output_sets};
-ghost use Rattle.local_check.specs.Inner.Sides.{AreEarlierSides, AreOutputSides, AreSidesBefore, sides_beside};
+ghost use Rattle.std.specs.Prelude.{◌≡◌, ◌≤◌, ◌+◌, ◌-◌, ℕ, List, length, IfOk};
+ghost use Rattle.std.specs.Thread.{IsSync};
+ghost use Rattle.atam.specs.declared.place.Place.{Place};
+ghost use Rattle.atam.specs.TileSystem.{TileSystem};
+ghost use Rattle.local_check.specs.Inner.Surveys.{CanSurvey, IsSurvey};
 
 use crate::breaches::Breaches;
 use crate::findings::Findings;
 use crate::place_sides::PlaceSides;
-use crate::side_set::SideSet;
-use assembly::{Grid, Sequence, put_seeds, site_index};
+use crate::stood_sites::StoodSites;
+use assembly::{Grid, Sequence, site_index};
 use std::alloc::Global;
-use tile_system::{NoMemory, Site, System};
+use std::thread::{self, Threads};
+use tile_system::{NoMemory, System};
 use type_index::TypeIndex;
 
-// The sides of each place, and where a condition is broken first.
+// The sides of each place of a range, and where a condition is broken first.
 #[derive(Drop)]
 pub(crate) struct Survey {
     pub(crate) sides: Vec<PlaceSides>,
     pub(crate) breaches: Breaches,
 }
 
-// Looks at what stands beside each place in the grid of all of them. At first the earlier sides of
-// a place are all those beside which a tile stood before it. What is found takes their room.
-#[inline(never)]
-pub(crate) fn survey_places(
+// The places from one index to before another, by so many workers, each with a range of its own.
+pub(crate) fn survey_by<R: Threads + Sync>(
+    rt: &R,
     alloc: Global,
     sys: &System,
     seq: &Sequence,
     whole: &Grid,
-    before: Vec<PlaceSides>,
     types: &TypeIndex,
+    start: usize,
+    end: usize,
+    workers: u32,
 ) -> Result<Survey, NoMemory>
-    requires valid { IsValid sys.now }
-    requires legal { IsLegal sys.now seq.now }
-    requires fits { Fits sys.now seq.now }
-    requires area { whole.now.area ≡ sys.now.area }
-    requires placements { SamePlacements seq.now whole.now.tiles }
-    requires before { AreSidesBefore sys.now seq.now (earlier_sets before.items) }
-    requires index { IsIndexOf sys.now types.now }
-    ensures earlier { IfOk result
-        (λ survey. AreEarlierSides sys.now seq.now (earlier_sets survey.sides.items)) }
-    ensures outputs { IfOk result
-        (λ survey. AreOutputSides sys.now seq.now (output_sets survey.sides.items)) }
-    ensures inexact { IfOk result
-        (λ survey. FindsInexact sys.now seq.now (length seq.now) survey.breaches.inexact) }
-    ensures rival { IfOk result
-        (λ survey. FindsRival sys.now seq.now (length seq.now) survey.breaches.rival) }
+    requires can { CanSurvey sys.now seq.now whole.now types.now }
+    requires range { (start ≤ end) × (end ≤ length seq.now) }
+    requires some { 1 ≤ workers }
+    requires few { workers ≤ 16 }
+    ensures { IfOk result (IsSurvey sys.now seq.now start end) }
 {
-    let mut sides = before;
+    if workers == 1 {
+        return survey_range(alloc, sys, seq, whole, types, start, end);
+    }
+    let half = workers / 2;
+    let middle = parting(start, end, half, workers);
+    let (left, right) = thread::join(
+        rt,
+        move || -> Result<Survey, NoMemory>
+            requires { IsSync R.row × CanSurvey sys.now seq.now whole.now types.now
+                × (start ≤ middle) × (middle ≤ length seq.now) × (1 ≤ half) × (half ≤ 16) }
+            ensures { IfOk result (IsSurvey sys.entry.now seq.entry.now start middle) }
+        { survey_by(rt, alloc, sys, seq, whole, types, start, middle, half) },
+        move || -> Result<Survey, NoMemory>
+            requires { IsSync R.row × CanSurvey sys.now seq.now whole.now types.now
+                × (middle ≤ end) × (end ≤ length seq.now)
+                × (1 ≤ workers - half) × (workers - half ≤ 16) × (half ≤ workers) }
+            ensures { IfOk result (IsSurvey sys.entry.now seq.entry.now middle end) }
+        {
+            survey_by(
+                rt,
+                alloc,
+                sys,
+                seq,
+                whole,
+                types,
+                middle,
+                end,
+                workers - half,
+            )
+        },
+    );
+    unite(left?, right?)
+}
+
+// Where a range is parted so that so many of its workers have the places before.
+fn parting(start: usize, end: usize, before: u32, workers: u32) -> usize
+    requires range { start ≤ end }
+    requires some { 1 ≤ workers }
+    requires part { before ≤ workers }
+    ensures { (start ≤ result) × (result ≤ end) }
+{
+    start + (end - start) / (workers as usize) * (before as usize)
+}
+
+// What was found in one range, and in the range behind it.
+fn unite(left: Survey, right: Survey) -> Result<Survey, NoMemory>
+    ensures { IfOk result (λ survey. (sys : TileSystem) (s : List Place) (start middle end : ℕ) →
+        IsSurvey sys s start middle left → IsSurvey sys s middle end right →
+        IsSurvey sys s start end survey) }
+{
+    let Survey {
+        mut sides,
+        breaches,
+    } = left;
+    sides.extend_from_slice(right.sides.as_slice())?;
+    Ok(Survey {
+        sides,
+        breaches: breaches.or(right.breaches),
+    })
+}
+
+// The same by this worker alone: it looks at what stands beside each place in the grid of all of
+// them. The sides beside which a tile stood before it come from the sites of the places before it,
+// the seeds among them.
+#[inline(never)]
+pub(crate) fn survey_range(
+    alloc: Global,
+    sys: &System,
+    seq: &Sequence,
+    whole: &Grid,
+    types: &TypeIndex,
+    start: usize,
+    end: usize,
+) -> Result<Survey, NoMemory>
+    requires can { CanSurvey sys.now seq.now whole.now types.now }
+    requires range { (start ≤ end) × (end ≤ length seq.now) }
+    ensures { IfOk result (IsSurvey sys.now seq.now start end) }
+{
+    let mut sides = Vec::with_capacity(alloc, end - start)?;
     let mut breaches = Breaches::NONE;
     let mut findings = Findings::make(alloc, sys)?;
+    let area = sys.area();
+    let mut stood = StoodSites::make(alloc, area, sys.seeds())?;
     let seed_count = sys.seeds().len();
-    for index in 0..seq.len() {
+    stood.insert_range(seq, seed_count, start);
+    for index in start..end {
         let place = seq.get(index);
-        let stood = sides[index].earlier();
-        let finding = findings.at(sys, types, whole, place, &stood);
-        sides[index] = PlaceSides::of(finding.earlier, finding.outputs);
+        let number = site_index(&area, place.site);
+        let before = stood.beside(place.site, number);
+        let finding = findings.at(sys, types, whole, place, &before);
+        sides.push_reserved(PlaceSides::of(finding.earlier, finding.outputs));
         if index >= seed_count {
+            stood.insert(place, number);
             breaches.see(sys, seq, index, finding.sum, finding.rival);
+            findings.stop_after(finding.rival);
         }
     }
     Ok(Survey { sides, breaches })
-}
-
-// A grid with all places of a sequence, and for each the sides beside which a tile stood before it,
-// as its earlier sides.
-#[derive(Drop)]
-pub(crate) struct Stand {
-    pub(crate) grid: Grid,
-    pub(crate) before: Vec<PlaceSides>,
-}
-
-// Puts the places of a legal sequence into a grid of its own, one by one behind the seeds.
-#[inline(never)]
-pub(crate) fn put_places(alloc: Global, sys: &System, seq: &Sequence) -> Result<Stand, NoMemory>
-    requires valid { IsValid sys.now }
-    requires legal { IsLegal sys.now seq.now }
-    requires fits { Fits sys.now seq.now }
-    ensures area { IfOk result (λ stand. stand.grid.area ≡ sys.now.area) }
-    ensures placements { IfOk result (λ stand. SamePlacements seq.now stand.grid.tiles) }
-    ensures before { IfOk result
-        (λ stand. AreSidesBefore sys.now seq.now (earlier_sets stand.before.items)) }
-{
-    let mut before = Vec::with_capacity(alloc, seq.len())?;
-    let mut grid = Grid::make(alloc, sys.area())?;
-    put_seeds(sys, &mut grid);
-    let area = sys.area();
-    let first = sys.seeds().len();
-    for index in 0..seq.len() {
-        let place = seq.get(index);
-        let number = site_index(&area, place.site);
-        let stood = SideSet::standing(&grid.beside_at(place.site, number));
-        before.push_reserved(PlaceSides::of(stood, SideSet::NONE));
-        if index >= first {
-            grid.put_at(place, number);
-        }
-    }
-    Ok(Stand { grid, before })
 }

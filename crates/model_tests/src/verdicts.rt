@@ -45,10 +45,13 @@ fn is_legal(alloc: Global, sys: &System, order: &Sequence) -> Result<bool, NoMem
 // The verdict on a legal sequence.
 fn verdict_on(alloc: Global, sys: &System, order: &Sequence) -> Result<Verdict, NoMemory>
     requires fits { Fits sys.now order.now }
+    requires short { length order.now < 2 ^ 32 }
     requires legal { IsLegal sys.now order.now }
     ensures { IfOk result (IsVerdict sys.now order.now) }
 {
-    let sides = inputs(alloc, sys, order)?;
+    let mut grid = Grid::make(alloc, sys.area())?;
+    let _legal = check_legal(sys, order, &mut grid);
+    let sides = inputs(alloc, sys, order, &grid)?;
     Ok(judge(sys, order, &sides))
 }
 

@@ -6,6 +6,7 @@
 
 mod commands;
 mod input;
+mod judged;
 mod order;
 mod room;
 mod run;

@@ -1,16 +1,16 @@
 // What a command is to the top call: it answers an input, and its answer has a text.
-ghost use Rattle.std.specs.Prelude.{◌≡◌, ◌≤◌, ℕ, Bool, List, length, IfOk, IfSome};
+ghost use Rattle.std.specs.Prelude.{◌≡◌, ◌≤◌, ℕ, Bool, List, length, IfOk, IfSome, IsSome, IsTrue};
 ghost use Rattle.tile_io.specs.declared.fault.TextFault.{TextFault};
 ghost use Rattle.tile_io.specs.declared.limits.TheConstants.{MOST_INPUT};
 ghost use Rattle.tile_io.specs.Prints.{Prints};
-ghost use Rattle.atam.specs.Canonical.{IsCanonical};
 ghost use Rattle.atam.specs.TileSystem.{TileSystem};
 ghost use Rattle.site_table.specs.Seats.{GrownValue};
 ghost use Rattle.grow_workers.specs.Workers.{IsGrowth};
 ghost use Rattle.tilebench.specs.Inner.Gives.{GivesReply, Replies};
+ghost use Rattle.tilebench.specs.Inner.Rooms.{IsJudged};
 
+use crate::judged::Judged;
 use crate::stop::Stop;
-use assembly::Sequence;
 use site_table::Grown;
 use std::alloc::Global;
 use tile_io::{Failed, Sink};
@@ -63,29 +63,33 @@ pub trait Room {
 }
 
 /// A command that grows the system of its input. It is no [`Room`]: a method of a trait starts no
-/// threads, so the growth stands in front of it.
+/// threads, so the growth stands in front of it, and the verdict on it.
 pub trait GrowthRoom {
     type Answer: Reply + Drop;
 
     /// What it tells of a growth by so many workers: whether it is a yes, and the text.
     ghost tells: { ℕ → TileSystem → GrownValue → Bool → List ℕ → Type 0 };
 
-    /// Whether it asks for the canonical order of what has grown.
-    fn wants_order(&self) -> bool;
+    /// Whether it asks for the canonical order of what has grown, and the verdict on it.
+    ghost wants: { Self → Bool };
 
-    /// What it tells of a growth, whose canonical order may be known, or want of memory.
+    fn wants_verdict(&self) -> bool
+        ensures { result ≡ wants self.now };
+
+    /// What it tells of a growth, with what it asks for, or want of memory.
     fn answer(
         &self,
         alloc: Global,
         sys: System,
         workers: u32,
         grown: &Grown,
-        order: Option<Sequence>,
+        judged: Option<Judged>,
     ) -> Result<Self::Answer, NoMemory>
         requires some { 1 ≤ workers }
         requires few { workers ≤ 16 }
         requires grew { IsGrowth sys workers grown.now }
-        requires order { IfSome order (IsCanonical sys grown.now.grid.tiles) }
+        requires asked { IsTrue (wants self.now) → IsSome judged }
+        requires judged { IfSome judged (IsJudged sys grown.now.grid.tiles) }
         ensures { IfOk result (Replies Self.Answer.yes Self.Answer.text Self.Answer.printable
             (tells workers sys grown.now)) };
 }

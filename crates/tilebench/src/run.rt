@@ -7,6 +7,7 @@ ghost use Rattle.tilebench.specs.Inner.Runs.{EndsCommand};
 ghost use Rattle.tilebench.specs.Inputs.{AnswersInput, FailsInput, FailsWithin, HoldsInput, IsReadable, alone};
 
 use crate::input::read_alone;
+use crate::judged::judge_if;
 use crate::order::grow_ordered;
 use crate::room::{GrowthRoom, Room};
 use crate::status::Ran;
@@ -134,8 +135,9 @@ fn growth_answer<R: Threads + Sync, C: GrowthRoom, G: Gate>(
         (FailsWithin alone input.now) result }
 {
     let sys = read_alone(alloc, input)?;
-    let wants_order = room.wants_order();
-    let (grown, order) = grow_ordered(rt, alloc, &sys, workers, choice, wants_order, gate)?;
-    let reply = room.answer(alloc, sys, workers, &grown, order)?;
+    let wanted = room.wants_verdict();
+    let (grown, order) = grow_ordered(rt, alloc, &sys, workers, choice, wanted, gate)?;
+    let judged = judge_if(rt, alloc, &sys, &grown, order, workers, wanted)?;
+    let reply = room.answer(alloc, sys, workers, &grown, judged)?;
     Ok((reply, Some(grown)))
 }

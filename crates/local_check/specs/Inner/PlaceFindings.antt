@@ -1,5 +1,5 @@
 -- What is found at a place, by its type, the glues that face it and the sides beside which a tile stood before.
-use Rattle.std.specs.Prelude.{◌≡◌, List, length, Some, slice_get}
+use Rattle.std.specs.Prelude.{◌≡◌, ℕ, Bool, true, List, length, Some, IfSome, slice_get}
 use Rattle.atam.specs.declared.site.Site.{Site}
 use Rattle.atam.specs.declared.place.TypeId.{TypeId}
 use Rattle.atam.specs.declared.place.Place.{Place}
@@ -15,25 +15,31 @@ use Rattle.local_check.specs.declared.findings.Known.{Known}
 use Rattle.local_check.specs.Inner.Sides.{bound_sides, intersection, difference, complement, pull_on, glues_on}
 
 -- At a site among these tiles, of which those beside some sides stood there before, the sides of a type that interact with these, the other
--- sides that interact, and the pull of those that stood there before. And the first other type that the glues on all sides but these others hold.
-pub record IsFinding (sys : TileSystem) (tiles : List Place) (m : Site) (t : TypeId) (before : SideSet) (f : Finding) : Type 0 where
+-- sides that interact, and the pull of those that stood there before. And where rivals are sought, the first other type that the glues on all
+-- sides but these others hold.
+pub record IsFinding (sys : TileSystem) (tiles : List Place) (m : Site) (t : TypeId) (before : SideSet) (seeks : Bool) (f : Finding) : Type 0 where
   pub earlier : f.earlier ≡ intersection (bound_sides sys tiles m t) before
   pub outputs : f.outputs ≡ difference (bound_sides sys tiles m t) before
   pub sum : f.sum ≡ pull_on sys tiles m t before
-  pub rival : (glues : FacingGlues) → FacesSite sys tiles m glues → FirstHeldBut sys (glues_on (complement f.outputs) glues) t f.rival
+  pub rival : seeks ≡ true → (glues : FacingGlues) → FacesSite sys tiles m glues → FirstHeldBut sys (glues_on (complement f.outputs) glues) t f.rival
 
 -- it was found for the type, wherever the glues that face a site have the key
-abbrev pub IsKnown : TileSystem → TypeId → Known → Type 0
-IsKnown sys t known = (tiles : List Place) (m : Site) (glues : FacingGlues) → FacesSite sys tiles m glues → IsKeyOf glues known.key →
-    IsFinding sys tiles m t known.before known.finding
+abbrev pub IsKnown : TileSystem → Bool → TypeId → Known → Type 0
+IsKnown sys seeks t known = (tiles : List Place) (m : Site) (glues : FacingGlues) → FacesSite sys tiles m glues → IsKeyOf glues known.key →
+    IsFinding sys tiles m t known.before seeks known.finding
 
--- what was found last for each type, and what was found for glues
+-- what was found last for each type, what was found for glues, and whether rivals are sought
 pub record FindingTable : Type 0 where
   pub last : List Known
   pub cache : List cache.Finding.Finding
+  pub seeks : Bool
 
 -- each was found for its type
 pub record ArePlaceFindings (sys : TileSystem) (table : FindingTable) : Type 0 where
   pub count : length table.last ≡ length sys.types
-  pub each : (t : TypeId) (known : Known) → slice_get table.last t.0 ≡ Some known → IsKnown sys t known
+  pub each : (t : TypeId) (known : Known) → slice_get table.last t.0 ≡ Some known → IsKnown sys table.seeks t known
   pub cache : AreFindings sys table.cache
+
+-- it was found last for the type, with this key and before these sides
+abbrev pub IsKept : FindingTable → TypeId → ℕ → SideSet → Type 0
+IsKept table t key before = IfSome (slice_get table.last t.0) (λ known. (known.key ≡ key) × (known.before ≡ before))

@@ -1,5 +1,5 @@
 -- Sides that interact with the tiles beside them, and the glues on some sides.
-use Rattle.std.specs.Prelude.{◌≡◌, ℕ, ◌<◌, ◌≤◌, ◌+◌, Bool, is_some, not, ◌&&◌, nat_lt, if◌then◌else◌, List, length, slice_get, take, max, Some, None}
+use Rattle.std.specs.Prelude.{◌≡◌, ℕ, ◌+◌, Bool, is_some, not, ◌&&◌, nat_lt, if◌then◌else◌, List, length, slice_get, take, max, Some, None}
 use Rattle.atam.specs.declared.site.Side.{Side}
 use Rattle.atam.specs.declared.site.Side.TheVariants.{North, East, South, West}
 use Rattle.atam.specs.declared.site.Site.{Site}
@@ -10,7 +10,6 @@ use Rattle.atam.specs.Placements.{tile_at}
 use Rattle.atam.specs.TileSystem.{TileSystem}
 use Rattle.atam.specs.Assembly.{bond}
 use Rattle.atam.specs.Determinism.{is_output}
-use Rattle.tile_system.specs.declared.placed.Beside.{Beside}
 use Rattle.attach_rule.specs.declared.bonding.Strengths.{Strengths}
 use Rattle.attach_rule.specs.declared.facing.FacingGlues.{FacingGlues}
 use Rattle.local_check.specs.SideSets.{SideSet, has}
@@ -27,10 +26,6 @@ bound_sides sys tiles m t = record {
 -- the sides with a strength
 abbrev pub bound_by : Strengths → SideSet
 bound_by bonds = record { north = nat_lt 0 bonds.north; east = nat_lt 0 bonds.east; south = nat_lt 0 bonds.south; west = nat_lt 0 bonds.west }
-
--- the sides beside which there is a tile
-abbrev pub standing : Beside → SideSet
-standing beside = record { north = is_some beside.north; east = is_some beside.east; south = is_some beside.south; west = is_some beside.west }
 
 -- the sides of a site beside which there is a tile
 abbrev pub sides_beside : List Place → Site → SideSet
@@ -74,41 +69,11 @@ glues_on sides glues = record {
   west = if sides.west then glues.west else None;
 }
 
--- each set has the sides beside which a seed or an earlier place stands
-abbrev pub AreBeforeAt : TileSystem → List Place → List SideSet → Type 0
-AreBeforeAt sys s sets = (k : ℕ) (p : Place) (sides : SideSet) → slice_get s k ≡ Some p → slice_get sets k ≡ Some sides →
-    sides ≡ sides_beside (take (max (length sys.seeds) k) s) p.site
+-- each set has the sides of a place that interact with the seeds or with an earlier place: the k-th set is that of the k-th place from an index on
+abbrev pub AreEarlierFrom : TileSystem → List Place → ℕ → List SideSet → Type 0
+AreEarlierFrom sys s start sets = (k : ℕ) (p : Place) (sides : SideSet) → slice_get s (start + k) ≡ Some p → slice_get sets k ≡ Some sides →
+    sides ≡ bound_sides sys (take (max (length sys.seeds) (start + k)) s) p.site p.tile
 
--- each set has the sides that interact with the seeds or with an earlier place
-abbrev pub AreEarlierAt : TileSystem → List Place → List SideSet → Type 0
-AreEarlierAt sys s sets = (k : ℕ) (p : Place) (sides : SideSet) → slice_get s k ≡ Some p → slice_get sets k ≡ Some sides →
-    sides ≡ bound_sides sys (take (max (length sys.seeds) k) s) p.site p.tile
-
--- each set has the output sides of the place
-abbrev pub AreOutputsAt : TileSystem → List Place → List SideSet → Type 0
-AreOutputsAt sys s sets = (k : ℕ) (sides : SideSet) → slice_get sets k ≡ Some sides → (d : Side) → has sides d ≡ is_output sys s k d
-
--- these of the places before an index, and the first of those from it on
-abbrev pub AreEarlierBelow : TileSystem → List Place → ℕ → List SideSet → Type 0
-AreEarlierBelow sys s n sets = (k : ℕ) (p : Place) (sides : SideSet) → k < n → slice_get s k ≡ Some p → slice_get sets k ≡ Some sides →
-    sides ≡ bound_sides sys (take (max (length sys.seeds) k) s) p.site p.tile
-
-abbrev pub AreOutputsBelow : TileSystem → List Place → ℕ → List SideSet → Type 0
-AreOutputsBelow sys s n sets = (k : ℕ) (sides : SideSet) → k < n → slice_get sets k ≡ Some sides → (d : Side) → has sides d ≡ is_output sys s k d
-
-abbrev pub AreBeforeFrom : TileSystem → List Place → ℕ → List SideSet → Type 0
-AreBeforeFrom sys s n sets = (k : ℕ) (p : Place) (sides : SideSet) → n ≤ k → slice_get s k ≡ Some p → slice_get sets k ≡ Some sides →
-    sides ≡ sides_beside (take (max (length sys.seeds) k) s) p.site
-
--- one set for each place
-pub record AreSidesBefore (sys : TileSystem) (s : List Place) (sets : List SideSet) : Type 0 where
-  pub count : length sets ≡ length s
-  pub each : AreBeforeAt sys s sets
-
-pub record AreEarlierSides (sys : TileSystem) (s : List Place) (sets : List SideSet) : Type 0 where
-  pub count : length sets ≡ length s
-  pub each : AreEarlierAt sys s sets
-
-pub record AreOutputSides (sys : TileSystem) (s : List Place) (sets : List SideSet) : Type 0 where
-  pub count : length sets ≡ length s
-  pub each : AreOutputsAt sys s sets
+-- each set has the output sides of a place, in the same way
+abbrev pub AreOutputsFrom : TileSystem → List Place → ℕ → List SideSet → Type 0
+AreOutputsFrom sys s start sets = (k : ℕ) (sides : SideSet) → slice_get sets k ≡ Some sides → (d : Side) → has sides d ≡ is_output sys s (start + k) d

@@ -9,6 +9,9 @@ use Rattle.unique_law.specs.Outcomes.{Outcome}
 use Rattle.tilebench.specs.declared.commands.check.Judgement.{Judgement}
 use Rattle.tilebench.specs.declared.commands.check.Judgement.TheVariants.{Legal, Breach}
 use Rattle.tilebench.specs.declared.commands.grow.Growth.{Growth}
+use Rattle.tilebench.specs.declared.judged.Judged.{Judged}
+use Rattle.replay_order.specs.ReplayAnswers.{IsWholeOrder}
+use Rattle.local_check.specs.Judgement.{IsVerdict}
 use Rattle.tilebench.specs.declared.commands.replay.Reordering.{Reordering}
 use Rattle.tilebench.specs.declared.commands.replay.Reordering.TheVariants.{Whole}
 use Rattle.tilebench.specs.declared.commands.schedule.Scheduled.{Scheduled}
@@ -24,6 +27,11 @@ pub record HasTypes (sys : TileSystem) (outcome : Outcome) : Type 0 where
   pub order : All (λ p. IsType sys p.tile) outcome.order
   pub outside : IfSome outcome.outside (λ found. IsType sys found.1)
   pub verdict : NamesTypes sys outcome.verdict
+
+-- the whole order of these tiles, and the verdict on it
+pub record IsJudged (sys : TileSystem) (tiles : List Place) (judged : Judged) : Type 0 where
+  pub ordered : IsWholeOrder sys tiles judged.order
+  pub verdict : IsVerdict sys judged.order judged.verdict
 
 -- the outcome of a growth
 abbrev pub outcome_of : Growth → Outcome

@@ -1,9 +1,7 @@
 // `check`: whether a sequence is legal, and the verdict on it.
-ghost use Rattle.std.specs.Prelude.{◌≡◌, ◌↔◌, ◌<◌, ◌≤◌, ◌^◌, length, IfOk};
+ghost use Rattle.std.specs.Prelude.{◌<◌, ◌≤◌, ◌^◌, length, IfOk};
 ghost use Rattle.tile_io.specs.declared.limits.TheConstants.{MOST_INPUT};
 ghost use Rattle.atam.specs.Assembly.{Fits};
-ghost use Rattle.atam.specs.Growth.{IsLegal};
-ghost use Rattle.replay_order.specs.Legalities.{IsLegalityAnswer};
 ghost use Rattle.tile_io.specs.Prints.{Prints};
 ghost use Rattle.seq_text.specs.GrowthText.{sequence_format};
 ghost use Rattle.seq_text.specs.VerdictLines.{NamesTypes};
@@ -106,30 +104,19 @@ fn system_and_sequence(alloc: Global, input: Vec<u8>) -> Result<(System, Sequenc
     Ok((sys, sequence))
 }
 
-// Whether a sequence is legal, and the verdict on it then.
+// Whether a sequence is legal, and the verdict on it then, by the grid into which its places went.
 fn judgement_of(alloc: Global, sys: &System, sequence: &Sequence) -> Result<Judgement, NoMemory>
     requires fits { Fits sys.now sequence.now }
     requires short { length sequence.now < 2 ^ 32 }
     ensures judged { IfOk result (IsJudgement sys.now sequence.now) }
     ensures types { IfOk result (NamesItsTypes sys.now) }
 {
-    match legality_of(alloc, sys, sequence)? {
+    let mut grid = Grid::make(alloc, sys.area())?;
+    match check_legal(sys, sequence, &mut grid) {
         Legality::Legal => {
-            let sides = inputs(alloc, sys, sequence)?;
+            let sides = inputs(alloc, sys, sequence, &grid)?;
             Ok(Judgement::Legal(judge(sys, sequence, &sides)))
         }
         breach => Ok(Judgement::Breach(breach)),
     }
-}
-
-// Whether a sequence is legal. The grid that tells it is let go before the verdict is looked for.
-fn legality_of(alloc: Global, sys: &System, sequence: &Sequence) -> Result<Legality, NoMemory>
-    requires fits { Fits sys.now sequence.now }
-    requires short { length sequence.now < 2 ^ 32 }
-    ensures answer { IfOk result (IsLegalityAnswer sys.now sequence.now) }
-    ensures legal { IfOk result (λ legality.
-        (legality ≡ Legality.Legal) ↔ IsLegal sys.now sequence.now) }
-{
-    let mut scratch = Grid::make(alloc, sys.area())?;
-    Ok(check_legal(sys, sequence, &mut scratch))
 }

@@ -1,16 +1,15 @@
 // `grow`: what a system grows into within its box.
-ghost use Rattle.std.specs.Prelude.{◌≡◌, IfOk, IfSome};
+ghost use Rattle.std.specs.Prelude.{◌≡◌, true, IfOk};
 ghost use Rattle.atam.specs.Assembly.{Fits};
-ghost use Rattle.atam.specs.Canonical.{IsCanonical};
 ghost use Rattle.atam.specs.Growth.{IsClosedInBox, IsProducible, IsLeastOpenOutside};
 ghost use Rattle.local_check.specs.declared.verdict.Verdict.{Verdict};
 ghost use Rattle.tilebench.specs.Commands.Grow.{IsGrowthText, growth_text, is_unique};
-ghost use Rattle.tilebench.specs.Inner.Rooms.{GrowsTo, HasTypes, outcome_of};
+ghost use Rattle.tilebench.specs.Inner.Rooms.{GrowsTo, HasTypes, IsJudged, outcome_of};
 
-use crate::order::order_of;
+use crate::judged::Judged;
 use crate::room::{GrowthRoom, Reply};
 use assembly::{Grid, Sequence};
-use local_check::{Verdict, inputs, judge};
+use local_check::Verdict;
 use seq_text::{print_closed, print_places, print_verdict};
 use site_table::Grown;
 use std::alloc::Global;
@@ -27,7 +26,9 @@ impl GrowthRoom for Grow {
 
     ghost tells = { λ workers. IsGrowthText };
 
-    fn wants_order(&self) -> bool {
+    ghost wants = { λ room. true };
+
+    fn wants_verdict(&self) -> bool {
         true
     }
 
@@ -37,9 +38,9 @@ impl GrowthRoom for Grow {
         sys: System,
         _workers: u32,
         grown: &Grown,
-        order: Option<Sequence>,
+        judged: Option<Judged>,
     ) -> Result<Growth, NoMemory> {
-        growth_of(alloc, sys, grown.grid(), order)
+        growth_of(alloc, sys, grown.grid(), judged.unwrap())
     }
 }
 
@@ -78,24 +79,22 @@ pub fn is_unique(verdict: Verdict) -> bool
     matches!(verdict, Verdict::Yes)
 }
 
-/// What a system grew into, by the grid of a full growth, whose canonical order may be known.
+/// What a system grew into, by the grid of a full growth and the verdict on it.
 pub fn growth_of(
     alloc: Global,
     sys: System,
     grid: &Grid,
-    order: Option<Sequence>,
+    judged: Judged,
 ) -> Result<Growth, NoMemory>
     requires area { grid.now.area ≡ sys.area }
     requires producible { IsProducible sys grid.now.tiles }
     requires closed { IsClosedInBox sys grid.now.tiles }
-    requires order { IfSome order (IsCanonical sys grid.now.tiles) }
+    requires judged { IsJudged sys grid.now.tiles judged }
     ensures { IfOk result (GrowsTo sys grid.now.tiles) }
 {
     let _box = grid.area();
     let outside = open_outside(alloc, &sys, grid)?;
-    let order = order_of(alloc, &sys, grid, order)?;
-    let sides = inputs(alloc, &sys, &order)?;
-    let verdict = judge(&sys, &order, &sides);
+    let Judged { order, verdict } = judged;
     Ok(Growth {
         sys,
         order,

@@ -10,6 +10,7 @@ ghost use Rattle.tilebench.specs.Inner.Gives.{GivesUnread};
 ghost use Rattle.tilebench.specs.Inner.Rooms.{HasTypes, outcome_of};
 
 use crate::commands::grow::{Growth, growth_of, is_unique};
+use crate::judged::judge_grid;
 use crate::room::Reply;
 use crate::stop::Stop;
 use counter_compile::{CounterStop, compile_counter};
@@ -42,7 +43,8 @@ pub fn answer<R: Threads + Sync, G: Gate>(
     let counter = counter_of(number);
     let sys = system_of(alloc, counter)?;
     let grown = grow(rt, alloc, &sys, WORKERS, number, gate)?;
-    let growth = growth_of(alloc, sys, grown.grid(), None)?;
+    let judged = judge_grid(rt, alloc, &sys, grown.grid(), None, WORKERS)?;
+    let growth = growth_of(alloc, sys, grown.grid(), judged)?;
     let loaded = Loaded {
         number,
         counter,

@@ -1,11 +1,11 @@
 // `race`: how many tiles each worker won.
-ghost use Rattle.std.specs.Prelude.{◌≡◌, ◌≤◌, ◌<◌, true, flat_map, sum_by, IfOk};
+ghost use Rattle.std.specs.Prelude.{◌≡◌, ◌≤◌, ◌<◌, true, false, flat_map, sum_by, IfOk};
 ghost use Rattle.tile_io.specs.Chunks.{PassesOn};
 ghost use Rattle.tilebench.specs.Commands.Race.{AreWins, IsRaceText, race_text, win_line, won_by};
 ghost use Rattle.tilebench.specs.Inner.Races.{won_together};
 
+use crate::judged::Judged;
 use crate::room::{GrowthRoom, Reply};
-use assembly::Sequence;
 use itoa::Buffer;
 use site_table::Grown;
 use std::alloc::Global;
@@ -21,7 +21,9 @@ impl GrowthRoom for Race {
 
     ghost tells = { IsRaceText };
 
-    fn wants_order(&self) -> bool {
+    ghost wants = { λ room. false };
+
+    fn wants_verdict(&self) -> bool {
         false
     }
 
@@ -31,7 +33,7 @@ impl GrowthRoom for Race {
         sys: System,
         workers: u32,
         grown: &Grown,
-        _order: Option<Sequence>,
+        _judged: Option<Judged>,
     ) -> Result<Raced, NoMemory> {
         let _area = grown.grid().area();
         let seeds = sys.seeds().len() as u32;

@@ -1,13 +1,13 @@
 // `report`: what is to be told of a growth, as one line of JSON.
-ghost use Rattle.std.specs.Prelude.{◌≡◌, [], ◌∷◌, map, string_bytes, IfOk};
+ghost use Rattle.std.specs.Prelude.{◌≡◌, true, [], ◌∷◌, map, string_bytes, IfOk};
 ghost use Rattle.tile_io.specs.Lines.{line_of};
 ghost use Rattle.tilebench.specs.Commands.Report.{IsReportText};
 ghost use Rattle.tilebench.specs.Inner.Rooms.{Reports};
 
 use crate::commands::grow::{Growth, growth_of, is_unique};
 use crate::commands::race::{Win, wins_of};
+use crate::judged::Judged;
 use crate::room::{GrowthRoom, Reply};
-use assembly::Sequence;
 use report::report_text;
 use site_table::Grown;
 use std::alloc::Global;
@@ -23,7 +23,9 @@ impl GrowthRoom for Report {
 
     ghost tells = { IsReportText };
 
-    fn wants_order(&self) -> bool {
+    ghost wants = { λ room. true };
+
+    fn wants_verdict(&self) -> bool {
         true
     }
 
@@ -33,10 +35,10 @@ impl GrowthRoom for Report {
         sys: System,
         workers: u32,
         grown: &Grown,
-        order: Option<Sequence>,
+        judged: Option<Judged>,
     ) -> Result<Reported, NoMemory> {
         let wins = wins_of(alloc, workers, grown)?;
-        let growth = growth_of(alloc, sys, grown.grid(), order)?;
+        let growth = growth_of(alloc, sys, grown.grid(), judged.unwrap())?;
         report_of(alloc, &growth, grown.grid().count(), &wins)
     }
 }

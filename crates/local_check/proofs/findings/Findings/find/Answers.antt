@@ -1,71 +1,34 @@
-use Rattle.std.proofs.Common.{List, IfSome, Option, ◌≡◌, ◌∙◌, sym, ap, subst, arith}
+use Rattle.std.proofs.Common.{List, Bool, IfSome, Option, Some, ◌≡◌, ◌∙◌, length, slice_get, refl, sym, ap, subst, arith}
 use Rattle.std.proofs.lemmas.List.{length-set}
 use Rattle.atam.specs.declared.site.Site.{Site}
 use Rattle.atam.specs.declared.place.Place.{Place}
-use Rattle.atam.specs.Sites.{IsBox}
-use Rattle.atam.proofs.Boxes.{near_inside}
+use Rattle.atam.specs.declared.place.TypeId.{TypeId}
 use Rattle.attach_rule.specs.Facing.{FacesSite}
 use Rattle.attach_rule.specs.declared.facing.FacingGlues.{FacingGlues}
 use Rattle.type_index.specs.HeldTypes.{FirstHeldBut}
+use Rattle.type_index.specs.Findings.{AreFindings}
 use Rattle.type_index.proofs.Keys.{same_key}
 use Rattle.local_check.specs.declared.findings.Finding.{Finding}
 use Rattle.local_check.specs.declared.findings.Known.{Known}
 use Rattle.local_check.specs.Inner.Sides.{intersection, difference, complement, glues_on}
-use Rattle.local_check.specs.Inner.PlaceFindings.{FindingTable, IsFinding, ArePlaceFindings}
+use Rattle.local_check.specs.Inner.PlaceFindings.{IsFinding, IsKnown}
 use Rattle.local_check.proofs.PlaceFindings.{known_set, same_facing}
 use Rattle.local_check.proofs.Sites.{slice_get-set}
 use Rattle.local_check.proofs.Sides.{bound_by-bonds, sum_on-bonds}
 use Rattle.local_check.proofs.findings.Findings.find.Goals as goal
-
-pub glues_facing-glues-requires-clause-near : goal.glues_facing-glues-requires-clause-near
-glues_facing-glues-requires-clause-near c =
-    near_inside c.args.whole.now.area c.args.site (subst IsBox c.area-area.ensures.area c.area-area.ensures.box_limits) c.requires.inside
-
-pub found-requires-clause-known : goal.found-requires-clause-known
-found-requires-clause-known c =
-    let Table : FindingTable → Type 0 = λ table. ArePlaceFindings c.args.sys.now table in
-    (subst Table (sym c.self.view_is) c.requires.known).cache
-
-pub returns-clause-finding : goal.returns-clause-finding
-returns-clause-finding c =
-    let sys = c.args.sys.now in
-    let tile = c.args.tile in
-    let before = c.args.before in
-    let glues = c.glues_facing-glues.result in
-    let finding : Finding = record { earlier = c.within.result; sum = c.sum_on.result; outputs = c.without-outputs.result; rival = c.other_than-rival.result } in
-    let here : (tiles : List Place) (m : Site) → FacesSite sys tiles m glues → IsFinding sys tiles m tile before finding = λ tiles m faces.
-    let bonds = c.facing_bonds-bonds.ensures.bonds tiles m faces in
-    let bound = c.bound_by-bound.ensures ∙ bound_by-bonds sys tiles m tile c.facing_bonds-bonds.result bonds in
-    let Kept : FacingGlues → Type 0 = λ kept. FirstHeldBut sys kept tile c.other_than-rival.result in
-    let Held : FacingGlues → Type 0 = λ g. Kept (glues_on (complement c.without-outputs.result) g) in
-    let kept : c.glues_on-kept.result ≡ glues_on (complement c.without-outputs.result) glues =
-    c.glues_on-kept.ensures ∙ ap (λ sides. glues_on sides glues) c.complement.ensures
-    in
-    record {
-      earlier = c.within.ensures ∙ ap (λ sides. intersection sides before) bound;
-      outputs = c.without-outputs.ensures ∙ ap (λ sides. difference sides before) bound;
-      sum = c.sum_on.ensures ∙ sum_on-bonds sys tiles m tile c.facing_bonds-bonds.result before bonds;
-      rival = λ g faces_g.
-          subst Held (same_facing sys tiles m glues g faces faces_g) (subst Kept kept (c.other_than-rival.ensures.held sys c.glues_on-kept.result c.found.ensures.found));
-    }
-    in
-    let Table : FindingTable → Type 0 = λ table. ArePlaceFindings c.args.sys.now table in
-    let known = subst Table (sym c.self.view_is) c.requires.known in
-    let items = c.self.inside.last.items in
-    let Here : Option Known → Type 0 = λ found. IfSome found (λ k. IsFinding sys c.args.whole.now.tiles c.args.site tile before k.finding) in
-    subst Here (sym (slice_get-set items tile.0 _ (omega (arith, known.count, c.requires.kind)))) (here c.args.whole.now.tiles c.args.site c.glues_facing-glues.ensures.faces)
 
 pub returns-clause-known : goal.returns-clause-known
 returns-clause-known c =
     let sys = c.args.sys.now in
     let tile = c.args.tile in
     let before = c.args.before in
-    let glues = c.glues_facing-glues.result in
-    let finding : Finding = record { earlier = c.within.result; sum = c.sum_on.result; outputs = c.without-outputs.result; rival = c.other_than-rival.result } in
-    let here : (tiles : List Place) (m : Site) → FacesSite sys tiles m glues → IsFinding sys tiles m tile before finding = λ tiles m faces.
-    let bonds = c.facing_bonds-bonds.ensures.bonds tiles m faces in
-    let bound = c.bound_by-bound.ensures ∙ bound_by-bonds sys tiles m tile c.facing_bonds-bonds.result bonds in
-    let Kept : FacingGlues → Type 0 = λ kept. FirstHeldBut sys kept tile c.other_than-rival.result in
+    let seeks = c.args.self.now.seeks in
+    let glues = c.glues_of_key-glues.result in
+    let finding : Finding = record { earlier = c.within.result; sum = c.sum_on.result; outputs = c.without-outputs.result; rival = c.rival-rival.result } in
+    let here : (tiles : List Place) (m : Site) → FacesSite sys tiles m glues → IsFinding sys tiles m tile before seeks finding = λ tiles m faces.
+    let bonds = c.bonds-bonds.ensures.bonds tiles m faces in
+    let bound = c.bound_by-bound.ensures ∙ bound_by-bonds sys tiles m tile c.bonds-bonds.result bonds in
+    let Kept : FacingGlues → Type 0 = λ kept. FirstHeldBut sys kept tile c.rival-rival.result in
     let Held : FacingGlues → Type 0 = λ g. Kept (glues_on (complement c.without-outputs.result) g) in
     let kept : c.glues_on-kept.result ≡ glues_on (complement c.without-outputs.result) glues =
     c.glues_on-kept.ensures ∙ ap (λ sides. glues_on sides glues) c.complement.ensures
@@ -73,17 +36,34 @@ returns-clause-known c =
     record {
       earlier = c.within.ensures ∙ ap (λ sides. intersection sides before) bound;
       outputs = c.without-outputs.ensures ∙ ap (λ sides. difference sides before) bound;
-      sum = c.sum_on.ensures ∙ sum_on-bonds sys tiles m tile c.facing_bonds-bonds.result before bonds;
-      rival = λ g faces_g.
-          subst Held (same_facing sys tiles m glues g faces faces_g) (subst Kept kept (c.other_than-rival.ensures.held sys c.glues_on-kept.result c.found.ensures.found));
+      sum = c.sum_on.ensures ∙ sum_on-bonds sys tiles m tile c.bonds-bonds.result before bonds;
+      rival = λ sought g faces_g. subst Held (same_facing sys tiles m glues g faces faces_g) (subst Kept kept (c.rival-rival.ensures.rival sought));
     }
     in
-    let Table : FindingTable → Type 0 = λ table. ArePlaceFindings c.args.sys.now table in
-    let known = subst Table (sym c.self.view_is) c.requires.known in
-    let items = c.self.inside.last.items in
+    let last : Known = record { key = c.args.key; before = before; finding = finding } in
+    let is : IsKnown sys seeks tile last = λ tiles m g faces of_g.
+    here tiles m (subst (λ (h : FacingGlues). FacesSite sys tiles m h) (same_key g glues c.args.key of_g c.glues_of_key-glues.ensures) faces)
+    in
+    let known = c.requires.known in
+    let inside = c.self.inside in
+    let items = inside.last.items in
+    let items_are : items ≡ c.args.self.now.last = ap (λ table. table.last) c.self.view_is ∙ c.rival-rival.ensures.last in
+    let seeks_is : inside.seeks ≡ seeks = ap (λ table. table.seeks) c.self.view_is ∙ c.rival-rival.ensures.seeks in
+    let Each : List Known → Bool → Type 0 = λ l b. (t : TypeId) (k : Known) → slice_get l t.0 ≡ Some k → IsKnown sys b t k in
+    let each = subst (λ l. Each l inside.seeks) (sym items_are) (subst (λ b. Each c.args.self.now.last b) (sym seeks_is) known.each) in
     record {
-      count = length-set items tile.0 _ ∙ known.count;
-      each = known_set sys items tile _ (omega (arith, known.count, c.requires.kind)) known.each (λ tiles m g faces of_g.
-          here tiles m (subst (λ (h : FacingGlues). FacesSite sys tiles m h) (same_key g glues c.args.key of_g (c.requires.key glues c.glues_facing-glues.ensures.faces)) faces));
-      cache = c.found.ensures.known;
+      count = length-set items tile.0 _ ∙ ap length items_are ∙ known.count;
+      each = known_set sys inside.seeks items tile last (omega (arith, known.count, ap length items_are, c.requires.kind)) each
+          (subst (λ b. IsKnown sys b tile last) (sym seeks_is) is);
+      cache = subst (AreFindings sys) (sym (ap (λ table. table.cache) c.self.view_is)) c.rival-rival.ensures.known;
     }
+
+pub returns-clause-kept : goal.returns-clause-kept
+returns-clause-kept c =
+    let items = c.self.inside.last.items in
+    let items_are : items ≡ c.args.self.now.last = ap (λ table. table.last) c.self.view_is ∙ c.rival-rival.ensures.last in
+    let Kept : Option Known → Type 0 = λ found. IfSome found (λ k. (k.key ≡ c.args.key) × (k.before ≡ c.args.before)) in
+    subst Kept (sym (slice_get-set items c.args.tile.0 _ (omega (arith, c.requires.known.count, ap length items_are, c.requires.kind)))) (refl, refl)
+
+pub returns-clause-seeks : goal.returns-clause-seeks
+returns-clause-seeks c = ap (λ table. table.seeks) c.self.view_is ∙ c.rival-rival.ensures.seeks

@@ -1,18 +1,18 @@
-use Rattle.std.proofs.Common.{length, refl, ap, ◌∙◌}
+use Rattle.std.proofs.Common.{true, length, refl, ap, ◌∙◌}
 use Rattle.std.proofs.lemmas.List.{length-replicate}
 use Rattle.type_index.proofs.Keys.{no_key}
 use Rattle.local_check.proofs.PlaceFindings.{nothing_found, all_known}
 use Rattle.local_check.proofs.findings.Findings.make.Goals as goal
 
-pub returns : goal.returns
-returns c =
+pub returns-clause-known : goal.returns-clause-known
+returns-clause-known c =
     let sys = c.args.sys.now in
     let items = c.in_ok-from_elem.ensures.items_if_clones_equal (λ y same. same) in
     record {
       count = ap length items ∙ length-replicate _ _ ∙ c.type_count.ensures.count;
-      each = all_known sys c.in_ok-from_elem.field-0.items _ _ items (λ t tiles m glues faces of_glues.
+      each = all_known sys true c.in_ok-from_elem.field-0.items _ _ items (λ t tiles m glues faces of_glues.
           let none = no_key glues of_glues in
-          nothing_found sys tiles m t glues faces (record { north = none.0; east = none.1; south = none.2; west = none.3 }) _ _ c.tau-valid.ensures.valid.some_tau
+          nothing_found sys tiles m t glues faces (record { north = none.0; east = none.1; south = none.2; west = none.3 }) _ true _ c.tau-valid.ensures.valid.some_tau
           refl refl refl refl refl);
       cache = c.in_ok-make.ensures;
     }

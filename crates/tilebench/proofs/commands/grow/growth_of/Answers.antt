@@ -5,15 +5,11 @@ use Rattle.tilebench.proofs.commands.grow.growth_of.Goals as goal
 pub open_outside-requires : goal.open_outside-requires
 open_outside-requires c = producible_fits c.args.sys c.area-box.result c.args.grid.now.tiles (c.area-box.ensures.area ∙ c.requires.area) c.area-box.ensures.inside c.requires.producible
 
-pub order_of-requires-clause-fits : goal.order_of-requires-clause-fits
-order_of-requires-clause-fits c =
-    producible_fits c.args.sys c.area-box.result c.args.grid.now.tiles (c.area-box.ensures.area ∙ c.requires.area) c.area-box.ensures.inside c.requires.producible
-
 pub returns : goal.returns
 returns c =
     let sys = c.args.sys in
     let tiles = c.args.grid.now.tiles in
-    let ordered = c.in_ok-order.ensures in
+    let ordered = c.requires.judged.ordered in
     record {
       same = refl;
       grown = record {
@@ -26,13 +22,13 @@ returns c =
           };
           canonical = ordered.canonical;
           least = c.in_ok-outside.ensures;
-          judged = c.judge-verdict.ensures;
+          judged = c.requires.judged.verdict;
         };
         ordered = ordered;
       };
       types = record {
         order = ordered.fits.types;
         outside = open_type sys tiles c.in_ok-outside.outside c.in_ok-outside.ensures;
-        verdict = verdict_types sys c.in_ok-order.order c.judge-verdict.result c.judge-verdict.ensures;
+        verdict = verdict_types sys c.args.judged.order c.args.judged.verdict c.requires.judged.verdict;
       };
     }

@@ -1,0 +1,11 @@
+use Rattle.std.proofs.Common.{◌+◌, ◌-◌, ◌*◌}
+use Rattle.local_check.proofs.survey.+fn-survey_by-join+arg2+fn-survey_by-join+arg3+survey_by.Given as goal
+
+abbrev pub decreases-join+arg2 : goal.decreases-join+arg2
+decreases-join+arg2 g l = 2 * l.half + 1
+
+abbrev pub decreases-join+arg3 : goal.decreases-join+arg3
+decreases-join+arg3 g l = 2 * (l.workers - l.half) + 1
+
+abbrev pub decreases-survey_by : goal.decreases-survey_by
+decreases-survey_by g l = 2 * l.workers
