@@ -11,10 +11,13 @@ use crate::parts::grow_from;
 use crate::team::Team;
 use assembly::{Grid, put_seeds};
 use site_table::{Grown, SiteSeat, SiteTable};
-use std::alloc::Global;
+use std::alloc::{AllocError, Global};
 use std::thread::Threads;
 use tile_io::Gate;
 use tile_system::{NoMemory, System};
+
+// More bytes than the words of the widest box take.
+const LARGE_BLOCK: usize = 16 << 20;
 
 /// Grows with so many workers, from what the seat has seen, each in a thread of its own but worker
 /// 0. The list has what each worker has won. The box is cut into bands of rows, of which every one
@@ -129,6 +132,7 @@ pub fn grow<R: Threads + Sync, G: Gate>(
 {
     let mut seen = Grid::make(alloc, sys.area())?;
     put_seeds(sys, &mut seen);
+    keep_large_blocks(alloc);
     let (table, seat) = SiteTable::make(alloc, sys)?;
     let (seat, mut grid, _wins) = grow_on(
         rt, alloc, sys, &table, seat, seen, workers, choice, gate,
@@ -136,4 +140,11 @@ pub fn grow<R: Threads + Sync, G: Gate>(
     let _grown = grid.area();
     grid.clear();
     Ok(table.close(seat, grid))
+}
+
+// Takes a block and gives it back untouched. From then on the C library's allocator keeps blocks of
+// up to that size for the next who asks. Else it returns each to the system, and the next one is of
+// pages that are zeroed anew. It bears on time alone, so where memory is wanting nothing is said.
+fn keep_large_blocks(alloc: Global) {
+    let _block: Result<Vec<u8>, AllocError> = Vec::with_capacity(alloc, LARGE_BLOCK);
 }
