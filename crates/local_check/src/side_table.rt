@@ -10,7 +10,7 @@ ghost use Rattle.local_check.specs.SideSets.{has, input_at, output_at, AreSidesO
 
 use crate::place_sides::PlaceSides;
 use crate::side_set::SideSet;
-use crate::survey::{Survey, survey_by, survey_range};
+use crate::survey::{Survey, survey_all, survey_range};
 use assembly::{Grid, Sequence};
 use std::alloc::Global;
 use std::marker::Model;
@@ -153,7 +153,7 @@ pub fn inputs_by<'a, R: Threads + Sync>(
 {
     let _valid = sys.tau();
     let index = TypeIndex::build(alloc, sys)?;
-    let survey = survey_by(rt, alloc, sys, seq, grid, &index, 0, seq.len(), workers)?;
+    let survey = survey_all(rt, alloc, sys, seq, grid, &index, workers)?;
     Ok(table(sys, grid, index, survey))
 }
 

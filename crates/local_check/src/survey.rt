@@ -22,8 +22,40 @@ pub(crate) struct Survey {
     pub(crate) breaches: Breaches,
 }
 
+// All places, by so many workers. A thread that has nothing to do is started first: the first one may
+// be put on the processor of the one that starts it, and the two would share it for a while.
+pub(crate) fn survey_all<R: Threads + Sync>(
+    rt: &R,
+    alloc: Global,
+    sys: &System,
+    seq: &Sequence,
+    whole: &Grid,
+    types: &TypeIndex,
+    workers: u32,
+) -> Result<Survey, NoMemory>
+    requires can { CanSurvey sys.now seq.now whole.now types.now }
+    requires some { 1 ≤ workers }
+    requires few { workers ≤ 16 }
+    ensures { IfOk result (IsSurvey sys.now seq.now 0 (length seq.now)) }
+{
+    let end = seq.len();
+    if workers == 1 {
+        return survey_range(alloc, sys, seq, whole, types, 0, end);
+    }
+    let (_nothing, survey) = thread::join(
+        rt,
+        move || {},
+        move || -> Result<Survey, NoMemory>
+            requires { IsSync R.row × CanSurvey sys.now seq.now whole.now types.now
+                × (end ≤ length seq.now) × (1 ≤ workers) × (workers ≤ 16) }
+            ensures { IfOk result (IsSurvey sys.entry.now seq.entry.now 0 end) }
+        { survey_by(rt, alloc, sys, seq, whole, types, 0, end, workers) },
+    );
+    survey
+}
+
 // The places from one index to before another, by so many workers, each with a range of its own.
-pub(crate) fn survey_by<R: Threads + Sync>(
+fn survey_by<R: Threads + Sync>(
     rt: &R,
     alloc: Global,
     sys: &System,
@@ -43,45 +75,31 @@ pub(crate) fn survey_by<R: Threads + Sync>(
     if workers == 1 {
         return survey_range(alloc, sys, seq, whole, types, start, end);
     }
-    let half = workers / 2;
-    let middle = parting(start, end, half, workers);
+    let middle = parting(start, end, workers);
     let (left, right) = thread::join(
         rt,
         move || -> Result<Survey, NoMemory>
-            requires { IsSync R.row × CanSurvey sys.now seq.now whole.now types.now
-                × (start ≤ middle) × (middle ≤ length seq.now) × (1 ≤ half) × (half ≤ 16) }
+            requires { CanSurvey sys.now seq.now whole.now types.now
+                × (start ≤ middle) × (middle ≤ length seq.now) }
             ensures { IfOk result (IsSurvey sys.entry.now seq.entry.now start middle) }
-        { survey_by(rt, alloc, sys, seq, whole, types, start, middle, half) },
+        { survey_range(alloc, sys, seq, whole, types, start, middle) },
         move || -> Result<Survey, NoMemory>
             requires { IsSync R.row × CanSurvey sys.now seq.now whole.now types.now
                 × (middle ≤ end) × (end ≤ length seq.now)
-                × (1 ≤ workers - half) × (workers - half ≤ 16) × (half ≤ workers) }
+                × (1 ≤ workers - 1) × (workers - 1 ≤ 16) × (1 ≤ workers) }
             ensures { IfOk result (IsSurvey sys.entry.now seq.entry.now middle end) }
-        {
-            survey_by(
-                rt,
-                alloc,
-                sys,
-                seq,
-                whole,
-                types,
-                middle,
-                end,
-                workers - half,
-            )
-        },
+        { survey_by(rt, alloc, sys, seq, whole, types, middle, end, workers - 1) },
     );
     unite(left?, right?)
 }
 
-// Where a range is parted so that so many of its workers have the places before.
-fn parting(start: usize, end: usize, before: u32, workers: u32) -> usize
+// Where a range is parted so that one of its workers has the places before.
+fn parting(start: usize, end: usize, workers: u32) -> usize
     requires range { start ≤ end }
     requires some { 1 ≤ workers }
-    requires part { before ≤ workers }
     ensures { (start ≤ result) × (result ≤ end) }
 {
-    start + (end - start) / (workers as usize) * (before as usize)
+    start + (end - start) / (workers as usize)
 }
 
 // What was found in one range, and in the range behind it.

@@ -1,15 +1,16 @@
 // The verdict on legal sequences, and what beginnings grow into.
-ghost use Rattle.std.specs.Prelude.{◌<◌, ◌^◌, ◌≡◌, true, length, IfOk};
+ghost use Rattle.std.specs.Prelude.{◌<◌, ◌≤◌, ◌^◌, ◌≡◌, true, length, IfOk};
 ghost use Rattle.atam.specs.Assembly.{Fits};
 ghost use Rattle.atam.specs.Growth.{IsLegal};
 ghost use Rattle.local_check.specs.Judgement.{IsVerdict};
 
 use crate::places::{Spot, lists, sequence_of};
 use assembly::{Grid, Sequence};
-use local_check::{Verdict, inputs, judge};
+use local_check::{Verdict, inputs, inputs_by, judge};
 use replay_order::{Legality, check_legal};
 use std::alloc::Global;
 use std::test::Fail;
+use std::thread::Threads;
 use tile_system::{NoMemory, Site, System, TypeId};
 use unique_law::{law_extends, law_part, law_same_verdict};
 use worked_systems::{CHAIN, MISMATCH, RIVALS, SQUARE, system};
@@ -55,15 +56,44 @@ fn verdict_on(alloc: Global, sys: &System, order: &Sequence) -> Result<Verdict, 
     Ok(judge(sys, order, &sides))
 }
 
-// The verdict on a sequence of these places, if it is legal.
-fn verdict_of(alloc: Global, sys: &System, spots: &[Spot]) -> Result<Option<Verdict>, NoMemory>
-    requires { length spots.now < 2 ^ 32 }
+// The same by so many workers.
+fn verdict_by<R: Threads + Sync>(
+    rt: &R,
+    alloc: Global,
+    sys: &System,
+    order: &Sequence,
+    workers: u32,
+) -> Result<Verdict, NoMemory>
+    requires some { 1 ≤ workers }
+    requires few { workers ≤ 16 }
+    requires fits { Fits sys.now order.now }
+    requires short { length order.now < 2 ^ 32 }
+    requires legal { IsLegal sys.now order.now }
+    ensures { IfOk result (IsVerdict sys.now order.now) }
+{
+    let mut grid = Grid::make(alloc, sys.area())?;
+    let _legal = check_legal(sys, order, &mut grid);
+    let sides = inputs_by(rt, alloc, sys, order, &grid, workers)?;
+    Ok(judge(sys, order, &sides))
+}
+
+// The verdict on a sequence of these places, if it is legal, by so many workers.
+fn verdict_of<R: Threads + Sync>(
+    rt: &R,
+    alloc: Global,
+    sys: &System,
+    spots: &[Spot],
+    workers: u32,
+) -> Result<Option<Verdict>, NoMemory>
+    requires some { 1 ≤ workers }
+    requires few { workers ≤ 16 }
+    requires short { length spots.now < 2 ^ 32 }
 {
     let order = sequence_of(alloc, sys, spots)?;
     if !is_legal(alloc, sys, &order)? {
         return Ok(None);
     }
-    Ok(Some(verdict_on(alloc, sys, &order)?))
+    Ok(Some(verdict_by(rt, alloc, sys, &order, workers)?))
 }
 
 #[test]
@@ -91,7 +121,10 @@ fn judges_sequences(rt: HostRuntime) -> Result<(), Fail> {
         let sys = system(rt.alloc(), text)?;
         let few = spots.len() < 10;
         assert!(rt; few);
-        assert_eq!(rt; verdict_of(rt.alloc(), &sys, spots), Ok(Some(verdict)));
+        for workers in [1, 3, 16] {
+            let found = verdict_of(&rt, rt.alloc(), &sys, spots, workers);
+            assert_eq!(rt; found, Ok(Some(verdict)));
+        }
     }
     Ok(())
 }
