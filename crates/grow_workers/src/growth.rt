@@ -1,5 +1,6 @@
 // Growth on a table, and a whole growth.
-ghost use Rattle.std.specs.Prelude.{◌≡◌, ◌≤◌, ◌+◌, [], length, IfOk};
+ghost use Rattle.std.specs.Prelude.{◌≡◌, ◌≤◌, ◌<◌, ◌+◌, [], length, IfOk};
+ghost use Rattle.std.specs.Thread.{IsSync};
 ghost use Rattle.atam.specs.Placements.{SamePlacements};
 ghost use Rattle.site_table.specs.Seats.{IsSeatOf};
 ghost use Rattle.grow_workers.specs.Workers.{OwnsAtLeast, GrewOn, IsGrowth};
@@ -12,7 +13,7 @@ use crate::team::Team;
 use assembly::{Grid, put_seeds};
 use site_table::{Grown, SiteSeat, SiteTable};
 use std::alloc::{AllocError, Global};
-use std::thread::Threads;
+use std::thread::{self, Threads};
 use tile_io::Gate;
 use tile_system::{NoMemory, System};
 
@@ -92,9 +93,56 @@ fn share_out<R: Threads + Sync, G: Gate>(
         return Ok(begin(alloc, sys, seat, seen, gate));
     }
     let team = Team::of(workers);
-    grow_from(
-        rt, alloc, sys, table, seat, &seen, 1, workers, choice, gate, &team,
+    start(
+        rt, alloc, sys, table, seat, &seen, workers, choice, gate, &team,
     )
+}
+
+// Starts the workers, behind a thread that has nothing to do: the first thread that is started may
+// be put on the processor of the one that starts it, and the two would share it for a while.
+fn start<R: Threads + Sync, G: Gate>(
+    rt: &R,
+    alloc: Global,
+    sys: &System,
+    table: &SiteTable,
+    seat: SiteSeat,
+    seen: &Grid,
+    workers: u32,
+    choice: u64,
+    gate: &G,
+    team: &Team,
+) -> Result<Harvest, NoMemory>
+    requires many { 1 < workers }
+    requires few { workers ≤ 16 }
+    requires numbers { HasNumbers workers seat.scout.owned }
+    requires seat { IsSeatOf table.now seat }
+    requires system { table.now.sys ≡ sys.now }
+    requires area { seen.now.area ≡ sys.now.area }
+    requires seen { SamePlacements seat.scout.seen seen.now.tiles }
+    ensures grew { IfOk result (λ h.
+        PartedGrowth sys.now seat seen.now h.seat h.grid h.first h.others.items) }
+    ensures seat { IfOk result (λ h. IsSeatOf table.now h.seat) }
+    ensures count { IfOk result (λ h. length h.others.items + 1 ≡ workers) }
+{
+    let (_nothing, harvest) = thread::join(
+        rt,
+        move || {},
+        move || -> Result<Harvest, NoMemory>
+            requires { IsSync R.row × (1 ≤ workers) × (workers ≤ 16)
+                × HasNumbers workers seat.scout.owned
+                × IsSeatOf table.now seat × (table.now.sys ≡ sys.now)
+                × (seen.now.area ≡ sys.now.area) × SamePlacements seat.scout.seen seen.now.tiles }
+            ensures { IfOk result (λ h.
+                PartedGrowth sys.entry.now seat seen.entry.now h.seat h.grid h.first h.others.items
+                × IsSeatOf table.entry.now h.seat
+                × (length h.others.items + 1 ≡ workers)) }
+        {
+            grow_from(
+                rt, alloc, sys, table, seat, seen, 1, workers, choice, gate, team,
+            )
+        },
+    );
+    harvest
 }
 
 // What one worker that is alone has done before its first claim.
