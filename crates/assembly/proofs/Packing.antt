@@ -1,5 +1,5 @@
 -- Places as numbers, and back.
-use Rattle.std.proofs.Common.{◌≡◌, ℕ, ◌+◌, ◌-◌, ◌*◌, ◌/◌, ◌%◌, ◌<◌, false, nat_lt, List, [], ◌∷◌, ◌++◌, length, slice_index_or, ℤ, pos, ◌-ℤ◌, ◌+ℤ◌, ap, ◌∙◌, sym, arith, refl}
+use Rattle.std.proofs.Common.{◌≡◌, ℕ, ◌+◌, ◌-◌, ◌*◌, ◌/◌, ◌%◌, ◌<◌, ◌≤◌, false, nat_lt, List, [], ◌∷◌, ◌++◌, length, slice_index_or, ℤ, pos, ◌-ℤ◌, ◌+ℤ◌, ap, ◌∙◌, sym, arith, refl}
 use Rattle.std.specs.Prelude.{if◌then◌else◌}
 use Rattle.std.proofs.lemmas.Int.{ints}
 use Rattle.std.proofs.lemmas.Bool.Decides.{nat_tests}
@@ -56,3 +56,18 @@ places_in-push_far far p packed x known index =
     let last : place_in longer x ≡ p = ap (λ b. if b then near_place x.0 else place (x.0 - FAR)) is_far ∙ (ap place at ∙ get_or-append_seam far p [] (near_place 0)) in
     map-append (place_in (far ++ p ∷ [])) packed (x ∷ []) ∙ (ap (λ (ys : List Place). ys ++ place_in (far ++ p ∷ []) x ∷ []) (places_in-more far p packed (recursion_from_All (IsPackedIn far) packed known))
     ∙ ap (λ (y : Place). places_in far packed ++ y ∷ []) last)
+
+-- places that are near all are the same whatever the far ones are
+places_in-near : (far : List Place) (packed : List PackedPlace) → AllByRecursion (IsPackedIn []) packed → places_in far packed ≡ places_in [] packed
+places_in-near far [] near = refl
+places_in-near far (x ∷ xs) near = ap (λ (y : Place). y ∷ places_in far xs) (place_in-near far x near.0) ∙ ap (λ (ys : List Place). place_in [] x ∷ ys) (places_in-near far xs near.1)
+  where
+    place_in-near : (far : List Place) (packed : PackedPlace) → IsPackedIn [] packed → place_in far packed ≡ place_in [] packed
+    place_in-near far packed near = grind (arith, nat_tests)
+
+-- places behind others, where there are no far ones among them
+pub places_in-append : (far others_far : List Place) (packed others : List PackedPlace) → length others_far ≤ 0 → All (IsPackedIn others_far) others →
+    places_in far (packed ++ others) ≡ places_in far packed ++ places_in others_far others
+places_in-append far (p ∷ rest) packed others none known = let never : ⊥ = omega (arith, none) in absurd never
+places_in-append far [] packed others none known =
+    map-append (place_in far) packed others ∙ ap (λ (ys : List Place). places_in far packed ++ ys) (places_in-near far others (recursion_from_All (IsPackedIn []) others known))

@@ -81,6 +81,31 @@ impl PackedPlaces {
         self.packed.push_reserved(PackedPlace::near(place));
     }
 
+    // All places of another one behind these.
+    pub(crate) fn append(&mut self, others: &PackedPlaces) -> Result<(), NoMemory>
+        ensures ok { OnOk result (self.new.places ≡ self.old.places ++ others.now.places) }
+        ensures unchanged { OnErr result (self.new.places ≡ self.old.places) }
+    {
+        if others.far.as_slice().len() > 0 {
+            return self.append_each(others);
+        }
+        self.packed.extend_from_slice(others.packed.as_slice())?;
+        Ok(())
+    }
+
+    // The same one by one, into a copy.
+    fn append_each(&mut self, others: &PackedPlaces) -> Result<(), NoMemory>
+        ensures ok { OnOk result (self.new.places ≡ self.old.places ++ others.now.places) }
+        ensures unchanged { OnErr result (self.new.places ≡ self.old.places) }
+    {
+        let mut all = self.copy()?;
+        for index in 0..others.len() {
+            all.push(others.get(index))?;
+        }
+        *self = all;
+        Ok(())
+    }
+
     pub(crate) fn copy(&self) -> Result<PackedPlaces, NoMemory>
         ensures { IfOk result (λ places. places.places ≡ self.now.places) }
     {

@@ -45,6 +45,14 @@ impl Sequence {
         self.places.push(place)
     }
 
+    /// All places of another sequence behind these.
+    pub fn append(&mut self, others: &Sequence) -> Result<(), NoMemory>
+        ensures ok { OnOk result (self.new ≡ self.old ++ others.now) }
+        ensures unchanged { OnErr result (self.new ≡ self.old) }
+    {
+        self.places.append(&others.places)
+    }
+
     /// The same sequence once more.
     pub fn copy(&self) -> Result<Sequence, NoMemory>
         ensures { IfOk result (λ seq. seq ≡ self.now) }
