@@ -2,6 +2,7 @@ pub mod Verdicts
 pub mod Existence
 pub mod Sites
 pub mod Sides
+pub mod FullBoxes
 pub mod Judging
 pub mod PlaceFindings
 pub mod Standing

@@ -1,16 +1,17 @@
 // The verdict on a legal sequence.
 ghost use Rattle.atam.specs.Assembly.{Fits};
-ghost use Rattle.atam.specs.Growth.{IsLegal};
+ghost use Rattle.atam.specs.Growth.{IsLeastOpen, IsLegal};
 ghost use Rattle.local_check.specs.SideSets.{AreSidesOf};
 ghost use Rattle.local_check.specs.Judgement.{IsVerdict};
 
 use crate::{SideSets, Verdict};
 use assembly::Sequence;
-use tile_system::System;
+use tile_system::{Site, System, TypeId};
 
 /// The verdict on a legal sequence with its sides: the first condition that fails, at the first
 /// place of the sequence where it fails, or at the least open site. It takes no memory. What fails
-/// at a place was found with the sides, so its time grows with the number of sites of the box.
+/// at a place was found with the sides, so its time grows with the number of sites of the box, and
+/// with those beside the box alone where it is full.
 pub fn judge(sys: &System, seq: &Sequence, sides: &SideSets) -> Verdict
     requires legal { IsLegal sys.now seq.now }
     requires fits { Fits sys.now seq.now }
@@ -24,8 +25,23 @@ pub fn judge(sys: &System, seq: &Sequence, sides: &SideSets) -> Verdict
     if let Some((site, tile)) = sides.rival() {
         return Verdict::Rival { site, tile };
     }
-    match sides.index().least_open(sys, sides) {
+    match least_open(sys, seq, sides) {
         Some((site, tile)) => Verdict::NotTerminal { site, tile },
         None => Verdict::Yes,
     }
+}
+
+// The least open site of the plane. In a box that is full none is looked for.
+fn least_open(sys: &System, seq: &Sequence, sides: &SideSets) -> Option<(Site, TypeId)>
+    requires legal { IsLegal sys.now seq.now }
+    requires fits { Fits sys.now seq.now }
+    requires sides { AreSidesOf sys.now seq.now sides.now }
+    ensures { IsLeastOpen sys.now seq.now result }
+{
+    let area = sys.area();
+    let _valid = sys.tau();
+    if seq.len() == area.width() as usize * area.height() as usize {
+        return sides.index().least_open_outside(sys, sides);
+    }
+    sides.index().least_open(sys, sides)
 }

@@ -1,0 +1,34 @@
+-- A box that is full: nothing is open in it.
+use Rattle.std.proofs.Common.{◌≡◌, ◌≢◌, ◌*◌, List, [], ◌∷◌, ◌++◌, All, length, length-append, Option, Some, None, arith}
+use Rattle.std.proofs.lemmas.List.Elements.{All-push}
+use Rattle.atam.specs.declared.site.Site.{Site}
+use Rattle.atam.specs.declared.place.TypeId.{TypeId}
+use Rattle.atam.specs.declared.place.Place.{Place}
+use Rattle.atam.specs.declared.area.BoxArea.{BoxArea}
+use Rattle.atam.specs.Sites.{InBox, width_of, height_of}
+use Rattle.atam.specs.Placements.{HasDistinctSites, tile_at}
+use Rattle.atam.specs.TileSystem.{TileSystem}
+use Rattle.atam.specs.Growth.{IsLeastOpen, IsLeastOpenAmong, IsLeastOpenOutside}
+use Rattle.atam.proofs.Count.{count_in_box}
+use Rattle.atam.proofs.Placements.{HasDistinctSites-push}
+use Rattle.attach_rule.proofs.LeastOfBoth.{least_inside, least_outside}
+
+-- as many tiles as the box has sites leave none empty
+full_box : (area : BoxArea) (tiles : List Place) → HasDistinctSites tiles → All (λ p. InBox area p.site) tiles → length tiles ≡ width_of area * height_of area →
+    (m : Site) → InBox area m → tile_at tiles m ≢ None
+full_box area tiles distinct inside full m within empty =
+    let p : Place = record { site = m; tile = record { 0 = 0 } } in
+    let few = count_in_box area (tiles ++ p ∷ []) (HasDistinctSites-push tiles p distinct empty) (All-push (λ (q : Place). InBox area q.site) tiles p inside within) in
+    let never : ⊥ = omega (arith, few, full, length-append tiles (p ∷ [])) in
+    never
+
+-- then the least open site is the least one outside
+pub least_open-full : (sys : TileSystem) (tiles : List Place) → HasDistinctSites tiles → All (λ p. InBox sys.area p.site) tiles → length tiles ≡ width_of sys.area * height_of sys.area →
+    (found : Option (Site × TypeId)) → IsLeastOpenOutside sys tiles found → IsLeastOpen sys tiles found
+least_open-full sys tiles distinct inside full found outside =
+    let none : IsLeastOpenAmong sys tiles (InBox sys.area) None = λ m t within grows. full_box sys.area tiles distinct inside full m within grows.attaches.empty in
+    by_both found outside none
+  where
+    by_both : (o : Option (Site × TypeId)) → IsLeastOpenOutside sys tiles o → IsLeastOpenAmong sys tiles (InBox sys.area) None → IsLeastOpen sys tiles o
+    by_both None out none = least_inside sys tiles None None none out (λ first. first)
+    by_both (Some g) out none = least_outside sys tiles None (Some g) none out tt
