@@ -1,7 +1,6 @@
 -- Sites that are listed by their numbers.
-use Rattle.std.proofs.Common.{◌⊎◌, Bool, true, true≢false, not, is_some, ◌≡◌, ◌<◌, ◌≤◌, ◌+◌, ◌-◌, ◌*◌, ℕ, ◌-ℤ◌, ◌<ℤ◌, nat_abs, List, Option, Some, None, refl, sym, ◌∙◌, ap, subst, inl, inr, arith}
+use Rattle.std.proofs.Common.{◌⊎◌, Bool, true, true≢false, not, is_some, ◌≡◌, ◌<◌, ◌≤◌, ◌+◌, ◌*◌, ℕ, List, Option, Some, None, sym, ◌∙◌, ap, subst, inl, inr, arith}
 use Rattle.std.proofs.lemmas.Bool.{cases_eq, cases_lt}
-use Rattle.std.proofs.lemmas.Int.{ints}
 use Rattle.std.proofs.lemmas.Option.{none-some}
 use Rattle.std.proofs.Math.Nat.{le_trans}
 use Rattle.atam.specs.declared.site.Side.{Side}
@@ -20,35 +19,12 @@ use Rattle.atam.proofs.Lists.{All-slice_get}
 use Rattle.atam.proofs.Placements.{tile_at-place}
 use Rattle.tile_system.specs.declared.placed.Beside.{Beside}
 use Rattle.tile_system.specs.Neighbors.{StandBeside}
-use Rattle.assembly.specs.Cells.{cell_count, site_at}
+use Rattle.assembly.specs.Cells.{IsSiteNumber, cell_count, site_at}
 use Rattle.assembly.proofs.Cells.{at_cell, index_of, site_at-injective, site_at-inside}
 use Rattle.number_set.specs.Numbers.{Numbers, IsIn, Adds, Removes}
 use Rattle.number_set.proofs.Counting.{count_below-adds}
-use Rattle.frontier_seat.specs.declared.work_list.Spot.{Spot}
 use Rattle.frontier_seat.specs.Inner.Listings.{AreEmptySites, ListsAround, ListsFrontier, ListsFrontierTo, ListsSide, IsSpot}
 use Rattle.frontier_seat.specs.Inner.Looks.{IsClosedBut, ListsOpen}
-
--- the number of a site by its row and column
-abbrev pub cell : BoxArea → Site → ℕ
-cell area m = nat_abs (m.y -ℤ area.y0) * width_of area + nat_abs (m.x -ℤ area.x0)
-
-site_at-number : (area : BoxArea) (m : Site) → InBox area m → (site_at area (cell area m) ≡ m) × (cell area m < cell_count area)
-site_at-number area m inside =
-    let bottom = inside.bottom in
-    let left = inside.left in
-    at_cell area m (nat_abs (m.y -ℤ area.y0)) (nat_abs (m.x -ℤ area.x0)) (width_of area) inside refl (omega (arith, ints, bottom)) (omega (arith, ints, left))
-
-pub spot_number : (area : BoxArea) (spot : Spot) → IsSpot area spot → spot.number ≡ cell area spot.site
-spot_number area spot is = site_at-injective area spot.number (cell area spot.site) (is.site ∙ sym (site_at-number area spot.site is.inside).0)
-
-pub spot_of : (area : BoxArea) (m : Site) (n : ℕ) → InBox area m → n ≡ cell area m → IsSpot area (record { site = m; number = n })
-spot_of area m n inside same =
-    let at = site_at-number area m inside in
-    record {
-      within = subst (λ (k : ℕ). k < cell_count area) (sym same) at.1;
-      site = ap (site_at area) same ∙ at.0;
-      inside = inside;
-    }
 
 -- a site that is looked up by its number
 pub spot_here : (area : BoxArea) (m : Site) (n : ℕ) → n < cell_count area → m ≡ site_at area n → InBox area m → IsSpot area (record { site = m; number = n })
@@ -64,73 +40,9 @@ spot_in_row area m row column width number inside is same_width same =
       inside = inside;
     }
 
+-- a row more
 pub row_more : (row next width : ℕ) → next ≡ row + 1 → next * width ≡ row * width + width
 row_more row next width more = ap (λ (k : ℕ). k * width) more ∙ grind arith
-
-module _ (area : BoxArea) (spot : Spot) (is : IsSpot area spot) where
-  pub spot_north : spot.site.y <ℤ area.y1 → IsSpot area (record { site = neighbor spot.site North; number = spot.number + width_of area })
-  spot_north below =
-      let inside = is.inside in
-      let a = inside.left in
-      let b = inside.right in
-      let c = inside.bottom in
-      let d = inside.top in
-      let m = neighbor spot.site North in
-      let rows = row_more (nat_abs (spot.site.y -ℤ area.y0)) (nat_abs (m.y -ℤ area.y0)) (width_of area) (omega (arith, ints, c)) in
-      let number = spot_number area spot is in
-      spot_of area m (spot.number + width_of area) (record { left = a; right = b; bottom = omega (arith, ints, c); top = omega (arith, ints, d, below) }) (omega (arith, rows, number))
-
-  pub spot_east : spot.site.x <ℤ area.x1 → IsSpot area (record { site = neighbor spot.site East; number = spot.number + 1 })
-  spot_east below =
-      let inside = is.inside in
-      let a = inside.left in
-      let b = inside.right in
-      let m = neighbor spot.site East in
-      let columns : nat_abs (m.x -ℤ area.x0) ≡ nat_abs (spot.site.x -ℤ area.x0) + 1 = omega (arith, ints, a) in
-      let number = spot_number area spot is in
-      spot_of area m (spot.number + 1) (record { left = omega (arith, ints, a); right = omega (arith, ints, b, below); bottom = inside.bottom; top = inside.top }) (omega (arith, columns, number))
-
-  pub south_within : area.y0 <ℤ spot.site.y → width_of area ≤ spot.number
-  south_within above =
-      let inside = is.inside in
-      let c = inside.bottom in
-      let m = neighbor spot.site South in
-      let rows = row_more (nat_abs (m.y -ℤ area.y0)) (nat_abs (spot.site.y -ℤ area.y0)) (width_of area) (omega (arith, ints, c, above)) in
-      let number = spot_number area spot is in
-      omega (arith, rows, number)
-
-  pub spot_south : area.y0 <ℤ spot.site.y → IsSpot area (record { site = neighbor spot.site South; number = spot.number - width_of area })
-  spot_south above =
-      let inside = is.inside in
-      let c = inside.bottom in
-      let d = inside.top in
-      let m = neighbor spot.site South in
-      let rows = row_more (nat_abs (m.y -ℤ area.y0)) (nat_abs (spot.site.y -ℤ area.y0)) (width_of area) (omega (arith, ints, c, above)) in
-      let number = spot_number area spot is in
-      spot_of area m (spot.number - width_of area) (record { left = inside.left; right = inside.right; bottom = omega (arith, ints, c, above); top = omega (arith, ints, d) }) (omega (arith, rows, number))
-
-  pub west_within : area.x0 <ℤ spot.site.x → 1 ≤ spot.number
-  west_within above =
-      let inside = is.inside in
-      let a = inside.left in
-      let columns : 1 ≤ nat_abs (spot.site.x -ℤ area.x0) = omega (arith, ints, a, above) in
-      let number = spot_number area spot is in
-      omega (arith, columns, number)
-
-  pub spot_west : area.x0 <ℤ spot.site.x → IsSpot area (record { site = neighbor spot.site West; number = spot.number - 1 })
-  spot_west above =
-      let inside = is.inside in
-      let a = inside.left in
-      let b = inside.right in
-      let m = neighbor spot.site West in
-      let columns : nat_abs (spot.site.x -ℤ area.x0) ≡ nat_abs (m.x -ℤ area.x0) + 1 = omega (arith, ints, a, above) in
-      let number = spot_number area spot is in
-      spot_of area m (spot.number - 1) (record { left = omega (arith, ints, a, above); right = omega (arith, ints, b); bottom = inside.bottom; top = inside.top }) (omega (arith, columns, number))
-
--- at a side that is known
-pub spot_moved : (area : BoxArea) (m : Site) (side d : Side) (n k : ℕ) → side ≡ d → n ≡ k → IsSpot area (record { site = neighbor m d; number = k }) → IsSpot area (record { site = neighbor m side; number = n })
-spot_moved area m side d n k same_side same is =
-    subst (λ (s : Side). IsSpot area (record { site = neighbor m s; number = n })) (sym same_side) (subst (λ (j : ℕ). IsSpot area (record { site = neighbor m d; number = j })) (sym same) is)
 
 -- one side, where nothing is listed
 pub lists_no_side : (area : BoxArea) (m : Site) (there : Option TypeId) (old : Numbers) → (there ≡ None → ¬ InBox area m) → IsBox area → ListsSide area m there old old
@@ -142,7 +54,7 @@ lists_no_side area m there old outside limits = record {
 }
 
 -- where its number is
-pub lists_side : (area : BoxArea) (m : Site) (n : ℕ) (there : Option TypeId) (old new : Numbers) → IsSpot area (record { site = m; number = n }) → there ≡ None → Adds old new n → ListsSide area m there old new
+pub lists_side : (area : BoxArea) (m : Site) (n : ℕ) (there : Option TypeId) (old new : Numbers) → IsSiteNumber area m n → there ≡ None → Adds old new n → ListsSide area m there old new
 lists_side area m n there old new is none adds = record {
   kept = λ k c. (adds k).1 (inl c);
   added = λ k within here _. (adds k).1 (inr (site_at-injective area k n (here ∙ sym is.site)));

@@ -5,10 +5,10 @@ ghost use Rattle.atam.specs.Placements.{tile_at};
 ghost use Rattle.assembly.specs.Cells.{cell_count};
 ghost use Rattle.tile_system.specs.Neighbors.{StandBeside};
 ghost use Rattle.number_set.specs.Numbers.{Adds, IsIn, IsLeastOf, Removes};
-ghost use Rattle.frontier_seat.specs.Inner.Listings.{AreEmptySites, ListsAround, ListsFrontier, ListsFrontierTo, ListsSide, IsClosedRow, IsSpot, IsSpotBeside, TakesSpot};
+ghost use Rattle.frontier_seat.specs.Inner.Listings.{AreEmptySites, ListsAround, ListsFrontier, ListsFrontierTo, ListsSide, IsClosedRow, IsSpot, TakesSpot};
 
 use crate::share::Share;
-use assembly::{Grid, Row};
+use assembly::{Grid, Row, number_beside};
 use number_set::NumberSet;
 use std::alloc::Global;
 use std::marker::Model;
@@ -243,7 +243,7 @@ impl WorkList {
         if there.is_some() {
             return;
         }
-        if let Some(number) = number_beside(&self.area, spot, side) {
+        if let Some(number) = number_beside(&self.area, spot.site, spot.number, side) {
             self.numbers.insert(number);
         }
     }
@@ -365,40 +365,4 @@ fn column_and_row(area: &BoxArea, site: Site) -> (u32, u32)
     requires inside { InBox area.now site }
 {
     ((site.x - area.x0) as u32, (site.y - area.y0) as u32)
-}
-
-// The number of the site on one side, if it is in the box.
-#[inline(always)]
-fn number_beside(area: &BoxArea, spot: Spot, side: Side) -> Option<usize>
-    requires limits { IsBox area.now }
-    requires spot { IsSpot area.now spot }
-    ensures { IsSpotBeside area.now (neighbor spot.site side) result }
-{
-    let Spot { site, number } = spot;
-    match side {
-        Side::North => {
-            if site.y >= area.y1 {
-                return None;
-            }
-            Some(number + area.width() as usize)
-        }
-        Side::East => {
-            if site.x >= area.x1 {
-                return None;
-            }
-            Some(number + 1)
-        }
-        Side::South => {
-            if site.y <= area.y0 {
-                return None;
-            }
-            Some(number - area.width() as usize)
-        }
-        Side::West => {
-            if site.x <= area.x0 {
-                return None;
-            }
-            Some(number - 1)
-        }
-    }
 }

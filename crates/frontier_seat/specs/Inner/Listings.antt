@@ -1,5 +1,5 @@
 -- Sites that are to be looked at, by their numbers.
-use Rattle.std.specs.Prelude.{◌≡◌, ◌≢◌, ◌⊎◌, ℕ, ◌+◌, ◌≤◌, ◌<◌, List, Option, Some, None, MatchOption}
+use Rattle.std.specs.Prelude.{◌≡◌, ◌≢◌, ◌⊎◌, ℕ, ◌+◌, ◌≤◌, ◌<◌, List, Option, Some, None}
 use Rattle.atam.specs.declared.site.Side.{Side}
 use Rattle.atam.specs.declared.site.Site.{Site}
 use Rattle.atam.specs.declared.place.TypeId.{TypeId}
@@ -22,10 +22,6 @@ pub record IsSpot (area : BoxArea) (spot : Spot) : Type 0 where
   pub within : spot.number < cell_count area
   pub site : site_at area spot.number ≡ spot.site
   pub inside : InBox area spot.site
-
--- the number of a site; none exactly where it is outside the box
-abbrev pub IsSpotBeside : BoxArea → Site → Option ℕ → Type 0
-IsSpotBeside area m found = MatchOption found (¬ InBox area m) (λ number. IsSpot area (record { site = m; number = number }))
 
 -- a site that was listed is listed no longer
 pub record TakesSpot (area : BoxArea) (old new : Numbers) (taken : Spot) : Type 0 where
