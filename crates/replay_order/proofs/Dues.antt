@@ -10,7 +10,7 @@ use Rattle.atam.specs.declared.area.BoxArea.{BoxArea}
 use Rattle.atam.specs.Placements.{HasDistinctSites, tile_at}
 use Rattle.atam.proofs.Placements.{distinct-empty}
 use Rattle.atam.proofs.Tiles.{tile_at-push_other, tile_at-push_here}
-use Rattle.assembly.specs.Cells.{cell_count, site_at}
+use Rattle.assembly.specs.Cells.{site_at}
 use Rattle.assembly.proofs.Cells.{site_at-injective}
 use Rattle.assembly.proofs.Putting.{take_more}
 use Rattle.replay_order.specs.Inner.Replays.{due_at}
@@ -22,21 +22,28 @@ pub due_at-other : (seeds : List Place) (tau : ℕ) (m : Site) → tile_at seeds
 due_at-other seeds tau m none = ap (λ o. option_map_or (λ _. 0) o tau) none
 
 -- one seed more, at whose number nothing is due
-pub dues_more : (area : BoxArea) (seeds : List Place) (k : ℕ) (p : Place) (tau : ℕ) (dues : List ℕ) (number : ℕ) → HasDistinctSites seeds → slice_get seeds k ≡ Some p →
-    site_at area number ≡ p.site → number < length dues → ((i : ℕ) → i < cell_count area → get_or dues i 0 ≡ due_at (take k seeds) tau (site_at area i)) →
-    (i : ℕ) → i < cell_count area → get_or (set dues number 0) i 0 ≡ due_at (take (k + 1) seeds) tau (site_at area i)
-dues_more area seeds k p tau dues number distinct there is within before i below =
-    let Due : List Place → Type 0 = λ s. get_or (set dues number 0) i 0 ≡ due_at s tau (site_at area i) in
-    let s = take k seeds in
-    let more : Due (s ++ p ∷ []) = elim (eqb_tells i number) [
-      | inl same ↦
-          let At : Site → Type 0 = λ n. tile_at (s ++ p ∷ []) n ≡ Some p.tile in
-          let here : site_at area i ≡ p.site = ap (λ j. site_at area j) same.1 ∙ is in
-          let seed = subst At (sym here) (tile_at-push_here s p (distinct-empty seeds k p distinct there)) in
-          ap (λ j. get_or (set dues number 0) j 0) same.1 ∙ get_or-set_same dues number 0 0 within ∙ sym (due_at-seed (s ++ p ∷ []) tau (site_at area i) p.tile seed)
-      | inr differ ↦
-          let other = tile_at-push_other s p (site_at area i) (λ one. differ.1 (site_at-injective area i number (sym one ∙ sym is))) in
-          get_or-set_other dues number i 0 0 differ.1 ∙ before i below ∙ ap (λ o. option_map_or (λ _. 0) o tau) (sym other)
-    ]
-    in
-    subst Due (sym (take_more seeds k p there)) more
+module _ (area : BoxArea) (seeds : List Place) (k : ℕ) (p : Place) (tau : ℕ) (dues : List ℕ) (number : ℕ) (distinct : HasDistinctSites seeds)
+    (there : slice_get seeds k ≡ Some p) (is : site_at area number ≡ p.site) (within : number < length dues) where
+  pub dues_more : (i : ℕ) → get_or dues i 0 ≡ due_at (take k seeds) tau (site_at area i) → get_or (set dues number 0) i 0 ≡ due_at (take (k + 1) seeds) tau (site_at area i)
+  dues_more i before =
+      let Due : List Place → Type 0 = λ s. get_or (set dues number 0) i 0 ≡ due_at s tau (site_at area i) in
+      let s = take k seeds in
+      let more : Due (s ++ p ∷ []) = elim (eqb_tells i number) [
+        | inl same ↦
+            let At : Site → Type 0 = λ n. tile_at (s ++ p ∷ []) n ≡ Some p.tile in
+            let here : site_at area i ≡ p.site = ap (λ j. site_at area j) same.1 ∙ is in
+            let seed = subst At (sym here) (tile_at-push_here s p (distinct-empty seeds k p distinct there)) in
+            ap (λ j. get_or (set dues number 0) j 0) same.1 ∙ get_or-set_same dues number 0 0 within ∙ sym (due_at-seed (s ++ p ∷ []) tau (site_at area i) p.tile seed)
+        | inr differ ↦
+            let other = tile_at-push_other s p (site_at area i) (λ one. differ.1 (site_at-injective area i number (sym one ∙ sym is))) in
+            get_or-set_other dues number i 0 0 differ.1 ∙ before ∙ ap (λ o. option_map_or (λ _. 0) o tau) (sym other)
+      ]
+      in
+      subst Due (sym (take_more seeds k p there)) more
+
+  -- and what was 0 stays 0
+  pub none_due_more : (i : ℕ) → get_or dues i 0 ≡ 0 → get_or (set dues number 0) i 0 ≡ 0
+  none_due_more i before = elim (eqb_tells i number) [
+    | inl same ↦ ap (λ j. get_or (set dues number 0) j 0) same.1 ∙ get_or-set_same dues number 0 0 within
+    | inr differ ↦ get_or-set_other dues number i 0 0 differ.1 ∙ before
+  ]

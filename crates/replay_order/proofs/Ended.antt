@@ -1,5 +1,5 @@
 -- A canonical sequence with nothing left, and one that leaves tiles over.
-use Rattle.std.proofs.Common.{rules, ◌≡◌, ◌≢◌, ◌≤◌, ◌+◌, ℕ, List, length, Option, Some, None, IsSome, Contains, refl, sym, ◌∙◌, subst, inl, inr, arith}
+use Rattle.std.proofs.Common.{rules, ◌≡◌, ◌≢◌, ◌≤◌, ◌+◌, ◌++◌, ℕ, List, length, Option, Some, None, IsSome, Contains, refl, sym, ◌∙◌, subst, inl, inr, arith}
 use Rattle.std.proofs.lemmas.Option.{none-some}
 use Rattle.std.proofs.lemmas.List.Elements.{All-contains}
 use Rattle.atam.specs.declared.site.Site.{Site}
@@ -16,9 +16,12 @@ use Rattle.atam.proofs.Canon.{canonical_part, canonical_IsLegal, producible_exac
 use Rattle.atam.proofs.Sequences.{IsLegal-distinct}
 use Rattle.atam.proofs.Opening.{Fits-part}
 use Rattle.atam.proofs.Beginnings.{unlisted_empty}
-use Rattle.replay_order.specs.Inner.Replays.{IsLeftAt, IsLeastLeft}
-use Rattle.replay_order.specs.ReplayAnswers.{IsWholeOrder, IsStuckAt}
-use Rattle.replay_order.proofs.Begun.{fewer_listed}
+use Rattle.assembly.specs.Cells.{cell_count}
+use Rattle.assembly.proofs.Cells.{index_of}
+use Rattle.replay_order.specs.Inner.Replays.{Waiting, AreLacks, IsLeftAt, IsLeastLeft}
+use Rattle.replay_order.specs.Inner.Spans.{IsSpanListed}
+use Rattle.replay_order.specs.ReplayAnswers.{HoldsSeeds, IsWholeOrder, IsStuckAt}
+use Rattle.replay_order.proofs.Begun.{fewer_listed, seeds_part, goes_on_begins}
 
 module _ (sys : TileSystem) (tiles s : List Place) (fits : Fits sys tiles) (distinct : HasDistinctSites tiles)
     (seeds_distinct : HasDistinctSites sys.seeds) (canonical : IsCanonical sys tiles s) where
@@ -101,3 +104,28 @@ module _ (sys : TileSystem) (tiles s : List Place) (fits : Fits sys tiles) (dist
         unproducible = λ producible.
             unlisted ((producible_exactly sys tiles s distinct fits.types seeds_distinct canonical).0 producible first placed);
       }
+
+-- what is listed behind the seeds of the span of all sites makes the canonical order, and it is known what each tile lacks then
+pub record IsListedWhole (sys : TileSystem) (tiles s : List Place) (waiting : Waiting) : Type 0 where
+  pub canonical : IsCanonical sys tiles s
+  pub lacks : AreLacks sys tiles s waiting
+  pub from_first : waiting.first ≡ 0
+  pub to_last : waiting.end ≡ cell_count sys.area
+
+pub span_whole : (sys : TileSystem) (tiles new : List Place) (waiting : Waiting) → Fits sys tiles → HoldsSeeds sys tiles → IsSpanListed sys tiles 0 (cell_count sys.area) sys.seeds new waiting →
+    IsListedWhole sys tiles new waiting
+span_whole sys tiles new waiting fits held listed =
+    let s = sys.seeds ++ listed.part in
+    let canonical : IsCanonical sys tiles s = record {
+      begins = goes_on_begins sys tiles listed.part (seeds_part sys tiles held) listed.is_part.goes_on;
+      whole = λ q ready.
+          let i = index_of sys.area q.site (All-contains (λ p. InBox sys.area p.site) tiles q fits.sites ready.placed) in
+          listed.is_part.whole q (record { number = i.0; from = omega arith; before = i.1; site = i.2 }) ready;
+    }
+    in
+    record {
+      canonical = subst (IsCanonical sys tiles) (sym listed.listed) canonical;
+      lacks = subst (λ l. AreLacks sys tiles l waiting) (sym listed.listed) listed.lacks;
+      from_first = listed.same_first;
+      to_last = listed.same_end;
+    }

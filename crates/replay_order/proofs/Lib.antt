@@ -3,7 +3,12 @@ pub mod Pulls
 pub mod Dues
 pub mod Lowerings
 pub mod ReadySites
+pub mod Standing
+pub mod RowBelow
 pub mod Begun
+pub mod SpanRoom
+pub mod SpanSteps
+pub mod Spans
 pub mod Rests
 pub mod Ended
 pub mod Sequences

@@ -1,5 +1,5 @@
 -- What the tiles of a box lack, as those beside a place are given the strengths that they have with it.
-use Rattle.std.proofs.Common.{List, ◌≡◌, ◌≢◌, ◌⊎◌, ◌↔◌, ◌<◌, ◌+◌, ◌-◌, ℕ, length, get_or, sym, ◌∙◌, ap, subst, inl, inr, arith}
+use Rattle.std.proofs.Common.{List, ◌≡◌, ◌≢◌, ◌⊎◌, ◌↔◌, ◌<◌, ◌+◌, ◌-◌, ℕ, length, get_or, refl, sym, ◌∙◌, ap, subst, inl, inr, arith}
 use Rattle.std.proofs.Common.{get_or-set_same, get_or-set_other}
 use Rattle.std.proofs.lemmas.Bool.{cases_lt}
 use Rattle.std.proofs.lemmas.Bool.Decides.{eqb_tells}
@@ -22,6 +22,8 @@ pub Lowers-both : (area : BoxArea) (f g : Site → ℕ) (a b c : Waiting) → Lo
 Lowers-both area f g a b c first second = record {
   old_area = first.old_area;
   new_area = second.new_area;
+  same_first = second.same_first ∙ first.same_first;
+  same_end = second.same_end ∙ first.same_end;
   lacks = λ i below. omega (arith, first.lacks i below, second.lacks i below);
   ready = λ i below. (
     λ is_in. elim ((second.ready i below).0 is_in) [
@@ -47,6 +49,8 @@ module _ (area : BoxArea) (sys : TileSystem) (tiles : List Place) (p : Place) (d
   lowers_nothing either = record {
     old_area = old_area;
     new_area = old_area;
+    same_first = refl;
+    same_end = refl;
     lacks = λ i below. elim (either i below) [ inl none ↦ omega (arith, none) | inr none ↦ omega (arith, none) ];
     ready = λ i below. (
       λ is_in. inl is_in,
@@ -78,10 +82,10 @@ module _ (area : BoxArea) (sys : TileSystem) (tiles : List Place) (p : Place) (d
     ])
 
     -- a number is written
-    pub lowers_one : (new : Waiting) (left : ℕ) → new.area ≡ area → number < length old.lacks → 0 < get_or old.lacks number 0 →
+    pub lowers_one : (new : Waiting) (left : ℕ) → new.area ≡ area → new.first ≡ old.first → new.end ≡ old.end → number < length old.lacks → 0 < get_or old.lacks number 0 →
         left ≡ get_or old.lacks number 0 - bond sys tiles p.site p.tile d → new.lacks ≡ set old.lacks number left →
         ((m : ℕ) → IsAmong new.ready m ↔ (IsAmong old.ready m ⊎ ((m ≡ number) × (left ≡ 0)))) → Lowers area (given_to sys tiles p d) old new
-    lowers_one new left new_area within some is written ready =
+    lowers_one new left new_area same_first same_end within some is written ready =
         let at_here : get_or new.lacks number 0 ≡ left = ap (λ l. get_or l number 0) written ∙ get_or-set_same old.lacks number left 0 within in
         let at_other : (i : ℕ) → i ≢ number → get_or new.lacks i 0 ≡ get_or old.lacks i 0 = λ i other.
         ap (λ l. get_or l i 0) written ∙ get_or-set_other old.lacks number i left 0 other
@@ -91,6 +95,8 @@ module _ (area : BoxArea) (sys : TileSystem) (tiles : List Place) (p : Place) (d
         record {
           old_area = old_area;
           new_area = new_area;
+          same_first = same_first;
+          same_end = same_end;
           lacks = λ i below. elim (eqb_tells i number) [
             | inl same ↦ subst Left (sym same.1) left_here
             | inr differ ↦ omega (arith, at_other i differ.1, given_to-other sys tiles p d (site_at area i) (apart i differ.1))

@@ -15,7 +15,7 @@ use Rattle.atam.proofs.Lists.{some_or_none}
 use Rattle.atam.proofs.Placements.{tile_at-Contains}
 use Rattle.assembly.specs.Cells.{cell_count, site_at}
 use Rattle.assembly.proofs.Cells.{index_of, not_before}
-use Rattle.replay_order.specs.Inner.Replays.{Waiting, AreLacks, IsLackingAt, NoneLacksBelow, IsLeastLacking, IsLeftAt, IsLeastLeft}
+use Rattle.replay_order.specs.Inner.Replays.{Waiting, IsInSpan, AreLacks, IsLackingAt, NoneLacksBelow, IsLeastLacking, IsLeftAt, IsLeastLeft}
 use Rattle.replay_order.proofs.Dues.{due_at-other}
 use Rattle.replay_order.proofs.Begun.{listed_site, no_seed_at}
 
@@ -50,8 +50,11 @@ module _ (tiles : List Place) (waiting : Waiting) (area : BoxArea) (n : ℕ) (m 
   empty_lacks (Some t) at none lacking = true≢false none
   empty_lacks None at none lacking = none-some lacking.tile (at ∙ ap (tile_at tiles) here ∙ lacking.placed)
 
--- once no place is ready
-module _ (sys : TileSystem) (tiles s : List Place) (waiting : Waiting) (canonical : IsCanonical sys tiles s) (lacks : AreLacks sys tiles s waiting) where
+-- once no place is ready, where all sites have waited
+module _ (sys : TileSystem) (tiles s : List Place) (waiting : Waiting) (canonical : IsCanonical sys tiles s) (lacks : AreLacks sys tiles s waiting) (from_first : waiting.first ≡ 0) (to_last : waiting.end ≡ cell_count sys.area) where
+  all_wait : (i : ℕ) → i < cell_count sys.area → IsInSpan waiting i
+  all_wait i below = record { from = omega (arith, from_first); before = omega (arith, below, to_last) }
+
   -- a tile that isn't listed lacks something
   left_lacks : (i : ℕ) → i < cell_count sys.area → IsLeftAt tiles s (site_at sys.area i) → IsLackingAt tiles waiting i
   left_lacks i below left =
@@ -65,7 +68,7 @@ module _ (sys : TileSystem) (tiles s : List Place) (waiting : Waiting) (canonica
             absurd (canonical.whole p (record {
               placed = tile_at-Contains tiles m left.tile left.placed;
               unlisted = λ listed. listed_site s p listed left.unlisted;
-              held = omega (arith, none, due, lacks.each i left.tile below left.placed);
+              held = omega (arith, none, due, lacks.each i left.tile below (all_wait i below) left.placed);
             }))
       ]
 
@@ -79,7 +82,7 @@ module _ (sys : TileSystem) (tiles s : List Place) (waiting : Waiting) (canonica
         placed = subst At lacks.area lacking.placed;
         unlisted = elim (some_or_none (tile_at s m)) [
           | inl none ↦ none
-          | inr listed ↦ let never : ⊥ = omega (arith, lacks.settled i listed.0 below listed.1, lacking.lacks) in absurd never
+          | inr listed ↦ let never : ⊥ = omega (arith, lacks.settled i listed.0 below (all_wait i below) listed.1, lacking.lacks) in absurd never
         ];
       }
 

@@ -1,3 +1,4 @@
 pub mod ReadyNumbers
 pub mod Replays
 pub mod SideGlues
+pub mod Spans

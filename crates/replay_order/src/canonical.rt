@@ -1,13 +1,13 @@
 // The canonical order of an assembly.
-ghost use Rattle.std.specs.Prelude.{◌≡◌, ◌≢◌, ◌↔◌, ◌<◌, ◌≤◌, IsOk, ◌∷◌, ◌++◌, [], length, Some, None, IfOk};
+ghost use Rattle.std.specs.Prelude.{◌≡◌, ◌≢◌, ◌↔◌, ◌⊎◌, ◌≤◌, ◌+◌, ◌-◌, IsOk, [], length, Some, IfOk};
 ghost use Rattle.std.specs.Bool.{OnTrue, OnFalse};
 ghost use Rattle.atam.specs.Placements.{HasDistinctSites, tile_at};
 ghost use Rattle.atam.specs.TileSystem.{IsValid};
-ghost use Rattle.atam.specs.Assembly.{Fits, pull};
+ghost use Rattle.atam.specs.Assembly.{Fits};
 ghost use Rattle.atam.specs.Growth.{IsProducible};
-ghost use Rattle.atam.specs.Canonical.{BeginsCanonical, IsCanonical};
-ghost use Rattle.assembly.specs.Cells.{IsSiteNumber};
-ghost use Rattle.replay_order.specs.Inner.Replays.{due_at, AreLacks, AreReadySites, AreReadySitesBut};
+ghost use Rattle.assembly.specs.Cells.{cell_count};
+ghost use Rattle.replay_order.specs.Inner.Replays.{AreLacks, AreReadySites};
+ghost use Rattle.replay_order.specs.Inner.Spans.{standing, HasSeedsBelow, IsSpanListed};
 ghost use Rattle.replay_order.specs.ReplayAnswers.{HoldsSeeds, LacksSeed, IsReplayAnswer};
 
 use crate::bonds::Bonds;
@@ -35,11 +35,12 @@ pub fn replay(alloc: Global, sys: &System, grid: &Grid) -> Result<Sequence, Repl
     if !holds_seeds(sys, grid) {
         return Err(ReplayStop::NoSeedThere);
     }
-    let tiles = grid.count();
-    let mut log = PlaceLog::with_room(alloc, tiles as usize)?;
-    let waiting = list_all(alloc, sys, grid, &mut log)?;
+    let bonds = Bonds::make(alloc, sys)?;
+    let mut log = PlaceLog::make(alloc, sys)?;
+    let sites = area.width() as usize * area.height() as usize;
+    let waiting = list_span(alloc, &bonds, grid, &mut log, 0, sites)?;
     let order = log.into_sequence();
-    let left = tiles - order.len() as u32;
+    let left = grid.count() - order.len() as u32;
     if left == 0 {
         return Ok(order);
     }
@@ -48,7 +49,7 @@ pub fn replay(alloc: Global, sys: &System, grid: &Grid) -> Result<Sequence, Repl
 }
 
 // Whether each seed stands in the grid.
-fn holds_seeds(sys: &System, grid: &Grid) -> bool
+pub(crate) fn holds_seeds(sys: &System, grid: &Grid) -> bool
     ensures held { OnTrue result (HoldsSeeds sys.now grid.now.tiles) }
     ensures lacks { OnFalse result (LacksSeed sys.now grid.now.tiles) }
     ensures distinct { HasDistinctSites sys.now.seeds }
@@ -58,47 +59,85 @@ fn holds_seeds(sys: &System, grid: &Grid) -> bool
         .all(|seed| grid.at(seed.site) == Some(seed.tile))
 }
 
-// Lists the canonical sequence, and hands out what its rest waits for.
-fn list_all(
+// Lists what the canonical order has of the sites with numbers from one to before another, where
+// each tile before them stands, and hands out what these sites lack then. The seeds stand, too; they
+// are at sites before the span, or it begins with the first site.
+pub(crate) fn list_span(
     alloc: Global,
-    sys: &System,
+    bonds: &Bonds,
     grid: &Grid,
     log: &mut PlaceLog,
+    first: usize,
+    end: usize,
 ) -> Result<WaitingSites, NoMemory>
-    requires area { grid.now.area ≡ sys.now.area }
-    requires fits { Fits sys.now grid.now.tiles }
-    requires seeded { HoldsSeeds sys.now grid.now.tiles }
-    requires unlisted { log.old.places ≡ [] }
-    requires room { length grid.now.tiles ≤ log.old.room }
-    ensures canonical { IfOk result (λ _. IsCanonical sys.now grid.now.tiles log.new.places) }
-    ensures lacks { IfOk result (AreLacks sys.now grid.now.tiles log.new.places) }
+    requires area { grid.now.area ≡ bonds.now.area }
+    requires fits { Fits bonds.now grid.now.tiles }
+    requires distinct { HasDistinctSites grid.now.tiles }
+    requires seeded { HoldsSeeds bonds.now grid.now.tiles }
+    requires span { (first ≤ end) × (end ≤ cell_count bonds.now.area) }
+    requires seeds { (first ≡ 0) ⊎ HasSeedsBelow bonds.now first }
+    requires room { length log.old.places + (end - first) ≤ log.old.room }
+    ensures { IfOk result
+        (IsSpanListed bonds.now grid.now.tiles first end log.old.places log.new.places) }
 {
-    let bonds = Bonds::make(alloc, sys)?;
-    let mut waiting = WaitingSites::make(alloc, grid.area(), sys.tau(), sys.seeds())?;
-    list_seeds(&bonds, grid, log, &mut waiting);
-    list_ready(&bonds, grid, log, &mut waiting);
+    let sys = bonds.system();
+    let area = grid.area();
+    let mut waiting = WaitingSites::make(alloc, area, sys.tau(), sys.seeds(), first, end)?;
+    if first == 0 {
+        stand_seeds(bonds, grid, &mut waiting);
+    } else {
+        stand_row_below(bonds, grid, &mut waiting, first);
+    }
+    list_ready(bonds, grid, log, &mut waiting);
     Ok(waiting)
 }
 
-// Lists the seeds, and adds the sites that are ready then.
-fn list_seeds(bonds: &Bonds, grid: &Grid, log: &mut PlaceLog, waiting: &mut WaitingSites)
+// The seeds stand.
+fn stand_seeds(bonds: &Bonds, grid: &Grid, waiting: &mut WaitingSites)
     requires valid { IsValid bonds.now }
     requires area { grid.now.area ≡ bonds.now.area }
     requires fits { Fits bonds.now grid.now.tiles }
     requires seeded { HoldsSeeds bonds.now grid.now.tiles }
-    requires unlisted { log.old.places ≡ [] }
-    requires room { length grid.now.tiles ≤ log.old.room }
-    requires lacks { AreLacks bonds.now grid.now.tiles log.old.places waiting.old }
-    requires ready { AreReadySites bonds.now grid.now.tiles log.old.places waiting.old.ready }
-    ensures listed { log.new.places ≡ bonds.now.seeds }
-    ensures room { length grid.now.tiles ≤ log.new.room }
-    ensures lacks { AreLacks bonds.now grid.now.tiles log.new.places waiting.new }
-    ensures ready { AreReadySites bonds.now grid.now.tiles log.new.places waiting.new.ready }
+    requires lacks { AreLacks bonds.now grid.now.tiles [] waiting.old }
+    requires ready { AreReadySites bonds.now grid.now.tiles [] waiting.old }
+    ensures span { (waiting.new.first ≡ waiting.old.first) × (waiting.new.end ≡ waiting.old.end) }
+    ensures lacks { AreLacks bonds.now grid.now.tiles bonds.now.seeds waiting.new }
+    ensures ready { AreReadySites bonds.now grid.now.tiles bonds.now.seeds waiting.new }
 {
     let area = grid.area();
     for seed in bonds.system().seeds() {
         let number = site_index(&area, seed.site);
-        list_place(bonds, grid, log, waiting, *seed, number);
+        waiting.lower_beside(bonds, grid, *seed, number);
+    }
+}
+
+// All tiles at the sites below the first one that waits stand; those in the row before it, since no
+// other one is beside a site that waits.
+fn stand_row_below(bonds: &Bonds, grid: &Grid, waiting: &mut WaitingSites, first: usize)
+    requires valid { IsValid bonds.now }
+    requires area { grid.now.area ≡ bonds.now.area }
+    requires fits { Fits bonds.now grid.now.tiles }
+    requires seeded { HoldsSeeds bonds.now grid.now.tiles }
+    requires first { first ≡ waiting.old.first }
+    requires within { first ≤ cell_count bonds.now.area }
+    requires seeds { HasSeedsBelow bonds.now first }
+    requires lacks { AreLacks bonds.now grid.now.tiles [] waiting.old }
+    requires ready { AreReadySites bonds.now grid.now.tiles [] waiting.old }
+    ensures span { (waiting.new.first ≡ waiting.old.first) × (waiting.new.end ≡ waiting.old.end) }
+    ensures lacks { AreLacks bonds.now grid.now.tiles
+        (standing bonds.now grid.now.tiles first) waiting.new }
+    ensures ready { AreReadySites bonds.now grid.now.tiles
+        (standing bonds.now grid.now.tiles first) waiting.new }
+{
+    let area = grid.area();
+    let width = area.width() as usize;
+    let mut row = Row::least(&area);
+    for number in first - width.min(first)..first {
+        let Some(tile) = grid.tile(number) else {
+            continue;
+        };
+        let site = row.site(&area, number);
+        waiting.lower_beside(bonds, grid, Place { site, tile }, number);
     }
 }
 
@@ -108,49 +147,22 @@ fn list_ready(bonds: &Bonds, grid: &Grid, log: &mut PlaceLog, waiting: &mut Wait
     requires area { grid.now.area ≡ bonds.now.area }
     requires fits { Fits bonds.now grid.now.tiles }
     requires distinct { HasDistinctSites grid.now.tiles }
-    requires begun { BeginsCanonical bonds.now grid.now.tiles log.old.places }
-    requires room { length grid.now.tiles ≤ log.old.room }
-    requires lacks { AreLacks bonds.now grid.now.tiles log.old.places waiting.old }
-    requires ready { AreReadySites bonds.now grid.now.tiles log.old.places waiting.old.ready }
-    ensures canonical { IsCanonical bonds.now grid.now.tiles log.new.places }
-    ensures lacks { AreLacks bonds.now grid.now.tiles log.new.places waiting.new }
+    requires seeded { HoldsSeeds bonds.now grid.now.tiles }
+    requires room { length log.old.places + (waiting.old.end - waiting.old.first) ≤ log.old.room }
+    requires lacks { AreLacks bonds.now grid.now.tiles
+        (standing bonds.now grid.now.tiles waiting.old.first) waiting.old }
+    requires ready { AreReadySites bonds.now grid.now.tiles
+        (standing bonds.now grid.now.tiles waiting.old.first) waiting.old }
+    ensures { IsSpanListed bonds.now grid.now.tiles waiting.old.first waiting.old.end
+        log.old.places log.new.places waiting.new }
 {
     let area = grid.area();
     let mut row = Row::least(&area);
     while let Some(number) = waiting.take_least() {
         let site = row.site(&area, number);
         let tile = grid.tile(number).unwrap();
-        list_place(bonds, grid, log, waiting, Place { site, tile }, number);
+        let place = Place { site, tile };
+        log.push(place);
+        waiting.lower_beside(bonds, grid, place, number);
     }
-}
-
-// Lists a place of the grid, and adds the sites that become ready.
-#[inline(always)]
-fn list_place(
-    bonds: &Bonds,
-    grid: &Grid,
-    log: &mut PlaceLog,
-    waiting: &mut WaitingSites,
-    place: Place,
-    number: usize,
-)
-    requires valid { IsValid bonds.now }
-    requires area { grid.now.area ≡ bonds.now.area }
-    requires fits { Fits bonds.now grid.now.tiles }
-    requires number { IsSiteNumber bonds.now.area place.site number }
-    requires placed { tile_at grid.now.tiles place.site ≡ Some place.tile }
-    requires empty { tile_at log.old.places place.site ≡ None }
-    requires room { length log.old.places < log.old.room }
-    requires held { due_at bonds.now.seeds bonds.now.tau place.site ≤
-        pull bonds.now log.old.places place.site place.tile }
-    requires lacks { AreLacks bonds.now grid.now.tiles log.old.places waiting.old }
-    requires ready { AreReadySitesBut bonds.now grid.now.tiles
-        log.old.places waiting.old.ready place.site }
-    ensures listed { log.new.places ≡ log.old.places ++ place ∷ [] }
-    ensures room { log.new.room ≡ log.old.room }
-    ensures lacks { AreLacks bonds.now grid.now.tiles log.new.places waiting.new }
-    ensures ready { AreReadySites bonds.now grid.now.tiles log.new.places waiting.new.ready }
-{
-    log.push(place);
-    waiting.lower_beside(bonds, grid, place, number);
 }

@@ -2,6 +2,7 @@
 #![tactic(auto)]
 
 mod bonds;
+mod by_rows;
 mod canonical;
 mod legal;
 mod ready;
@@ -9,6 +10,7 @@ mod rest;
 mod stop;
 mod waiting;
 
+pub use by_rows::replay_by;
 pub use canonical::replay;
 pub use legal::{Legality, check_legal};
 pub use stop::ReplayStop;

@@ -7,7 +7,7 @@ ghost use Rattle.assembly.specs.Cells.{cell_count, site_at};
 ghost use Rattle.atam.specs.TileSystem.{IsType};
 ghost use Rattle.atam.specs.Assembly.{Fits};
 ghost use Rattle.replay_order.specs.Inner.ReadyNumbers.{IsAmong};
-ghost use Rattle.replay_order.specs.Inner.Replays.{due_at, given_to, given_beside, Lowers, TakesLeast};
+ghost use Rattle.replay_order.specs.Inner.Replays.{due_at, given_to, given_beside, IsInSpan, Lowers, TakesLeast};
 
 use crate::bonds::Bonds;
 use crate::ready::ReadyNumbers;
@@ -16,11 +16,14 @@ use std::alloc::Global;
 use std::marker::Model;
 use tile_system::{BoxArea, NoMemory, Place, Side};
 
-// How much pull the tile at each site lacks to be held, and the sites that are ready. A site is
-// ready once, when its tile lacks nothing any more. Each call but `make` takes no memory.
+// How much pull the tile at each site of a span lacks to be held, and which of these sites are ready.
+// A site is ready once, when its tile lacks nothing any more. Any other site counts as one that
+// lacks nothing from the beginning. Each call but `make` takes no memory.
 #[derive(Drop)]
 pub(crate) struct WaitingSites {
     area: BoxArea,
+    first: usize,
+    end: usize,
     lacks: Vec<u16>,
     ready: ReadyNumbers,
 }
@@ -30,35 +33,63 @@ impl Model for WaitingSites {
 
     ghost Value = { Waiting };
 
-    ghost view = { λ w. record { area = w.area; lacks = w.lacks.items; ready = w.ready } };
+    ghost view = { λ w. record {
+      area = w.area;
+      first = w.first;
+      end = w.end;
+      lacks = w.lacks.items;
+      ready = w.ready;
+    } };
 
-    ghost invariant = { λ w. HasEachSite w.area w.lacks.items w.ready };
+    ghost invariant = { λ w. HasEachSite (record {
+      area = w.area;
+      first = w.first;
+      end = w.end;
+      lacks = w.lacks.items;
+      ready = w.ready;
+    }) };
 }
 
 impl WaitingSites {
-    // No site is ready: a seed lacks nothing from the beginning, and each other tile all.
+    // The sites with numbers from the first one to before the end wait. None is ready: a seed lacks
+    // nothing from the beginning, and each other tile all.
     pub(crate) fn make(
         alloc: Global,
         area: BoxArea,
         tau: u32,
         seeds: &[Place],
+        first: usize,
+        end: usize,
     ) -> Result<WaitingSites, NoMemory>
         requires limits { IsBox area }
         requires small { tau ≤ MOST_TAU }
         requires inside { All (λ p. InBox area p.site) seeds.now }
         requires distinct { HasDistinctSites seeds.now }
+        requires span { (first ≤ end) × (end ≤ cell_count area) }
         ensures area { IfOk result (λ w. w.area ≡ area) }
-        ensures lacks { IfOk result (λ w. (i : ℕ) → i < cell_count area →
+        ensures span { IfOk result (λ w. (w.first ≡ first) × (w.end ≡ end)) }
+        ensures lacks { IfOk result (λ w. (i : ℕ) → IsInSpan w i →
             slice_index w.lacks i ≡ due_at seeds.now tau (site_at area i)) }
+        ensures others { IfOk result (λ w. (i : ℕ) → i < cell_count area → ¬ IsInSpan w i →
+            slice_index w.lacks i ≡ 0) }
         ensures empty { IfOk result (λ w. (i : ℕ) → ¬ IsAmong w.ready i) }
     {
         let sites = area.width() * area.height();
         let ready = ReadyNumbers::make(alloc, sites)?;
-        let mut lacks = Vec::from_elem(alloc, tau as u16, sites as usize)?;
+        let mut lacks = Vec::with_capacity(alloc, sites as usize)?;
+        lacks.resize(first, 0)?;
+        lacks.resize(end, tau as u16)?;
+        lacks.resize(sites as usize, 0)?;
         for seed in seeds {
             lacks[site_index(&area, seed.site)] = 0;
         }
-        Ok(WaitingSites { area, lacks, ready })
+        Ok(WaitingSites {
+            area,
+            first,
+            end,
+            lacks,
+            ready,
+        })
     }
 
     // Gives each tile beside a listed one the strength that it has with this.
@@ -114,6 +145,7 @@ impl WaitingSites {
     #[inline(always)]
     pub(crate) fn take_least(&mut self) -> Option<usize>
         ensures area { self.new.area ≡ self.old.area }
+        ensures span { (self.new.first ≡ self.old.first) × (self.new.end ≡ self.old.end) }
         ensures lacks { self.new.lacks ≡ self.old.lacks }
         ensures least { IfSome result (TakesLeast self.old self.new) }
         ensures none { IfNone result ((i : ℕ) → ¬ IsAmong self.old.ready i) }

@@ -22,41 +22,52 @@ pub record IsReadySite (sys : TileSystem) (tiles listed : List Place) (m : Site)
   pub empty : tile_at listed m ≡ None
   pub held : sys.tau ≤ pull sys listed m tile
 
--- by the numbers of a box's sites: how much pull the tile at each lacks to be held, and which of them are ready
+-- by the numbers of a box's sites: those from the first one to before the end wait, how much pull the tile at each lacks to be held, and which of them are ready
 pub record Waiting : Type 0 where
   pub area : BoxArea
+  pub first : ℕ
+  pub end : ℕ
   pub lacks : List ℕ
   pub ready : ReadyNumbers
 
--- there is room for each site of the box
-pub record HasEachSite (area : BoxArea) (lacks : List ℕ) (ready : ReadyNumbers) : Type 0 where
-  pub box_limits : IsBox area
-  pub lacks_len : length lacks ≡ cell_count area
-  pub ready_bound : ready.others.bound ≡ cell_count area
+-- there is room for each site of the box, and those that wait are some of them
+pub record HasEachSite (waiting : Waiting) : Type 0 where
+  pub box_limits : IsBox waiting.area
+  pub span : waiting.end ≤ cell_count waiting.area
+  pub lacks_len : length waiting.lacks ≡ cell_count waiting.area
+  pub ready_bound : waiting.ready.others.bound ≡ cell_count waiting.area
+
+-- the site with this number is one of those that wait
+pub record IsInSpan (waiting : Waiting) (i : ℕ) : Type 0 where
+  pub from : waiting.first ≤ i
+  pub before : i < waiting.end
 
 -- how much pull the tile at a site needs: none where there is a seed, and else the temperature
 abbrev pub due_at : List Place → ℕ → Site → ℕ
 due_at seeds tau m = option_map_or (λ _. 0) (tile_at seeds m) tau
 
--- each tile lacks what the pull of the listed places leaves of that, and a listed tile lacks nothing
+-- each tile that waits lacks what the pull of the listed places leaves of that, and a listed tile lacks nothing, nor does one that doesn't wait
 pub record AreLacks (sys : TileSystem) (tiles listed : List Place) (waiting : Waiting) : Type 0 where
   pub area : waiting.area ≡ sys.area
-  pub each : (i : ℕ) (t : TypeId) → i < cell_count sys.area → tile_at tiles (site_at sys.area i) ≡ Some t →
+  pub each : (i : ℕ) (t : TypeId) → i < cell_count sys.area → IsInSpan waiting i → tile_at tiles (site_at sys.area i) ≡ Some t →
       slice_index waiting.lacks i ≡ due_at sys.seeds sys.tau (site_at sys.area i) - pull sys listed (site_at sys.area i) t
-  pub settled : (i : ℕ) (t : TypeId) → i < cell_count sys.area → tile_at listed (site_at sys.area i) ≡ Some t → slice_index waiting.lacks i ≡ 0
+  pub settled : (i : ℕ) (t : TypeId) → i < cell_count sys.area → IsInSpan waiting i → tile_at listed (site_at sys.area i) ≡ Some t → slice_index waiting.lacks i ≡ 0
+  pub others : (i : ℕ) → i < cell_count sys.area → ¬ IsInSpan waiting i → slice_index waiting.lacks i ≡ 0
 
--- the numbers of the sites that are ready
-abbrev pub AreReadySites : TileSystem → List Place → List Place → ReadyNumbers → Type 0
-AreReadySites sys tiles listed ready = (i : ℕ) → i < cell_count sys.area → IsAmong ready i ↔ IsReadySite sys tiles listed (site_at sys.area i)
+-- the numbers of the sites that wait and are ready
+abbrev pub AreReadySites : TileSystem → List Place → List Place → Waiting → Type 0
+AreReadySites sys tiles listed waiting = (i : ℕ) → i < cell_count sys.area → IsAmong waiting.ready i ↔ (IsInSpan waiting i × IsReadySite sys tiles listed (site_at sys.area i))
 
 -- the same but for one site
-abbrev pub AreReadySitesBut : TileSystem → List Place → List Place → ReadyNumbers → Site → Type 0
-AreReadySitesBut sys tiles listed ready but = (i : ℕ) → i < cell_count sys.area → IsAmong ready i ↔ (IsReadySite sys tiles listed (site_at sys.area i) × (site_at sys.area i ≢ but))
+abbrev pub AreReadySitesBut : TileSystem → List Place → List Place → Waiting → Site → Type 0
+AreReadySitesBut sys tiles listed waiting but = (i : ℕ) → i < cell_count sys.area → IsAmong waiting.ready i ↔ (IsInSpan waiting i × IsReadySite sys tiles listed (site_at sys.area i) × (site_at sys.area i ≢ but))
 
 -- each site lacks less by what it is given, and those are added that lack nothing from then on
 pub record Lowers (area : BoxArea) (given : Site → ℕ) (old new : Waiting) : Type 0 where
   pub old_area : old.area ≡ area
   pub new_area : new.area ≡ area
+  pub same_first : new.first ≡ old.first
+  pub same_end : new.end ≡ old.end
   pub lacks : (i : ℕ) → i < cell_count area → slice_index new.lacks i ≡ slice_index old.lacks i - given (site_at area i)
   pub ready : (i : ℕ) → i < cell_count area → IsAmong new.ready i ↔ (IsAmong old.ready i ⊎ ((0 < slice_index old.lacks i) × (slice_index new.lacks i ≡ 0)))
 

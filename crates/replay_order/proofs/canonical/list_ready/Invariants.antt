@@ -1,19 +1,16 @@
-use Rattle.std.proofs.Common.{◌-◌, ◌≤◌, length}
+use Rattle.std.proofs.Common.{◌+◌, ◌-◌, ◌≤◌, length}
 use Rattle.assembly.specs.Rows.{IsRow}
-use Rattle.atam.specs.Canonical.{BeginsCanonical}
-use Rattle.replay_order.specs.Inner.Replays.{AreLacks, AreReadySites}
+use Rattle.replay_order.proofs.SpanSteps.{IsSpanBegun}
 use Rattle.replay_order.proofs.canonical.list_ready.Given as goal
 
--- the order has been begun, and the sites of the set are those that are ready
+-- a part of what follows has been listed, and there is room for the rest
 abbrev pub invariant-loop-number : goal.invariant-loop-number
 invariant-loop-number l = record {
-  begun : BeginsCanonical l.bonds l.grid.tiles l.log.places;
-  room : length l.grid.tiles ≤ l.log.room;
-  lacks : AreLacks l.bonds l.grid.tiles l.log.places l.waiting;
-  ready : AreReadySites l.bonds l.grid.tiles l.log.places l.waiting.ready;
+  begun : IsSpanBegun l.bonds l.grid.tiles l.fn.waiting.first l.fn.waiting.end l.fn.log.places l.log.places l.waiting;
+  room : length l.fn.log.places + (l.fn.waiting.end - l.fn.waiting.first) ≤ l.log.room;
   row : IsRow l.area l.row;
 }
 
 -- each step lists one tile
 abbrev pub decreases-loop-number : goal.decreases-loop-number
-decreases-loop-number l = length l.grid.tiles - length l.log.places
+decreases-loop-number l = length l.fn.log.places + length l.grid.tiles - length l.log.places

@@ -30,7 +30,7 @@ pub returns-in_default : goal.returns-in_default
 returns-in_default c =
     let sys = c.args.bonds.now in
     let tiles = c.args.grid.now.tiles in
-    let old : Waiting = record { area = c.self.inside.area; lacks = c.self.inside.lacks.items; ready = c.self.inside.ready } in
+    let old : Waiting = record { area = c.self.inside.area; first = c.self.inside.first; end = c.self.inside.end; lacks = c.self.inside.lacks.items; ready = c.self.inside.ready } in
     let Lowered : Waiting → Type 0 = λ w. Lowers w.area (given_to sys tiles c.args.place c.args.side) w w in
     subst Lowered c.self.view_is (lowers_outside old.area sys tiles c.args.place c.args.side old refl c.self.invariant.box_limits c.in_default.ensures)
 
@@ -39,7 +39,7 @@ returns-then-lack-eq0 c =
     let sys = c.args.bonds.now in
     let tiles = c.args.grid.now.tiles in
     let beside = c.in-Some.beside in
-    let old : Waiting = record { area = c.self.inside.area; lacks = c.self.inside.lacks.items; ready = c.self.inside.ready } in
+    let old : Waiting = record { area = c.self.inside.area; first = c.self.inside.first; end = c.self.inside.end; lacks = c.self.inside.lacks.items; ready = c.self.inside.ready } in
     let within : beside < length old.lacks = omega (arith, c.in-Some.ensures.within, c.self.invariant.lacks_len) in
     let lack = get_or_read old.lacks beside c.index-lack.result.now within c.index-lack.ensures 0 in
     let Lowered : Waiting → Type 0 = λ w. Lowers w.area (given_to sys tiles c.args.place c.args.side) w w in
@@ -53,7 +53,7 @@ returns-in_default-tile c =
     let tiles = c.args.grid.now.tiles in
     let p = c.args.place in
     let beside = c.in-Some.beside in
-    let old : Waiting = record { area = c.self.inside.area; lacks = c.self.inside.lacks.items; ready = c.self.inside.ready } in
+    let old : Waiting = record { area = c.self.inside.area; first = c.self.inside.first; end = c.self.inside.end; lacks = c.self.inside.lacks.items; ready = c.self.inside.ready } in
     let none = beside_is c.args.grid.now.area _ tiles (neighbor p.site c.args.side) beside None (c.requires.area ∙ ap (λ w. w.area) (sym c.self.view_is)) c.in-Some.ensures.site (sym c.in_default-tile.is ∙ c.tile.ensures) in
     let Lowered : Waiting → Type 0 = λ w. Lowers w.area (given_to sys tiles p c.args.side) w w in
     subst Lowered c.self.view_is (
@@ -67,14 +67,14 @@ returns-then-strength-lack c =
     let p = c.args.place in
     let beside = c.in-Some.beside in
     let left = c.index-lack.result.now - c.between-strength.result in
-    let old : Waiting = record { area = c.self.inside.area; lacks = c.self.inside.lacks.items; ready = c.self.inside.ready } in
+    let old : Waiting = record { area = c.self.inside.area; first = c.self.inside.first; end = c.self.inside.end; lacks = c.self.inside.lacks.items; ready = c.self.inside.ready } in
     let within : beside < length old.lacks = omega (arith, c.in-Some.ensures.within, c.self.invariant.lacks_len) in
     let lack = get_or_read old.lacks beside c.index-lack.result.now within c.index-lack.ensures 0 in
-    let new : Waiting = record { area = old.area; lacks = set old.lacks beside left; ready = old.ready } in
+    let new : Waiting = record { area = old.area; first = old.first; end = old.end; lacks = set old.lacks beside left; ready = old.ready } in
     let bond = c.between-strength.ensures tiles p.site (beside_is c.args.grid.now.area _ tiles (neighbor p.site c.args.side) beside _ (c.requires.area ∙ ap (λ w. w.area) (sym c.self.view_is)) c.in-Some.ensures.site (sym c.in-Some-tile.is ∙ c.tile.ensures)) in
     let Lowered : Waiting → Type 0 = λ w. Lowers w.area (given_to sys tiles p c.args.side) w new in
     subst Lowered c.self.view_is (
-    lowers_one old.area sys tiles p c.args.side old refl beside c.in-Some.ensures.site new left refl within (omega (arith, lack, c.if-lack-eq0.false))
+    lowers_one old.area sys tiles p c.args.side old refl beside c.in-Some.ensures.site new left refl refl refl within (omega (arith, lack, c.if-lack-eq0.false))
     (omega (arith, lack, bond)) refl
     (λ m. (
       λ is_in. inl is_in,
@@ -88,14 +88,14 @@ returns c =
     let tiles = c.args.grid.now.tiles in
     let p = c.args.place in
     let beside = c.in-Some.beside in
-    let old : Waiting = record { area = c.self.inside.area; lacks = c.self.inside.lacks.items; ready = c.self.inside.ready } in
+    let old : Waiting = record { area = c.self.inside.area; first = c.self.inside.first; end = c.self.inside.end; lacks = c.self.inside.lacks.items; ready = c.self.inside.ready } in
     let within : beside < length old.lacks = omega (arith, c.in-Some.ensures.within, c.self.invariant.lacks_len) in
     let lack = get_or_read old.lacks beside c.index-lack.result.now within c.index-lack.ensures 0 in
-    let new : Waiting = record { area = old.area; lacks = set old.lacks beside 0; ready = c.insert.new.self } in
+    let new : Waiting = record { area = old.area; first = old.first; end = old.end; lacks = set old.lacks beside 0; ready = c.insert.new.self } in
     let bond = c.between-strength.ensures tiles p.site (beside_is c.args.grid.now.area _ tiles (neighbor p.site c.args.side) beside _ (c.requires.area ∙ ap (λ w. w.area) (sym c.self.view_is)) c.in-Some.ensures.site (sym c.in-Some-tile.is ∙ c.tile.ensures)) in
     let Lowered : Waiting → Type 0 = λ w. Lowers w.area (given_to sys tiles p c.args.side) w new in
     subst Lowered c.self.view_is (
-    lowers_one old.area sys tiles p c.args.side old refl beside c.in-Some.ensures.site new 0 refl within (omega (arith, lack, c.if-lack-eq0.false))
+    lowers_one old.area sys tiles p c.args.side old refl beside c.in-Some.ensures.site new 0 refl refl refl within (omega (arith, lack, c.if-lack-eq0.false))
     (omega (arith, lack, bond, c.if-strength-lack.false)) refl
     (λ m. (
       λ is_in. elim ((c.insert.ensures.gains m).0 is_in) [ inl before ↦ inl before | inr one ↦ inr (one, refl) ],

@@ -12,8 +12,8 @@ taken old new (Some n) bound below least loses = record { within = omega (arith,
 
 pub returns-clause-least : goal.returns-clause-least
 returns-clause-least c =
-    let old : Waiting = record { area = c.self.inside.area; lacks = c.self.inside.lacks.items; ready = c.self.inside.ready } in
-    let new : Waiting = record { area = old.area; lacks = old.lacks; ready = c.take_least.new.self } in
+    let old : Waiting = record { area = c.self.inside.area; first = c.self.inside.first; end = c.self.inside.end; lacks = c.self.inside.lacks.items; ready = c.self.inside.ready } in
+    let new : Waiting = record { area = old.area; first = old.first; end = old.end; lacks = old.lacks; ready = c.take_least.new.self } in
     subst (λ w. IfSome c.take_least.result (TakesLeast w new)) c.self.view_is (taken old new c.take_least.result c.self.invariant.ready_bound c.take_least.ensures.below c.take_least.ensures.least c.take_least.ensures.loses)
 
 pub returns-clause-none : goal.returns-clause-none
