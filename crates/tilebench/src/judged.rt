@@ -37,7 +37,7 @@ pub fn judge_grid<R: Threads + Sync>(
     ensures { IfOk result (IsJudged sys.now grid.now.tiles) }
 {
     let _box = grid.area();
-    let order = order_of(alloc, sys, grid, known)?;
+    let order = order_of(rt, alloc, sys, grid, known, workers)?;
     let sides = inputs_by(rt, alloc, sys, &order, grid, workers)?;
     let verdict = judge(sys, &order, &sides);
     Ok(Judged { order, verdict })

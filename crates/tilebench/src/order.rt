@@ -1,5 +1,5 @@
 // The canonical order of a producible assembly, and growth that goes in it.
-ghost use Rattle.std.specs.Prelude.{◌≡◌, ◌≤◌, IfOk, IfSome};
+ghost use Rattle.std.specs.Prelude.{◌≡◌, ◌≤◌, Ok, IfOk, IfErr, IfSome, IsErr};
 ghost use Rattle.atam.specs.Assembly.{Fits};
 ghost use Rattle.atam.specs.Canonical.{IsCanonical};
 ghost use Rattle.atam.specs.Growth.{IsProducible};
@@ -8,7 +8,7 @@ ghost use Rattle.replay_order.specs.ReplayAnswers.{IsWholeOrder};
 
 use assembly::{Grid, Sequence};
 use grow_workers::{grow, grow_in_order};
-use replay_order::{ReplayStop, replay};
+use replay_order::{ReplayStop, replay, replay_by};
 use site_table::Grown;
 use std::alloc::Global;
 use std::thread::Threads;
@@ -39,24 +39,28 @@ pub fn grow_ordered<R: Threads + Sync, G: Gate>(
     Ok((grown, None))
 }
 
-/// The canonical sequence of a producible grid, which may be known.
-pub fn order_of(
+/// The canonical sequence of a producible grid, which may be known, by so many workers.
+pub fn order_of<R: Threads + Sync>(
+    rt: &R,
     alloc: Global,
     sys: &System,
     grid: &Grid,
     known: Option<Sequence>,
+    workers: u32,
 ) -> Result<Sequence, NoMemory>
     requires area { grid.now.area ≡ sys.now.area }
     requires fits { Fits sys.now grid.now.tiles }
     requires producible { IsProducible sys.now grid.now.tiles }
     requires known { IfSome known (IsCanonical sys.now grid.now.tiles) }
+    requires some { 1 ≤ workers }
+    requires few { workers ≤ 16 }
     ensures { IfOk result (IsWholeOrder sys.now grid.now.tiles) }
 {
     let _seeds = sys.seeds();
     let _area = grid.area();
     match known {
         Some(order) => Ok(order),
-        None => canonical_order(alloc, sys, grid),
+        None => whole_order(replay_by(rt, alloc, sys, grid, workers)),
     }
 }
 
@@ -67,7 +71,16 @@ pub fn canonical_order(alloc: Global, sys: &System, grid: &Grid) -> Result<Seque
     requires producible { IsProducible sys.now grid.now.tiles }
     ensures { IfOk result (IsWholeOrder sys.now grid.now.tiles) }
 {
-    match replay(alloc, sys, grid) {
+    whole_order(replay(alloc, sys, grid))
+}
+
+// What was replayed of a producible grid.
+fn whole_order(replayed: Result<Sequence, ReplayStop>) -> Result<Sequence, NoMemory>
+    requires { IfErr replayed (λ stop. stop ≡ ReplayStop.NoMemory) }
+    ensures order { IfOk replayed (λ order. result ≡ Ok order) }
+    ensures none { IfErr replayed (λ _. IsErr result) }
+{
+    match replayed {
         Ok(order) => Ok(order),
         Err(ReplayStop::NoMemory) => Err(NoMemory),
         Err(ReplayStop::NoSeedThere) => unreachable!(),
