@@ -1,2 +1,3 @@
 -- Definitions that only private functions cite.
+pub mod Prepared
 pub mod Wins

@@ -1,5 +1,5 @@
 // Growth on a table, and a whole growth.
-ghost use Rattle.std.specs.Prelude.{◌≡◌, ◌≤◌, ◌<◌, ◌+◌, [], length, IfOk};
+ghost use Rattle.std.specs.Prelude.{All, ◌≡◌, ◌≤◌, ◌<◌, ◌+◌, ◌-◌, [], length, IfOk};
 ghost use Rattle.std.specs.Thread.{IsSync};
 ghost use Rattle.atam.specs.Placements.{SamePlacements};
 ghost use Rattle.site_table.specs.Seats.{IsSeatOf};
@@ -9,22 +9,20 @@ ghost use Rattle.grow_workers.specs.Inner.Wins.{PartedGrowth, HasNumbers};
 use crate::alone::finish;
 use crate::leavings::Harvest;
 use crate::parts::grow_from;
+use crate::prepared::{Grids, Prepared, copies_of, prepare};
 use crate::team::Team;
-use assembly::{Grid, put_seeds};
+use assembly::Grid;
 use site_table::{Grown, SiteSeat, SiteTable};
-use std::alloc::{AllocError, Global};
+use std::alloc::Global;
 use std::thread::{self, Threads};
 use tile_io::Gate;
 use tile_system::{NoMemory, System};
 
-// More bytes than the words of the widest box take.
-const LARGE_BLOCK: usize = 16 << 20;
-
 /// Grows with so many workers, from what the seat has seen, each in a thread of its own but worker
 /// 0. The list has what each worker has won. The box is cut into bands of rows, of which every one
 /// in so many is a worker's own: it claims there first, and where nothing is left there it looks
-/// beside its bands at what others have placed. Each copies the grid, and ends when none of them
-/// has anything to do; then their seats and grids are joined, and worker 0 goes on alone until the
+/// beside its bands at what others have placed. Each has a copy of the grid, and ends when none of
+/// them has anything to do; then their seats and grids are joined, and worker 0 goes on alone until the
 /// box is closed. One worker begins with that, and copies no grid. Where several types attach,
 /// worker w chooses by PCG's generator of state `choice` and stream w, which worker 0 makes anew
 /// when it goes on alone. With the choice 0 one worker claims the least site of those at which it
@@ -53,8 +51,41 @@ pub fn grow_on<R: Threads + Sync, G: Gate>(
     ensures grew { IfOk result (λ r. GrewOn sys.now seat seen r.0 r.1 r.2.items) }
     ensures count { IfOk result (λ r. length r.2.items ≡ workers) }
 {
+    let copies = copies_of(alloc, &seen, workers - 1)?;
+    grow_with(
+        rt, alloc, sys, table, seat, seen, copies, workers, choice, gate,
+    )
+}
+
+// The same as `grow_on`, with a copy of the grid for each worker but worker 0.
+fn grow_with<R: Threads + Sync, G: Gate>(
+    rt: &R,
+    alloc: Global,
+    sys: &System,
+    table: &SiteTable,
+    seat: SiteSeat,
+    seen: Grid,
+    copies: Vec<Grid>,
+    workers: u32,
+    choice: u64,
+    gate: &G,
+) -> Result<(SiteSeat, Grid, Vec<u32>), NoMemory>
+    requires some { 1 ≤ workers }
+    requires few { workers ≤ 16 }
+    requires numbers { OwnsAtLeast workers seat.scout.owned }
+    requires seat { IsSeatOf table.now seat }
+    requires system { table.now.sys ≡ sys.now }
+    requires area { seen.area ≡ sys.now.area }
+    requires seen { SamePlacements seat.scout.seen seen.tiles }
+    requires copies { All (λ copy. copy ≡ seen) copies.items }
+    requires one_each { length copies.items + 1 ≡ workers }
+    ensures grew { IfOk result (λ r. GrewOn sys.now seat seen r.0 r.1 r.2.items) }
+    ensures count { IfOk result (λ r. length r.2.items ≡ workers) }
+{
     let _owned = seat.owned();
-    let team = share_out(rt, alloc, sys, table, seat, seen, workers, choice, gate)?;
+    let team = share_out(
+        rt, alloc, sys, table, seat, seen, copies, workers, choice, gate,
+    )?;
     let Harvest {
         seat,
         grid,
@@ -73,6 +104,7 @@ fn share_out<R: Threads + Sync, G: Gate>(
     table: &SiteTable,
     seat: SiteSeat,
     seen: Grid,
+    copies: Vec<Grid>,
     workers: u32,
     choice: u64,
     gate: &G,
@@ -84,6 +116,8 @@ fn share_out<R: Threads + Sync, G: Gate>(
     requires system { table.now.sys ≡ sys.now }
     requires area { seen.area ≡ sys.now.area }
     requires seen { SamePlacements seat.scout.seen seen.tiles }
+    requires copies { All (λ copy. copy ≡ seen) copies.items }
+    requires one_each { length copies.items + 1 ≡ workers }
     ensures grew { IfOk result (λ h.
         PartedGrowth sys.now seat seen h.seat h.grid h.first h.others.items) }
     ensures seat { IfOk result (λ h. IsSeatOf table.now h.seat) }
@@ -94,7 +128,7 @@ fn share_out<R: Threads + Sync, G: Gate>(
     }
     let team = Team::of(workers);
     start(
-        rt, alloc, sys, table, seat, &seen, workers, choice, gate, &team,
+        rt, alloc, sys, table, seat, seen, copies, workers, choice, gate, &team,
     )
 }
 
@@ -106,7 +140,8 @@ fn start<R: Threads + Sync, G: Gate>(
     sys: &System,
     table: &SiteTable,
     seat: SiteSeat,
-    seen: &Grid,
+    seen: Grid,
+    copies: Vec<Grid>,
     workers: u32,
     choice: u64,
     gate: &G,
@@ -117,10 +152,12 @@ fn start<R: Threads + Sync, G: Gate>(
     requires numbers { HasNumbers workers seat.scout.owned }
     requires seat { IsSeatOf table.now seat }
     requires system { table.now.sys ≡ sys.now }
-    requires area { seen.now.area ≡ sys.now.area }
-    requires seen { SamePlacements seat.scout.seen seen.now.tiles }
+    requires area { seen.area ≡ sys.now.area }
+    requires seen { SamePlacements seat.scout.seen seen.tiles }
+    requires copies { All (λ copy. copy ≡ seen) copies.items }
+    requires one_each { length copies.items + 1 ≡ workers }
     ensures grew { IfOk result (λ h.
-        PartedGrowth sys.now seat seen.now h.seat h.grid h.first h.others.items) }
+        PartedGrowth sys.now seat seen h.seat h.grid h.first h.others.items) }
     ensures seat { IfOk result (λ h. IsSeatOf table.now h.seat) }
     ensures count { IfOk result (λ h. length h.others.items + 1 ≡ workers) }
 {
@@ -131,14 +168,16 @@ fn start<R: Threads + Sync, G: Gate>(
             requires { IsSync R.row × (1 ≤ workers) × (workers ≤ 16)
                 × HasNumbers workers seat.scout.owned
                 × IsSeatOf table.now seat × (table.now.sys ≡ sys.now)
-                × (seen.now.area ≡ sys.now.area) × SamePlacements seat.scout.seen seen.now.tiles }
+                × (seen.area ≡ sys.now.area) × SamePlacements seat.scout.seen seen.tiles
+                × All (λ copy. copy ≡ seen) copies.items
+                × (length copies.items + 1 ≡ workers) }
             ensures { IfOk result (λ h.
-                PartedGrowth sys.entry.now seat seen.entry.now h.seat h.grid h.first h.others.items
+                PartedGrowth sys.entry.now seat seen h.seat h.grid h.first h.others.items
                 × IsSeatOf table.entry.now h.seat
                 × (length h.others.items + 1 ≡ workers)) }
         {
             grow_from(
-                rt, alloc, sys, table, seat, seen, 1, workers, choice, gate, team,
+                rt, alloc, sys, table, seat, seen, copies, 1, workers, choice, gate, team,
             )
         },
     );
@@ -178,21 +217,16 @@ pub fn grow<R: Threads + Sync, G: Gate>(
     requires few { workers ≤ 16 }
     ensures { IfOk result (IsGrowth sys.now workers) }
 {
-    let mut seen = Grid::make(alloc, sys.area())?;
-    put_seeds(sys, &mut seen);
-    keep_large_blocks(alloc);
-    let (table, seat) = SiteTable::make(alloc, sys)?;
-    let (seat, mut grid, _wins) = grow_on(
-        rt, alloc, sys, &table, seat, seen, workers, choice, gate,
+    let _valid = sys.tau();
+    let Prepared {
+        table,
+        seat,
+        grids: Grids { seen, copies },
+    } = prepare(rt, alloc, sys, workers)?;
+    let (seat, mut grid, _wins) = grow_with(
+        rt, alloc, sys, &table, seat, seen, copies, workers, choice, gate,
     )?;
     let _grown = grid.area();
     grid.clear();
     Ok(table.close(seat, grid))
-}
-
-// Takes a block and gives it back untouched. From then on the C library's allocator keeps blocks of
-// up to that size for the next who asks. Else it returns each to the system, and the next one is of
-// pages that are zeroed anew. It bears on time alone, so where memory is wanting nothing is said.
-fn keep_large_blocks(alloc: Global) {
-    let _block: Result<Vec<u8>, AllocError> = Vec::with_capacity(alloc, LARGE_BLOCK);
 }

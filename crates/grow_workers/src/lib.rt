@@ -8,6 +8,7 @@ mod leavings;
 mod member;
 mod parts;
 mod picks;
+mod prepared;
 mod team;
 
 pub use growth::{grow, grow_on};

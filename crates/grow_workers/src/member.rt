@@ -37,13 +37,13 @@ pub(crate) struct Share {
 }
 
 // All that a worker does beside others: it claims in its bands, and where nothing is left there it
-// looks beside them. It has a copy of its own of what was seen.
+// looks beside them.
 pub(crate) fn work<G: Gate>(
     alloc: Global,
     sys: &System,
     table: &SiteTable,
     seat: SiteSeat,
-    seen: &Grid,
+    seen: Grid,
     share: Share,
     choice: u64,
     gate: &G,
@@ -51,11 +51,11 @@ pub(crate) fn work<G: Gate>(
 ) -> Result<Part, NoMemory>
     requires seat { IsSeatOf table.now seat }
     requires system { table.now.sys ≡ sys.now }
-    requires area { seen.now.area ≡ sys.now.area }
-    requires seen { SamePlacements seat.scout.seen seen.now.tiles }
+    requires area { seen.area ≡ sys.now.area }
+    requires seen { SamePlacements seat.scout.seen seen.tiles }
     requires share { share.worker < share.of }
     ensures grew { IfOk result (λ r.
-        PartedGrowth sys.now seat seen.now r.seat r.grid r.won []) }
+        PartedGrowth sys.now seat seen r.seat r.grid r.won []) }
     ensures seat { IfOk result (λ r. IsSeatOf table.now r.seat) }
 {
     gate.arrive(share.worker);
@@ -72,14 +72,14 @@ fn begin(
     alloc: Global,
     sys: &System,
     seat: SiteSeat,
-    seen: &Grid,
+    seen: Grid,
     worker: u32,
     team: &Team,
 ) -> Result<Scout, NoMemory>
     requires system { seat.sys ≡ sys.now }
-    requires area { seen.now.area ≡ sys.now.area }
-    requires seen { SamePlacements seat.scout.seen seen.now.tiles }
-    ensures { IfOk result (λ scout. scout ≡ record { seat = seat; grid = seen.now; won = 0 }) }
+    requires area { seen.area ≡ sys.now.area }
+    requires seen { SamePlacements seat.scout.seen seen.tiles }
+    ensures { IfOk result (λ scout. scout ≡ record { seat = seat; grid = seen; won = 0 }) }
 {
     let made = scout_of(alloc, sys, seat, seen);
     team.begin(worker);
@@ -89,15 +89,14 @@ fn begin(
     made
 }
 
-// A scout with a copy of what was seen.
-fn scout_of(alloc: Global, sys: &System, seat: SiteSeat, seen: &Grid) -> Result<Scout, NoMemory>
+// A scout with what was seen.
+fn scout_of(alloc: Global, sys: &System, seat: SiteSeat, seen: Grid) -> Result<Scout, NoMemory>
     requires system { seat.sys ≡ sys.now }
-    requires area { seen.now.area ≡ sys.now.area }
-    requires seen { SamePlacements seat.scout.seen seen.now.tiles }
-    ensures { IfOk result (λ scout. scout ≡ record { seat = seat; grid = seen.now; won = 0 }) }
+    requires area { seen.area ≡ sys.now.area }
+    requires seen { SamePlacements seat.scout.seen seen.tiles }
+    ensures { IfOk result (λ scout. scout ≡ record { seat = seat; grid = seen; won = 0 }) }
 {
-    let own = seen.copy()?;
-    match Scout::make(alloc, sys, seat, own) {
+    match Scout::make(alloc, sys, seat, seen) {
         Ok(scout) => Ok(scout),
         Err(_parts) => Err(NoMemory),
     }

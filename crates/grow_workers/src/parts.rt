@@ -1,5 +1,5 @@
 // Many workers, each in a thread of its own.
-ghost use Rattle.std.specs.Prelude.{◌≡◌, ◌≤◌, ◌<◌, ◌+◌, ◌-◌, ◌∷◌, [], length, IfOk};
+ghost use Rattle.std.specs.Prelude.{All, ◌≡◌, ◌≤◌, ◌<◌, ◌+◌, ◌-◌, ◌∷◌, [], length, IfOk};
 ghost use Rattle.std.specs.Thread.{IsSync};
 ghost use Rattle.atam.specs.Placements.{SamePlacements};
 ghost use Rattle.assembly.specs.Grids.{TileGrid};
@@ -17,14 +17,15 @@ use tile_io::Gate;
 use tile_system::{NoMemory, System};
 
 // Each worker from `next` on in a thread of its own, and worker 0 in this one, which is the last of
-// those that are `left`. What they leave is joined.
+// those that are `left`. Each has a grid of what was seen for its own. What they leave is joined.
 pub(crate) fn grow_from<R: Threads + Sync, G: Gate>(
     rt: &R,
     alloc: Global,
     sys: &System,
     table: &SiteTable,
     seat: SiteSeat,
-    seen: &Grid,
+    seen: Grid,
+    copies: Vec<Grid>,
     next: u32,
     left: u32,
     choice: u64,
@@ -37,10 +38,12 @@ pub(crate) fn grow_from<R: Threads + Sync, G: Gate>(
     requires numbers { HasNumbers left seat.scout.owned }
     requires seat { IsSeatOf table.now seat }
     requires system { table.now.sys ≡ sys.now }
-    requires area { seen.now.area ≡ sys.now.area }
-    requires seen { SamePlacements seat.scout.seen seen.now.tiles }
+    requires area { seen.area ≡ sys.now.area }
+    requires seen { SamePlacements seat.scout.seen seen.tiles }
+    requires copies { All (λ copy. copy ≡ seen) copies.items }
+    requires count { length copies.items + 1 ≡ left }
     ensures grew { IfOk result (λ h.
-        PartedGrowth sys.now seat seen.now h.seat h.grid h.first h.others.items) }
+        PartedGrowth sys.now seat seen h.seat h.grid h.first h.others.items) }
     ensures seat { IfOk result (λ h. IsSeatOf table.now h.seat) }
     ensures count { IfOk result (λ h. length h.others.items + 1 ≡ left) }
 {
@@ -48,27 +51,30 @@ pub(crate) fn grow_from<R: Threads + Sync, G: Gate>(
     if left == 1 {
         return grow_first(alloc, sys, table, seat, seen, of, choice, gate, team);
     }
-    let (kept, given) = part_off(table, seat, seen, left);
+    let (kept, given) = part_off(table, seat, &seen, left);
+    let (own, copies) = take_copy(copies, &seen);
     let (part, rest) = thread::join(
         rt,
         move || -> Result<Part, NoMemory>
             requires { IsSeatOf table.now given × (table.now.sys ≡ sys.now)
-                × (seen.now.area ≡ sys.now.area) × SamePlacements given.scout.seen seen.now.tiles
+                × (own.area ≡ sys.now.area) × SamePlacements given.scout.seen own.tiles
                 × (next < of) }
             ensures { IfOk result (λ r.
-                PartedGrowth sys.entry.now given seen.entry.now r.seat r.grid r.won []
+                PartedGrowth sys.entry.now given own r.seat r.grid r.won []
                 × IsSeatOf table.entry.now r.seat) }
         {
             let share = Share { worker: next, of };
-            work(alloc, sys, table, given, seen, share, choice, gate, team)
+            work(alloc, sys, table, given, own, share, choice, gate, team)
         },
         move || -> Result<Harvest, NoMemory>
             requires { IsSync R.row × (1 ≤ left - 1) × (left - 1 ≤ 16)
                 × (next + 1 + (left - 1) ≤ 17) × HasNumbers (left - 1) kept.scout.owned
                 × IsSeatOf table.now kept × (table.now.sys ≡ sys.now)
-                × (seen.now.area ≡ sys.now.area) × SamePlacements kept.scout.seen seen.now.tiles }
+                × (seen.area ≡ sys.now.area) × SamePlacements kept.scout.seen seen.tiles
+                × All (λ copy. copy ≡ seen) copies.items
+                × (length copies.items + 1 ≡ left - 1) }
             ensures { IfOk result (λ h.
-                PartedGrowth sys.entry.now kept seen.entry.now h.seat h.grid h.first h.others.items
+                PartedGrowth sys.entry.now kept seen h.seat h.grid h.first h.others.items
                 × IsSeatOf table.entry.now h.seat
                 × (length h.others.items + 1 ≡ left - 1)) }
         {
@@ -79,6 +85,7 @@ pub(crate) fn grow_from<R: Threads + Sync, G: Gate>(
                 table,
                 kept,
                 seen,
+                copies,
                 next + 1,
                 left - 1,
                 choice,
@@ -88,6 +95,18 @@ pub(crate) fn grow_from<R: Threads + Sync, G: Gate>(
         },
     );
     unite(sys, table, rest?, part?)
+}
+
+// One of the copies of a grid, and the others.
+fn take_copy(mut copies: Vec<Grid>, seen: &Grid) -> (Grid, Vec<Grid>)
+    requires each { All (λ copy. copy ≡ seen.now) copies.items }
+    requires some { 0 < length copies.items }
+    ensures one { result.0 ≡ seen.now }
+    ensures others { All (λ copy. copy ≡ seen.now) result.1.items }
+    ensures count { length result.1.items + 1 ≡ length copies.items }
+{
+    let own = copies.pop().unwrap();
+    (own, copies)
 }
 
 // The seat of all workers but one, and the seat of this one.
@@ -113,7 +132,7 @@ fn grow_first<G: Gate>(
     sys: &System,
     table: &SiteTable,
     seat: SiteSeat,
-    seen: &Grid,
+    seen: Grid,
     of: u32,
     choice: u64,
     gate: &G,
@@ -121,11 +140,11 @@ fn grow_first<G: Gate>(
 ) -> Result<Harvest, NoMemory>
     requires seat { IsSeatOf table.now seat }
     requires system { table.now.sys ≡ sys.now }
-    requires area { seen.now.area ≡ sys.now.area }
-    requires seen { SamePlacements seat.scout.seen seen.now.tiles }
+    requires area { seen.area ≡ sys.now.area }
+    requires seen { SamePlacements seat.scout.seen seen.tiles }
     requires some { 0 < of }
     ensures grew { IfOk result (λ h.
-        PartedGrowth sys.now seat seen.now h.seat h.grid h.first h.others.items) }
+        PartedGrowth sys.now seat seen h.seat h.grid h.first h.others.items) }
     ensures seat { IfOk result (λ h. IsSeatOf table.now h.seat) }
     ensures count { IfOk result (λ h. h.others.items ≡ []) }
 {

@@ -10,7 +10,7 @@ use Rattle.grow_workers.proofs.member.work.Goals as goal
 pub returns-clause-grew : goal.returns-clause-grew
 returns-clause-grew g c =
     let sys = c.args.sys.now in
-    let seen = c.args.seen.now in
+    let seen = c.args.seen in
     let before : Growing = c.in_ok-scout.scout in
     let after : Growing = c.take_turns.new.scout in
     let start : before ≡ record { seat = c.args.seat; grid = seen; won = 0 } = c.in_ok-scout.ensures in

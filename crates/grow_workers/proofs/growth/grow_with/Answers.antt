@@ -4,7 +4,7 @@ use Rattle.grow_workers.specs.declared.leavings.Harvest.{Harvest}
 use Rattle.grow_workers.specs.Workers.{WorkersWin}
 use Rattle.grow_workers.proofs.Numbering.{numbers_suffice, workers_win}
 use Rattle.grow_workers.proofs.Winning.{first_few}
-use Rattle.grow_workers.proofs.growth.grow_on.Goals as goal
+use Rattle.grow_workers.proofs.growth.grow_with.Goals as goal
 
 pub share_out-requires-clause-numbers : goal.share_out-requires-clause-numbers
 share_out-requires-clause-numbers g c κs within =
