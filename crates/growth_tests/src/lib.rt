@@ -8,6 +8,8 @@ mod choosing;
 #[cfg(test)]
 mod edges;
 #[cfg(test)]
+mod orders;
+#[cfg(test)]
 mod scouts;
 #[cfg(test)]
 mod table;

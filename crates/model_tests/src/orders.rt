@@ -3,7 +3,7 @@ ghost use Rattle.std.specs.Prelude.{◌<◌, ◌^◌, length};
 
 use crate::places::{Spot, grid_of, lists, sequence_of};
 use assembly::Grid;
-use replay_order::{Legality, ReplayStop, check_legal, replay};
+use replay_order::{Legality, ReplayStop, check_legal, replay, replay_by};
 use std::alloc::Global;
 use std::test::Fail;
 use tile_system::{NoMemory, Site, System};
@@ -52,6 +52,10 @@ fn stops_without_a_seed_and_where_tiles_are_left(rt: HostRuntime) -> Result<(), 
     for (spots, stop) in grids {
         let grid = grid_of(rt.alloc(), &sys, spots)?;
         assert_eq!(rt; replay(rt.alloc(), &sys, &grid).err(), Some(stop));
+        for workers in [1, 2, 3, 4, 16] {
+            let found = replay_by(&rt, rt.alloc(), &sys, &grid, workers);
+            assert_eq!(rt; found.err(), Some(stop));
+        }
     }
     Ok(())
 }
