@@ -9,7 +9,7 @@ syntax case match
 " A line whose first word is no keyword, and bytes that part no words.
 syntax match tilesError /^ *[^ #]\S*/
 syntax match tilesError /[\t\r]/
-syntax match tilesKeyword /^ *\zs\%(tiles\|tau\|glue\|tile\|box\|seed\|end\)\ze\%( \|$\)/
+syntax match tilesKeyword /^ *\zs\%(tiles\|tau\|glue\|pair\|tile\|box\|seed\|end\)\ze\%( \|$\)/
 syntax match tilesKeyword /^ *\zs\%(place\|look\|claim\|split\|join\)\ze\%( \|$\)/
 syntax match tilesAnswer /^ *\zs\%(closed\|unique\|legal\|stuck\|saw\|won\|total\|held\|joined\|refused\)\ze\%( \|$\)/
 syntax match tilesNumber /\%(^\| \)\zs-\?\d\{1,10}\ze\%( \|$\)/

@@ -19,6 +19,7 @@ LONGEST_LINE = 256
 FARTHEST = 1000000
 LONGEST_SIDE = 1024
 MOST_GLUES, MOST_TYPES = 8192, 16384
+MOST_PAIRS, MOST_SEEDS = 65536, 4096
 U32, U64 = 2**32 - 1, 2**64 - 1
 STEPS = ((0, 1), (1, 0), (0, -1), (-1, 0))
 SIGNS = b"ABCDEFGHIJKLMNOPQRSTUVWXYZabcdefghijklmnopqrstuvwxyz0123456789"
@@ -26,7 +27,7 @@ NUMBER = re.compile(rb"-?[0-9]{1,10}")
 NAME = re.compile(rb"[A-Za-z0-9_:.]{1,40}")
 SHORT_NAME = re.compile(rb"[A-Za-z0-9_]{1,8}")
 GROWERS = ("grow", "race", "report")
-READERS = (*GROWERS, "check", "replay", "schedule", "format", "turing", "picture")
+READERS = (*GROWERS, "check", "replay", "schedule", "format", "upgrade", "turing", "picture")
 COMMANDS = (*READERS, "counter", "load")
 
 
@@ -108,10 +109,10 @@ def referred(word, names, form=NAME):
     return names[word]
 
 
-def read_text(lines, header, keywords, item):
+def read_text(lines, header, keywords, item, before=None):
     """Goes through a text. `keywords` has for each keyword the number of its words, whether more are allowed, and what it
-    may stand after, None being the start; `item` is called with each line's words, and raises the cause of its fault."""
-    before = None
+    may stand after, None being the start; `item` is called with each line's words, and raises the cause of its fault. A
+    header that was read already is what stands `before`."""
     if header is not None:
         if lines.next() != header:
             raise Fault(lines.number, "NoHeader")
@@ -142,11 +143,13 @@ SYSTEM = {
     b"tiles": (2, False, ()),
     b"tau": (2, False, (b"tiles",)),
     b"glue": (3, False, (b"tau", b"glue")),
-    b"tile": (6, False, (b"tau", b"glue", b"tile")),
+    b"tile": (6, False, (b"tau", b"glue", b"pair", b"tile")),
     b"box": (5, False, (b"tile",)),
     b"seed": (4, False, (b"box",)),
     b"end": (1, False, (b"seed",)),
 }
+# by the number in the header: version 2 has pairs of unlike glues, and several seeds
+SYSTEMS = {1: SYSTEM, 2: {**SYSTEM, b"pair": (4, False, (b"glue", b"pair")), b"seed": (4, False, (b"box", b"seed"))}}
 
 
 class System:
@@ -154,8 +157,11 @@ class System:
 
     def __init__(self):
         self.tau, self.glues, self.strengths, self.types, self.sides = 0, {}, [], {}, []
-        self.box = self.seed = None
-        # for each side the types that bear a glue of some strength there, and the types that glues around a site hold
+        # the strength of each pair of unlike glues, as (the first one named, the other), and for each glue of some pair
+        # those that it interacts with
+        self.pairs, self.partners = {}, {}
+        self.box, self.seeds, self.seeded = None, [], set()
+        # for each side the types that bear a glue there, and the types that glues around a site hold
         self.bearers, self.held = None, {}
 
     def item(self, words):
@@ -168,6 +174,16 @@ class System:
                 raise Cause("TooMany")
             declared(words[1], self.glues)
             self.strengths.append(number_in(words[2], 0, 250))
+        elif kind == b"pair":
+            if len(self.pairs) == MOST_PAIRS:
+                raise Cause("TooMany")
+            pair = referred(words[1], self.glues), referred(words[2], self.glues)
+            strength = number_in(words[3], 0, 250)
+            if pair[0] == pair[1] or pair in self.pairs or pair[::-1] in self.pairs:
+                raise Cause("DoubleName")
+            self.pairs[pair] = strength
+            for one, other in (pair, pair[::-1]):
+                self.partners.setdefault(one, {})[other] = strength
         elif kind == b"tile":
             if len(self.sides) == MOST_TYPES:
                 raise Cause("TooMany")
@@ -178,9 +194,15 @@ class System:
             if not (0 <= x1 - x0 < LONGEST_SIDE and 0 <= y1 - y0 < LONGEST_SIDE):
                 raise Cause("OutOfRange")
         elif kind == b"seed":
-            self.seed = site_in(words[1:3]), referred(words[3], self.types)
-            if not self.has(self.seed[0]):
+            if len(self.seeds) == MOST_SEEDS:
+                raise Cause("TooMany")
+            seed = site_in(words[1:3]), referred(words[3], self.types)
+            if not self.has(seed[0]):
                 raise Cause("SeedOutside")
+            if seed[0] in self.seeded:
+                raise Cause("DoubleSite")
+            self.seeds.append(seed)
+            self.seeded.add(seed[0])
 
     def has(self, site):
         x0, y0, x1, y1 = self.box
@@ -211,8 +233,14 @@ class System:
             -1 if west is None else sides[west][1],
         )
 
+    def between(self, one, other):
+        """The strength with which two sides interact: that of their glue, or that of the pair, or none."""
+        if one < 0 or other < 0:
+            return 0
+        return self.strengths[one] if one == other else self.partners.get(one, {}).get(other, 0)
+
     def pull(self, facing, kind):
-        return sum(self.strengths[one] for one, other in zip(facing, self.sides[kind]) if one == other and one >= 0)
+        return sum(self.between(one, other) for one, other in zip(facing, self.sides[kind]))
 
     def attaching(self, facing):
         """The types that glues around an empty site hold, by index."""
@@ -222,29 +250,36 @@ class System:
                 self.bearers = [{}, {}, {}, {}]
                 for kind, sides in enumerate(self.sides):
                     for bearers, glue in zip(self.bearers, sides):
-                        if glue >= 0 and self.strengths[glue]:
+                        if glue >= 0:
                             bearers.setdefault(glue, []).append(kind)
             pulls = {}
             for bearers, glue in zip(self.bearers, facing):
-                for kind in bearers.get(glue, ()):
-                    pulls[kind] = pulls.get(kind, 0) + self.strengths[glue]
+                for other in (glue, *self.partners.get(glue, ())):
+                    for kind in bearers.get(other, ()):
+                        pulls[kind] = pulls.get(kind, 0) + self.between(glue, other)
             found = self.held[facing] = sorted(kind for kind, pull in pulls.items() if pull >= self.tau)
         return found
 
-    def spelling(self):
-        """The one spelling."""
+    def spelling(self, version=None):
+        """The one spelling, by the oldest version that has the system or by this one."""
         glues, none = list(self.glues), b"-"
-        lines = [b"tiles 1", b"tau %d" % self.tau]
+        version = version or (1 if len(self.seeds) == 1 and not self.pairs else 2)
+        lines = [b"tiles %d" % version, b"tau %d" % self.tau]
         lines += [b"glue %s %d" % it for it in zip(glues, self.strengths)]
+        lines += [b"pair %s %s %d" % (glues[one], glues[other], it) for (one, other), it in self.pairs.items()]
         for kind, sides in zip(self.types, self.sides):
             lines.append(b"tile %s %s %s %s %s" % (kind, *(none if it < 0 else glues[it] for it in sides)))
-        lines += [b"box %d %d %d %d" % self.box, b"seed %d %d %s" % (*self.seed[0], self.name(self.seed[1])), b"end\n"]
-        return b"\n".join(lines)
+        lines += [b"box %d %d %d %d" % self.box]
+        lines += [b"seed %d %d %s" % (*site, self.name(kind)) for site, kind in self.seeds]
+        return b"\n".join(lines + [b"end\n"])
 
 
 def read_system(lines):
-    system = System()
-    read_text(lines, [b"tiles", b"1"], SYSTEM, system.item)
+    """The system of a text of either version."""
+    system, header = System(), lines.next()
+    if header not in ([b"tiles", b"1"], [b"tiles", b"2"]):
+        raise Fault(lines.number, "NoHeader")
+    read_text(lines, None, SYSTEMS[int(header[1])], system.item, header[0])
     return system
 
 
@@ -280,9 +315,9 @@ def read_places(lines, system, is_grid):
 
 
 def full_growth(system, most):
-    """Some assembly that grows from the seed and is closed in the box."""
-    tiles = dict([system.seed])
-    left = [system.seed[0]]
+    """Some assembly that grows from the seeds and is closed in the box."""
+    tiles = dict(system.seeds)
+    left = list(tiles)
     while left:
         x, y = left.pop()
         for site in ((x, y + 1), (x + 1, y), (x, y - 1), (x - 1, y)):
@@ -297,18 +332,23 @@ def full_growth(system, most):
 
 
 def canonical(system, tiles):
-    """The canonical sequence of tiles that hold the seed."""
-    listed, order, ready = {}, [], [(system.seed[0][1], system.seed[0][0])]
-    waiting = set(tiles)
-    waiting.discard(system.seed[0])
-    while ready:
-        y, x = heapq.heappop(ready)
-        listed[x, y] = tiles[x, y]
-        order.append(((x, y), tiles[x, y]))
+    """The canonical sequence of tiles that hold the seeds."""
+    listed, order, ready = dict(system.seeds), list(system.seeds), []
+    waiting = set(tiles) - set(listed)
+
+    def look_beside(x, y):
         for site in ((x, y + 1), (x + 1, y), (x, y - 1), (x - 1, y)):
             if site in waiting and system.pull(system.facing(listed, *site), tiles[site]) >= system.tau:
                 waiting.discard(site)
                 heapq.heappush(ready, (site[1], site[0]))
+
+    for site, _ in system.seeds:
+        look_beside(*site)
+    while ready:
+        y, x = heapq.heappop(ready)
+        listed[x, y] = tiles[x, y]
+        order.append(((x, y), tiles[x, y]))
+        look_beside(x, y)
     return order
 
 
@@ -332,13 +372,15 @@ def verdict(system, sequence):
     """The line of the verdict on a legal sequence, without `unique`."""
     tiles, index = dict(sequence), {site: at for at, (site, _) in enumerate(sequence)}
     rival = None
-    for at, ((x, y), kind) in enumerate(sequence[1:], 1):
+    for at, ((x, y), kind) in enumerate(sequence):
+        if at < len(system.seeds):
+            continue
         facing, own, held = list(system.facing(tiles, x, y)), system.sides[kind], 0
         for side, (a, b) in enumerate(STEPS):
-            glue = facing[side]
-            if glue >= 0 and glue == own[side] and system.strengths[glue]:
+            bond = system.between(facing[side], own[side])
+            if bond:
                 if index[x + a, y + b] < at:
-                    held += system.strengths[glue]
+                    held += bond
                 else:
                     # (that neighbour has an input side here: it is an output neighbour)
                     facing[side] = -1
@@ -368,14 +410,15 @@ def growth_text(system, tiles):
 
 def breach(system, sequence):
     """The first place that breaks legality, as the `legal no` line tells it, or None."""
-    if not sequence or sequence[0] != system.seed:
+    seeds = len(system.seeds)
+    if sequence[:seeds] != system.seeds:
         return b"1"
     tiles = {}
     for at, (site, kind) in enumerate(sequence):
         if site in tiles:
             return b"2 %d" % at
         pull = system.pull(system.facing(tiles, *site), kind)
-        if at and pull < system.tau:
+        if at >= seeds and pull < system.tau:
             return b"3 %d %d" % (at, pull)
         tiles[site] = kind
     return None
@@ -422,8 +465,8 @@ class Scouts:
     """Scouts that grow one assembly: for each name its numbers and what it has seen."""
 
     def __init__(self, system):
-        self.system, self.tiles = system, dict([system.seed])
-        self.scouts = {0: (set(range(64)), dict([system.seed]))}
+        self.system, self.tiles = system, dict(system.seeds)
+        self.scouts = {0: (set(range(64)), dict(system.seeds))}
 
     def answer(self, event):
         kind, who = event[:2]
@@ -651,8 +694,8 @@ def check_growth(system):
         except Fault as why:
             return f"what it printed does not read as a growth: {why}"
         tiles = dict(places)
-        if not places or places[0] != system.seed:
-            return "it does not begin with the seed"
+        if places[: len(system.seeds)] != system.seeds:
+            return "it does not begin with the seeds"
         if len(canonical(system, tiles)) != len(tiles):
             return "its tiles can't grow"
         if not is_closed_in_box(system, tiles):
@@ -679,8 +722,9 @@ def check_race(system, workers, tiles):
         won = counts_of(lines[:-2], workers, rb"won %d (0|[1-9][0-9]*)")
         if won is None or lines[-2:] != [b"total %d" % sum(won), b""]:
             return f"no lines of a race by {workers} workers: {out[:300]!r}"
-        if sum(won) != tiles - 1 if tiles is not None else sum(won) >= system.width() * system.height():
-            return f"{sum(won)} tiles were won, wanted {tiles} without the seed"
+        seeds = len(system.seeds)
+        if sum(won) != tiles - seeds if tiles is not None else sum(won) + seeds > system.width() * system.height():
+            return f"{sum(won)} tiles were won, wanted {tiles} without the seeds"
         return None
 
     return check
@@ -694,7 +738,7 @@ def check_report(system, workers, tiles):
         if not found:
             return f"no report: {out[:300]!r}"
         won = [int(it) for it in found[2].split(b",")]
-        if len(won) != workers or sum(won) != int(found[1]) - 1:
+        if len(won) != workers or sum(won) != int(found[1]) - len(system.seeds):
             return f"the counts {won} of {workers} workers are not those of {int(found[1])} tiles"
         if tiles is not None:
             text = wanted_report(system, tiles, b"yes", found[2])
@@ -742,8 +786,9 @@ class Judge:
 
     def replayed(self, system, lines):
         tiles = dict(read_places(lines, system, True))
-        if tiles.get(system.seed[0]) != system.seed[1]:
-            return Wanted(1, b"stuck seed %d %d\n" % system.seed[0])
+        for site, kind in system.seeds:
+            if tiles.get(site) != kind:
+                return Wanted(1, b"stuck seed %d %d\n" % site)
         order = canonical(system, tiles)
         left = set(tiles) - {site for site, _ in order}
         if left:
@@ -766,9 +811,9 @@ class Judge:
             lines.end()
             return Wanted(0, machine.system())
         system = read_system(lines)
-        if command == "format":
+        if command in ("format", "upgrade"):
             lines.end()
-            return Wanted(0, system.spelling())
+            return Wanted(0, system.spelling(2 if command == "upgrade" else None))
         if command == "picture":
             if system.width() * system.height() > 64 * self.most_tiles:
                 raise TooLarge

@@ -4,7 +4,7 @@ Everything comes from one random number generator, so the same seed makes the sa
 """
 import judge
 
-KEYWORDS = b"tiles tau glue tile box seed end place closed unique look claim split join machine state symbol rule cells rows head tape".split()
+KEYWORDS = b"tiles tau glue pair tile box seed end place closed unique look claim split join machine state symbol rule cells rows head tape".split()
 NUMBERS = [b"%d" % it for it in (-1000001, -1000000, -1, 0, 1, 2, 15, 16, 17, 63, 64, 250, 251, 255, 512, 513, 1000, 1001, 1023, 1024, 1025)]
 NUMBERS += [b"%d" % it for it in (1000000, 1000001, 2**31, 2**32 - 1, 2**32, 2**63, 2**64 - 1, 9999999999, 10000000000)]
 WORDS = NUMBERS + KEYWORDS + [b"-0", b"-", b"--1", b"-01", b"007", b"0000000001", b"00000000001", b"+1", b"1.5", b"1e3", b"0x1", b"#", b"#x"]
@@ -165,6 +165,27 @@ def machine_system(rng, side=9):
     return judge.read_machine(judge.Lines(joined(machine_lines(rng, side)))).system().split(b"\n")[:-1]
 
 
+def widened(rng, lines):
+    """The lines of a system by version 2: with further seeds, with pairs of its glues, with both or with neither."""
+    glues = [it.split()[1] for it in lines if it.startswith(b"glue ")]
+    tiles = [it.split()[1] for it in lines if it.startswith(b"tile ")]
+    x0, y0, x1, y1 = (int(it) for it in next(it for it in lines if it.startswith(b"box ")).split()[1:])
+    taken = {tuple(it.split()[1:3]) for it in lines if it.startswith(b"seed ")}
+    pairs, seeds, paired = [], [], set()
+    for _ in range(rng.choice((0, 1, 2, 3, 12)) if len(glues) > 1 else 0):
+        pair = rng.sample(glues, 2)
+        if frozenset(pair) not in paired:
+            paired.add(frozenset(pair))
+            pairs.append(b"pair %s %s %d" % (*pair, rng.choice((0, 1, 1, 2, 2, 3, 250))))
+    for _ in range(rng.choice((0, 0, 1, 2, 5, 40))):
+        site = b"%d" % rng.randint(x0, x1), b"%d" % rng.randint(y0, y1)
+        if site not in taken:
+            taken.add(site)
+            seeds.append(b"seed %s %s %s" % (*site, rng.choice(tiles)))
+    at = next(it for it, line in enumerate(lines) if line.startswith(b"tile "))
+    return [b"tiles 2", *lines[1:at], *pairs, *lines[at:-1], *seeds, lines[-1]]
+
+
 SYSTEMS = {
     "loose": (loose_system, 6),
     "shaped": (shaped_system, 5),
@@ -180,7 +201,7 @@ SYSTEMS = {
 
 def sequence(rng, system, most):
     """A legal sequence, in whatever order."""
-    places, tiles, left = [system.seed], dict([system.seed]), [system.seed[0]]
+    places, tiles, left = list(system.seeds), dict(system.seeds), [site for site, _ in system.seeds]
     while left and len(places) < most:
         at = rng.randrange(len(left))
         site = left[at]
@@ -328,7 +349,7 @@ def broken_line(rng, line, text):
 
 def new_line(rng):
     """A line that mostly may not stand where it is put."""
-    return rng.choice((b"# " + b"y" * 254, b"#" * 257, b"#" * 256, b"\t", b"\r", b"tiles 1", b"end", b"place 0 0 S", b"machine 1", b" #", b"glue g 1", b"closed x"))
+    return rng.choice((b"# " + b"y" * 254, b"#" * 257, b"#" * 256, b"\t", b"\r", b"tiles 1", b"tiles 2", b"pair a b 1", b"seed 0 0 S", b"end", b"place 0 0 S", b"machine 1", b" #", b"glue g 1", b"closed x"))
 
 
 def with_line_edited(rng, text):
@@ -373,7 +394,7 @@ def broken(rng, text):
 # ---- words
 
 ODD_NUMBERS = "0 1 2 15 16 17 -1 007 +3 4294967295 4294967296 18446744073709551615 18446744073709551616 99999999999999999999999 1.0 x --workers".split() + [""]
-ODD_WORDS = ["", "grown", "Grow", "GROW", "help", "--help", "-h", "--version", "grow ", "grow\n", "-", "--", "upgrade", "é", "\udcff"]
+ODD_WORDS = ["", "grown", "Grow", "GROW", "help", "--help", "-h", "--version", "grow ", "grow\n", "-", "--", "upgrades", "é", "\udcff"]
 
 
 def growing_words(rng, command):

@@ -31,21 +31,31 @@ def neighbour(site, side):
 
 
 class System:
-    """A tile system: the strength of each glue, the four glues (or None) of each type, by name and in their order."""
+    """A tile system: the strength of each glue, the four glues (or None) of each type, by name and in their order, the
+    strength of each pair of unlike glues, in both orders of their names, and the seeds as (site, type)."""
 
     def __init__(self):
-        self.tau, self.glues, self.types, self.box, self.seed = 0, {}, {}, None, None
+        self.tau, self.glues, self.pairs, self.types, self.box, self.seeds = 0, {}, {}, {}, None, []
         # how many lines its text has
         self.lines = 0
+
+    def between(self, one, other):
+        """The strength with which two sides interact (each a glue, or None)."""
+        if one is None or other is None:
+            return 0
+        return self.glues[one] if one == other else self.pairs.get((one, other), 0)
+
+    def partners(self, glue):
+        """The glue itself, and those that it is paired with."""
+        return [glue] + [other for one, other in self.pairs if one == glue]
 
     def bonds(self, tiles, site, name):
         """The strength with which each side of the type is held at the site by the tiles (names by site)."""
         found = []
         for side in range(4):
             beside = tiles.get(neighbour(site, side))
-            glue = self.types[name][side]
-            held = beside is not None and glue is not None and self.types[beside][opposite(side)] == glue
-            found.append(self.glues[glue] if held else 0)
+            facing = None if beside is None else self.types[beside][opposite(side)]
+            found.append(self.between(self.types[name][side], facing))
         return found
 
     def attaching(self, tiles, site):
@@ -76,14 +86,21 @@ def system_of(text):
     """The system that a text begins with, and the words of each line behind it."""
     system, rest = System(), lines_of(text)
     number, words = next(rest, (1, []))
-    if words != ["tiles", "1"]:
-        raise Unreadable(number, "a system text begins with the line: tiles 1")
+    if words not in (["tiles", "1"], ["tiles", "2"]):
+        raise Unreadable(number, "a system text begins with the line: tiles 1, or tiles 2")
+    header = words
     for number, words in rest:
         try:
             if words[0] == "tau":
                 system.tau = integer(number, words[1])
             elif words[0] == "glue":
                 system.glues[words[1]] = integer(number, words[2])
+            elif words[0] == "pair" and header[1] == "2":
+                unknown = [it for it in words[1:3] if it not in system.glues]
+                if unknown or len(words) != 4:
+                    raise Unreadable(number, f"no glue {unknown[0]}" if unknown else "a pair has two glues and a strength")
+                for it in (words[1:3], words[2:0:-1]):
+                    system.pairs[tuple(it)] = integer(number, words[3])
             elif words[0] == "tile":
                 system.types[words[1]] = [None if it == "-" else it for it in words[2:6]]
                 unknown = [it for it in words[2:6] if it != "-" and it not in system.glues]
@@ -92,7 +109,7 @@ def system_of(text):
             elif words[0] == "box":
                 system.box = tuple(integer(number, it) for it in words[1:5])
             elif words[0] == "seed":
-                system.seed = (integer(number, words[1]), integer(number, words[2])), words[3]
+                system.seeds.append(((integer(number, words[1]), integer(number, words[2])), words[3]))
             elif words[0] == "end":
                 system.lines = number
                 break
@@ -100,7 +117,7 @@ def system_of(text):
                 raise Unreadable(number, f"{words[0]} is no keyword of a system text")
         except (IndexError, ValueError):
             raise Unreadable(number, f"too few words behind {words[0]}") from None
-    if not system.lines or system.box is None or system.seed is None or system.seed[1] not in system.types:
+    if not system.lines or system.box is None or not system.seeds or any(it not in system.types for _, it in system.seeds):
         raise Unreadable(system.lines or number, "the system has no whole box, seed and end")
     return system, list(rest)
 
