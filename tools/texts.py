@@ -35,9 +35,11 @@ class System:
     strength of each pair of unlike glues, in both orders of their names, and the seeds as (site, type)."""
 
     def __init__(self):
-        self.tau, self.glues, self.pairs, self.types, self.box, self.seeds = 0, {}, {}, {}, None, []
+        self.tau, self.glues, self.pairs, self.paired, self.types, self.box, self.seeds = 0, {}, {}, {}, {}, None, []
         # how many lines its text has
         self.lines = 0
+        # for each side and glue the types that interact with it there, and what was found of the glues around a site
+        self.bearers, self.held = None, {}
 
     def between(self, one, other):
         """The strength with which two sides interact (each a glue, or None)."""
@@ -47,7 +49,7 @@ class System:
 
     def partners(self, glue):
         """The glue itself, and those that it is paired with."""
-        return [glue] + [other for one, other in self.pairs if one == glue]
+        return [glue, *self.paired.get(glue, ())]
 
     def bonds(self, tiles, site, name):
         """The strength with which each side of the type is held at the site by the tiles (names by site)."""
@@ -58,9 +60,43 @@ class System:
             found.append(self.between(self.types[name][side], facing))
         return found
 
+    def facing(self, tiles, site):
+        """The glues that face a site, by side."""
+        beside = [tiles.get(neighbour(site, side)) for side in range(4)]
+        return tuple(None if it is None else self.types[it][opposite(side)] for side, it in enumerate(beside))
+
+    def holders(self):
+        """For each side and glue the types with the strength with which they interact with that glue on this side."""
+        if self.bearers is None:
+            borne = {}
+            for name, sides in self.types.items():
+                for side, glue in enumerate(sides):
+                    borne.setdefault((side, glue), []).append(name)
+            self.bearers = {}
+            for one in self.glues:
+                for other in self.partners(one) if self.between_any(one) else ():
+                    for side in range(4):
+                        self.bearers.setdefault((side, one), []).extend((it, self.between(one, other)) for it in borne.get((side, other), ()))
+        return self.bearers
+
+    def between_any(self, glue):
+        """Whether the glue interacts with any."""
+        return any(self.between(glue, it) for it in self.partners(glue))
+
+    def held_by(self, facing):
+        """The types that glues around an empty site hold, in the system's order."""
+        if facing not in self.held:
+            pulls, holders = {}, self.holders()
+            for side, glue in enumerate(facing):
+                for name, strength in holders.get((side, glue), ()):
+                    pulls[name] = pulls.get(name, 0) + strength
+            found = {it for it, pull in pulls.items() if pull >= self.tau}
+            self.held[facing] = [it for it in self.types if it in found] if found else []
+        return self.held[facing]
+
     def attaching(self, tiles, site):
         """The types that attach at an empty site."""
-        return [] if site in tiles else [it for it in self.types if sum(self.bonds(tiles, site, it)) >= self.tau]
+        return [] if site in tiles else self.held_by(self.facing(tiles, site))
 
     def in_box(self, site):
         x0, y0, x1, y1 = self.box
@@ -101,6 +137,7 @@ def system_of(text):
                     raise Unreadable(number, f"no glue {unknown[0]}" if unknown else "a pair has two glues and a strength")
                 for it in (words[1:3], words[2:0:-1]):
                     system.pairs[tuple(it)] = integer(number, words[3])
+                    system.paired.setdefault(it[0], []).append(it[1])
             elif words[0] == "tile":
                 system.types[words[1]] = [None if it == "-" else it for it in words[2:6]]
                 unknown = [it for it in words[2:6] if it != "-" and it not in system.glues]
