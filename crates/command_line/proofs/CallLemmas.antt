@@ -6,7 +6,7 @@ use Rattle.clap.specs.Words.{App, Text, fault_of, takes}
 use Rattle.clap.specs.declared.parser.matches.ArgMatches.{ArgMatches}
 use Rattle.clap.proofs.OnLiterals.{clap_on_literals}
 use Rattle.command_line.specs.declared.commands.Command.{Command}
-use Rattle.command_line.specs.declared.commands.Command.TheVariants.{Grow, Race, Report, Check, Replay, Schedule, Format, Turing, Picture, Counter, Load}
+use Rattle.command_line.specs.declared.commands.Command.TheVariants.{Grow, Race, Report, Check, Replay, Schedule, Format, Upgrade, Turing, Picture, Counter, Load}
 use Rattle.command_line.specs.declared.commands.CommandName.{CommandName}
 use Rattle.command_line.specs.declared.commands.CommandName.TheVariants as name
 use Rattle.command_line.specs.declared.words_stop.WordsStop.{WordsStop}
@@ -61,6 +61,7 @@ made name.Check values = Check
 made name.Replay values = Replay
 made name.Schedule values = Schedule
 made name.Format values = Format
+made name.Upgrade values = Upgrade
 made name.Turing values = Turing
 made name.Picture values = Picture
 made name.Counter (bits ∷ start ∷ values) = Counter bits start
@@ -180,6 +181,7 @@ spelled_taken words Check (range, is) = rw is (alone_taken name.Check refl)
 spelled_taken words Replay (range, is) = rw is (alone_taken name.Replay refl)
 spelled_taken words Schedule (range, is) = rw is (alone_taken name.Schedule refl)
 spelled_taken words Format (range, is) = rw is (alone_taken name.Format refl)
+spelled_taken words Upgrade (range, is) = rw is (alone_taken name.Upgrade refl)
 spelled_taken words Turing (range, is) = rw is (alone_taken name.Turing refl)
 spelled_taken words Picture (range, is) = rw is (alone_taken name.Picture refl)
 

@@ -5,7 +5,7 @@ use Rattle.clap.specs.Simple.{on_top}
 use Rattle.clap.specs.declared.error.kind.ErrorKind.{ErrorKind}
 use Rattle.clap.specs.declared.error.kind.ErrorKind.TheVariants.{OutOfMemory}
 use Rattle.command_line.specs.declared.commands.Command.{Command}
-use Rattle.command_line.specs.declared.commands.Command.TheVariants.{Grow, Race, Report, Check, Replay, Schedule, Format, Turing, Picture, Counter, Load}
+use Rattle.command_line.specs.declared.commands.Command.TheVariants.{Grow, Race, Report, Check, Replay, Schedule, Format, Upgrade, Turing, Picture, Counter, Load}
 use Rattle.command_line.specs.declared.commands.CommandName.{CommandName}
 use Rattle.command_line.specs.declared.commands.CommandName.TheVariants as name
 use Rattle.command_line.specs.declared.words_stop.WordsStop.{WordsStop}
@@ -23,6 +23,7 @@ command_word name.Check = codes "check"
 command_word name.Replay = codes "replay"
 command_word name.Schedule = codes "schedule"
 command_word name.Format = codes "format"
+command_word name.Upgrade = codes "upgrade"
 command_word name.Turing = codes "turing"
 command_word name.Picture = codes "picture"
 command_word name.Counter = codes "counter"
@@ -30,7 +31,7 @@ command_word name.Load = codes "load"
 
 -- all commands
 abbrev pub command_names : List CommandName
-command_names = name.Grow ∷ name.Race ∷ name.Report ∷ name.Check ∷ name.Replay ∷ name.Schedule ∷ name.Format ∷ name.Turing ∷ name.Picture ∷ name.Counter ∷ name.Load ∷ []
+command_names = name.Grow ∷ name.Race ∷ name.Report ∷ name.Check ∷ name.Replay ∷ name.Schedule ∷ name.Format ∷ name.Upgrade ∷ name.Turing ∷ name.Picture ∷ name.Counter ∷ name.Load ∷ []
 
 -- `--workers N`, where N is 1 to 16, 1 if it is left out
 abbrev pub workers_option : NumberArgument
@@ -70,6 +71,7 @@ name_of Check = name.Check
 name_of Replay = name.Replay
 name_of Schedule = name.Schedule
 name_of Format = name.Format
+name_of Upgrade = name.Upgrade
 name_of Turing = name.Turing
 name_of Picture = name.Picture
 name_of (Counter bits start) = name.Counter

@@ -22,6 +22,7 @@ pub enum Command {
     Replay,
     Schedule,
     Format,
+    Upgrade,
     Turing,
     Picture,
     /// Any numbers of their types: the counter's own limits are not looked at here.
@@ -40,13 +41,14 @@ pub enum CommandName {
     Replay,
     Schedule,
     Format,
+    Upgrade,
     Turing,
     Picture,
     Counter,
     Load,
 }
 
-const NAMES: [CommandName; 11] = [
+const NAMES: [CommandName; 12] = [
     CommandName::Grow,
     CommandName::Race,
     CommandName::Report,
@@ -54,6 +56,7 @@ const NAMES: [CommandName; 11] = [
     CommandName::Replay,
     CommandName::Schedule,
     CommandName::Format,
+    CommandName::Upgrade,
     CommandName::Turing,
     CommandName::Picture,
     CommandName::Counter,
@@ -85,6 +88,7 @@ impl CommandName {
             CommandName::Replay => "replay",
             CommandName::Schedule => "schedule",
             CommandName::Format => "format",
+            CommandName::Upgrade => "upgrade",
             CommandName::Turing => "turing",
             CommandName::Picture => "picture",
             CommandName::Counter => "counter",
@@ -144,6 +148,7 @@ pub fn command_found(name: CommandName, found: &ArgMatches) -> Command
         CommandName::Replay => Command::Replay,
         CommandName::Schedule => Command::Schedule,
         CommandName::Format => Command::Format,
+        CommandName::Upgrade => Command::Upgrade,
         CommandName::Turing => Command::Turing,
         CommandName::Picture => Command::Picture,
         CommandName::Counter => Command::Counter {
