@@ -198,3 +198,82 @@ def read_both(system_path, growth_path=None):
     if growth_path is not None:
         rest = list(lines_of(read(growth_path)))
     return system, growth_of(system, rest)
+
+
+# ---- what answers mean
+
+
+def standing(tiles, site):
+    return tiles.get(site, "the empty site")
+
+
+def bond_words(system, tiles, site, name):
+    """The bonds of a type at a site in words, with their sum."""
+    facing, bonds = system.facing(tiles, site), system.bonds(tiles, site, name)
+    told = []
+    for side, strength in enumerate(bonds):
+        own = system.types[name][side]
+        if strength:
+            told.append(f"{SIDES[side]} {own}{'' if own == facing[side] else f' with {facing[side]}'} {strength}")
+    return f"{' + '.join(told)} = {sum(bonds)}" if told else "no bond"
+
+
+def beyond(system, site):
+    """How far beyond which sides of the box a site lies."""
+    x0, y0, x1, y1 = system.box
+    found = zip(("north", "east", "south", "west"), (site[1] - y1, site[0] - x1, y0 - site[1], x0 - site[0]))
+    return " and ".join(f"{side} by {far}" for side, far in found if far > 0)
+
+
+def resting(system, places, site):
+    """The tiles without that of a site and without its neighbours that came later and rest on it."""
+    number = {it: at for at, (it, _) in enumerate(places)}
+    tiles = dict(places)
+    bonds = system.bonds(tiles, site, tiles[site])
+    gone = [neighbour(site, side) for side in range(4) if bonds[side] and number[neighbour(site, side)] > number[site]]
+    return {it: name for it, name in tiles.items() if it != site and it not in gone}
+
+
+def meaning_of(system, places, words):
+    """What a line of an answer means, in words; `places` are those that it speaks of, in their order. None where it says all itself."""
+    tiles, tau = dict(places), f"the temperature is {system.tau}"
+    numbers = [int(it) if it.lstrip("-").isdigit() else None for it in words]
+    if words[:2] == ["closed", "terminal"]:
+        return "nothing attaches any more, inside the box or outside"
+    if words[:2] == ["closed", "clipped"] and len(words) == 5:
+        site = numbers[2], numbers[3]
+        bonds = bond_words(system, tiles, site, words[4])
+        return f"the box cuts the growth off: {words[4]} would attach at {site}, outside it ({bonds}, and {tau}). Widen the box to the {beyond(system, site)} or more, or add tiles that end the growth there"
+    if words[:2] == ["unique", "yes"]:
+        return "nothing else can grow"
+    if words[:2] == ["unique", "no"] and len(words) == 6:
+        return meaning_of_no(system, places, tiles, (numbers[3], numbers[4]), words, tau)
+    if words[:3] == ["legal", "no", "1"]:
+        return "the sequence does not begin with the seeds, in the order of their lines"
+    if words[:2] == ["legal", "no"] and len(words) > 3 and numbers[3] is not None and numbers[3] < len(places):
+        site, name = places[numbers[3]]
+        if words[2] == "2":
+            return f"{name} comes at {site}, where an earlier tile stands"
+        return f"{name} at {site} is held by {bond_words(system, dict(places[: numbers[3]]), site, name)}, and {tau}"
+    if words[:2] == ["stuck", "seed"]:
+        return f"the seed at {numbers[2], numbers[3]} is missing"
+    if words[:1] == ["stuck"] and len(words) == 4:
+        site = numbers[2], numbers[3]
+        return f"{words[1]} tiles can't be reached from the seeds; {standing(tiles, site)} at {site} is the first of them"
+    return None
+
+
+def meaning_of_no(system, places, tiles, site, words, tau):
+    """What a `unique no` line means."""
+    if words[2] == "1" and site in tiles:
+        before = dict(places[: next(at for at, (it, _) in enumerate(places) if it == site)])
+        bonds = bond_words(system, before, site, tiles[site])
+        return f"{tiles[site]} at {site} is held by {bonds}, and {tau}: it has more bonds than it needs, and may come in more than one way. That refutes nothing: tools/outcomes looks for another outcome"
+    if words[2] == "2" and site in tiles:
+        bonds = bond_words(system, resting(system, places, site), site, words[5])
+        return f"{words[5]} could come at {site} in place of {tiles[site]}, once that and the neighbours that rest on it are away: {bonds}, and {tau}"
+    if words[2] == "3":
+        outside = beyond(system, site)
+        more = f"; that is outside the box, to the {outside}, and all tiles that stand meet the other two conditions" if outside else ""
+        return f"{words[5]} still attaches at {site} ({bond_words(system, tiles, site, words[5])}, and {tau}){more}"
+    return None
