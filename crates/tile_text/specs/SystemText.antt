@@ -1,16 +1,23 @@
 -- The text of a system: what each kept line is, which checks it has to pass, and the items of a system.
-use Rattle.std.specs.Prelude.{◌≡◌, ℕ, ◌==◌, Bool, true, false, ◌&&◌, nat_lt, List, [], ◌∷◌, ◌++◌, length, map, filter_map, codes, bytes_eq, Option, Some, None, Result, Ok, pos, ◌+ℤ◌, int_le}
+use Rattle.std.specs.Prelude.{◌≡◌, ◌≢◌, ℕ, ◌==◌, Bool, true, false, not, ◌&&◌, ◌⊎◌, nat_lt, is_some, List, [], ◌∷◌, ◌++◌, length, map, filter_map, codes, bytes_eq, Option, Some, None, Result, Ok, Err, pos, ◌+ℤ◌, int_le}
 use Rattle.tile_io.specs.declared.fault.Cause.{Cause}
-use Rattle.tile_io.specs.declared.fault.Cause.TheVariants.{NoHeader, OutOfRange, SeedOutside}
+use Rattle.tile_io.specs.declared.fault.Cause.TheVariants.{DoubleName, DoubleSite, NoHeader, OutOfRange, SeedOutside}
+use Rattle.tile_io.specs.declared.fault.TextStop.{TextStop}
+use Rattle.tile_io.specs.declared.fault.TextStop.TheVariants as stops
 use Rattle.tile_io.specs.declared.mark.Mark.{Mark}
-use Rattle.tile_io.specs.Formats.{Format, Reads}
+use Rattle.tile_io.specs.Formats.{Format, Fault, Reads}
 use Rattle.tile_io.specs.Checks.{◌>>=◌, require, field, count_in, declared, referred, last_of, Keyword, Table, table_format}
-use Rattle.atam.specs.declared.limits.TheConstants.{MOST_GLUES, MOST_STRENGTH, MOST_TAU, MOST_TYPES}
+use Rattle.atam.specs.declared.limits.TheConstants.{MOST_GLUES, MOST_PAIRS, MOST_SEEDS, MOST_STRENGTH, MOST_TAU, MOST_TYPES}
 use Rattle.atam.specs.declared.site.Site.{Site}
 use Rattle.atam.specs.declared.place.GlueId.{GlueId}
+use Rattle.atam.specs.declared.place.GluePair.{GluePair}
 use Rattle.atam.specs.declared.place.Place.{Place}
 use Rattle.atam.specs.declared.area.BoxArea.{BoxArea}
 use Rattle.atam.specs.TileSystem.{TileSystem, Glue, TileType, is_name}
+use Rattle.tile_system.specs.Pairs.{paired_strength}
+use Rattle.tile_system.specs.Seeds.{is_seeded}
+use Rattle.tile_text.specs.declared.version.Version.{Version}
+use Rattle.tile_text.specs.declared.version.Version.TheVariants.{One, Two}
 use Rattle.tile_text.specs.Fields.{box_field, place_field}
 
 -- what a kept line of a system text is
@@ -18,18 +25,27 @@ pub data SystemItem : Type 0 where
   Header : SystemItem
   TauLine : (tau : ℕ) → SystemItem
   GlueLine : (glue : Glue) → SystemItem
+  PairLine : (pair : GluePair) → SystemItem
   TileLine : (type : TileType) → SystemItem
   BoxLine : (area : BoxArea) → SystemItem
   SeedLine : (seed : Place) → SystemItem
   EndLine : SystemItem
 
--- the kept lines of the text of a system without pairs, one by one
+-- the kept lines of the text of a system, one by one
 unfoldable pub system_items : TileSystem → List SystemItem
-system_items sys = (Header ∷ TauLine sys.tau ∷ []) ++ map GlueLine sys.glues ++ map TileLine sys.types ++ (BoxLine sys.area ∷ []) ++ map SeedLine sys.seeds ++ (EndLine ∷ [])
+system_items sys = (Header ∷ TauLine sys.tau ∷ []) ++ map GlueLine sys.glues ++ map PairLine sys.pairs ++ map TileLine sys.types ++ (BoxLine sys.area ∷ []) ++ map SeedLine sys.seeds ++ (EndLine ∷ [])
 
 abbrev pub glue_of : SystemItem → Option Glue
 glue_of (GlueLine g) = Some g
 glue_of _ = None
+
+abbrev pub pair_of : SystemItem → Option GluePair
+pair_of (PairLine p) = Some p
+pair_of _ = None
+
+abbrev pub seed_of : SystemItem → Option Place
+seed_of (SeedLine p) = Some p
+seed_of _ = None
 
 abbrev pub type_of : SystemItem → Option TileType
 type_of (TileLine t) = Some t
@@ -45,6 +61,13 @@ glue_names earlier = map (λ g. g.name) (filter_map glue_of earlier)
 
 unfoldable pub type_names : List SystemItem → List (List ℕ)
 type_names earlier = map (λ t. t.name) (filter_map type_of earlier)
+
+-- the pairs and the seeds before a line
+unfoldable pub pairs_before : List SystemItem → List GluePair
+pairs_before earlier = filter_map pair_of earlier
+
+unfoldable pub seeds_before : List SystemItem → List Place
+seeds_before earlier = filter_map seed_of earlier
 
 -- a side: the glue of this name, or none where the word is `-`
 abbrev pub side_unless : Bool → List SystemItem → List ℕ → Result (Option GlueId) Cause
@@ -72,9 +95,13 @@ is_inside None m = true
 is_inside (Some area) m = is_in_box area m
 
 -- The fields of each keyword, and then the checks of the whole line.
-unfoldable pub header_fields : List SystemItem → List (List ℕ) → Result SystemItem Cause
-header_fields earlier words = do
-  _ ← require (bytes_eq (field words 1) (codes "1")) NoHeader
+abbrev pub version_word : Version → List ℕ
+version_word One = codes "1"
+version_word Two = codes "2"
+
+unfoldable pub header_fields : Version → List SystemItem → List (List ℕ) → Result SystemItem Cause
+header_fields version earlier words = do
+  _ ← require (bytes_eq (field words 1) (version_word version)) NoHeader
   Ok Header
 
 unfoldable pub tau_fields : List SystemItem → List (List ℕ) → Result SystemItem Cause
@@ -87,6 +114,15 @@ glue_fields earlier words = do
   name ← declared is_name (glue_names earlier) (field words 1)
   n ← count_in 0 MOST_STRENGTH (field words 2)
   Ok (GlueLine (record { name = name; strength = n }))
+
+-- two glues that differ and aren't paired yet
+unfoldable pub pair_fields : List SystemItem → List (List ℕ) → Result SystemItem Cause
+pair_fields earlier words = do
+  g ← referred is_name (glue_names earlier) (field words 1)
+  h ← referred is_name (glue_names earlier) (field words 2)
+  n ← count_in 0 MOST_STRENGTH (field words 3)
+  _ ← require (not (g == h) && not (is_some (paired_strength (pairs_before earlier) (record { 0 = g }) (record { 0 = h })))) DoubleName
+  Ok (PairLine (record { first = record { 0 = g }; second = record { 0 = h }; strength = n }))
 
 unfoldable pub tile_fields : List SystemItem → List (List ℕ) → Result SystemItem Cause
 tile_fields earlier words = do
@@ -107,6 +143,7 @@ unfoldable pub seed_fields : List SystemItem → List (List ℕ) → Result Syst
 seed_fields earlier words = do
   seed ← place_field (type_names earlier) (field words 1) (field words 2) (field words 3)
   _ ← require (is_inside (box_before earlier) seed.site) SeedOutside
+  _ ← require (not (is_seeded (seeds_before earlier) seed.site)) DoubleSite
   Ok (SeedLine seed)
 
 -- what may stand before what
@@ -123,9 +160,16 @@ follows_tau_or_glue (Some (TauLine _)) = true
 follows_tau_or_glue (Some (GlueLine _)) = true
 follows_tau_or_glue _ = false
 
-abbrev pub follows_tau_glue_or_tile : Option SystemItem → Bool
-follows_tau_glue_or_tile (Some (TileLine _)) = true
-follows_tau_glue_or_tile before = follows_tau_or_glue before
+abbrev pub follows_glue_or_pair : Option SystemItem → Bool
+follows_glue_or_pair (Some (GlueLine _)) = true
+follows_glue_or_pair (Some (PairLine _)) = true
+follows_glue_or_pair _ = false
+
+-- under version 1 there is no pair to follow
+abbrev pub may_follow_tile : Option SystemItem → Bool
+may_follow_tile (Some (TileLine _)) = true
+may_follow_tile (Some (PairLine _)) = true
+may_follow_tile before = follows_tau_or_glue before
 
 abbrev pub follows_tile : Option SystemItem → Bool
 follows_tile (Some (TileLine _)) = true
@@ -139,6 +183,12 @@ abbrev pub follows_seed : Option SystemItem → Bool
 follows_seed (Some (SeedLine _)) = true
 follows_seed _ = false
 
+-- under version 1 there is one seed
+abbrev pub may_follow_seed : Version → Option SystemItem → Bool
+may_follow_seed One before = follows_box before
+may_follow_seed Two (Some (SeedLine _)) = true
+may_follow_seed Two before = follows_box before
+
 abbrev pub always_room : List SystemItem → List (List ℕ) → Bool
 always_room earlier words = true
 
@@ -148,12 +198,18 @@ glue_room earlier words = nat_lt (length (glue_names earlier)) MOST_GLUES
 abbrev pub tile_room : List SystemItem → List (List ℕ) → Bool
 tile_room earlier words = nat_lt (length (type_names earlier)) MOST_TYPES
 
+abbrev pub pair_room : List SystemItem → List (List ℕ) → Bool
+pair_room earlier words = nat_lt (length (pairs_before earlier)) MOST_PAIRS
+
+abbrev pub seed_room : List SystemItem → List (List ℕ) → Bool
+seed_room earlier words = nat_lt (length (seeds_before earlier)) MOST_SEEDS
+
 -- the rows of the table: word, number of words, what it may stand after, limit, fields
 abbrev pub keyword : List ℕ → ℕ → (Option SystemItem → Bool) → (List SystemItem → List (List ℕ) → Bool) → (List SystemItem → List (List ℕ) → Result SystemItem Cause) → Keyword SystemItem
 keyword word n follows room fields = record { word = word; has_words = λ m. m == n; may_follow = follows; has_room = room; fields = fields }
 
-abbrev pub tiles_row : Keyword SystemItem
-tiles_row = keyword (codes "tiles") 2 stands_first always_room header_fields
+abbrev pub tiles_row : Version → Keyword SystemItem
+tiles_row version = keyword (codes "tiles") 2 stands_first always_room (header_fields version)
 
 abbrev pub tau_row : Keyword SystemItem
 tau_row = keyword (codes "tau") 2 follows_header always_room tau_fields
@@ -161,14 +217,17 @@ tau_row = keyword (codes "tau") 2 follows_header always_room tau_fields
 abbrev pub glue_row : Keyword SystemItem
 glue_row = keyword (codes "glue") 3 follows_tau_or_glue glue_room glue_fields
 
+abbrev pub pair_row : Keyword SystemItem
+pair_row = keyword (codes "pair") 4 follows_glue_or_pair pair_room pair_fields
+
 abbrev pub tile_row : Keyword SystemItem
-tile_row = keyword (codes "tile") 6 follows_tau_glue_or_tile tile_room tile_fields
+tile_row = keyword (codes "tile") 6 may_follow_tile tile_room tile_fields
 
 abbrev pub box_row : Keyword SystemItem
 box_row = keyword (codes "box") 5 follows_tile always_room box_fields
 
-abbrev pub seed_row : Keyword SystemItem
-seed_row = keyword (codes "seed") 4 follows_box always_room seed_fields
+abbrev pub seed_row : Version → Keyword SystemItem
+seed_row version = keyword (codes "seed") 4 (may_follow_seed version) seed_room seed_fields
 
 abbrev pub end_row : Keyword SystemItem
 end_row = keyword (codes "end") 1 follows_seed always_room (λ earlier words. Ok EndLine)
@@ -177,20 +236,59 @@ abbrev pub is_end_line : SystemItem → Bool
 is_end_line EndLine = true
 is_end_line _ = false
 
--- the table of keywords; only the end line completes a text
-unfoldable pub system_table : Table SystemItem
-system_table = record {
-  keywords = tiles_row ∷ tau_row ∷ glue_row ∷ tile_row ∷ box_row ∷ seed_row ∷ end_row ∷ [];
+-- pairs are a matter of version 2
+abbrev pub pair_rows : Version → List (Keyword SystemItem)
+pair_rows One = []
+pair_rows Two = pair_row ∷ []
+
+-- the table of keywords of a version; only the end line completes a text
+unfoldable pub system_table : Version → Table SystemItem
+system_table version = record {
+  keywords = (tiles_row version ∷ tau_row ∷ glue_row ∷ []) ++ pair_rows version ++ (tile_row ∷ box_row ∷ seed_row version ∷ end_row ∷ []);
   has_header = true;
   is_end = is_end_line;
   is_complete = λ items. false;
 }
 
--- the format of system texts
-abbrev pub system_format : Format SystemItem
-system_format = table_format system_table
+-- the format of system texts of a version
+abbrev pub system_format : Version → Format SystemItem
+system_format version = table_format (system_table version)
 
--- The text from a mark on is a version-1 text of this system, up to the mark after its end line. Such a text has no pairs.
-pub record ReadsSystem (text : List ℕ) (from : Mark) (sys : TileSystem) (to : Mark) : Type 0 where
-  pub items : Reads system_format text from (system_items sys) to
-  pub no_pairs : sys.pairs ≡ []
+-- version 1 has the systems of one seed and without pairs, version 2 has all
+abbrev pub IsSystemOf : Version → TileSystem → Type 0
+IsSystemOf One sys = (length sys.seeds ≡ 1) × (sys.pairs ≡ [])
+IsSystemOf Two sys = Unit {0}
+
+-- the text from a mark on is a text of this version and of this system, up to the mark after its end line
+abbrev pub ReadsVersion : Version → List ℕ → Mark → TileSystem → Mark → Type 0
+ReadsVersion version text from sys to = Reads (system_format version) text from (system_items sys) to
+
+abbrev pub ReadsSystem : List ℕ → Mark → TileSystem → Mark → Type 0
+ReadsSystem text from sys to = ReadsVersion One text from sys to
+
+-- it has not the header of version 1
+abbrev pub HasOtherHeader : List ℕ → Mark → Type 0
+HasOtherHeader text from = (number : ℕ) × Fault (system_format One) text from number NoHeader
+
+-- The text is one of either version: of the first, or else, where it has another header, of the second.
+abbrev pub ReadsAny : List ℕ → Mark → TileSystem → Mark → Type 0
+ReadsAny text from sys to = ReadsVersion One text from sys to ⊎ (HasOtherHeader text from × ReadsVersion Two text from sys to)
+
+-- Its fault is that of version 1, and else, where it has another header, that of version 2.
+abbrev pub FaultAny : List ℕ → Mark → ℕ → Cause → Type 0
+FaultAny text from number cause =
+    (Fault (system_format One) text from number cause × (cause ≢ NoHeader)) ⊎ (HasOtherHeader text from × Fault (system_format Two) text from number cause)
+
+-- the text is one of either version, of some system
+abbrev pub IsReadAny : List ℕ → Mark → Type 0
+IsReadAny text from = (sys : TileSystem) × (to : Mark) × ReadsAny text from sys to
+
+-- the text has some fault under both versions
+abbrev pub IsFaultyAny : List ℕ → Mark → Type 0
+IsFaultyAny text from = (number : ℕ) × (cause : Cause) × FaultAny text from number cause
+
+-- the text reads by either version as what is answered; or it has the fault that is answered; or there was no memory
+abbrev pub ReadsAnyOrStops : {Answer : Type 0} → List ℕ → Mark → (Answer → Type 0) → Result Answer TextStop → Type 0
+ReadsAnyOrStops text from IsReadAs (Ok answer) = IsReadAs answer
+ReadsAnyOrStops text from IsReadAs (Err (stops.Fault fault)) = FaultAny text from fault.line fault.cause
+ReadsAnyOrStops text from IsReadAs (Err stops.NoMemory) = Unit {0}

@@ -1,40 +1,83 @@
 // A system is printed as its text.
 ghost use Rattle.std.specs.Prelude.{◌<◌, ◌≡◌, ◌++◌, ℕ, List, drop, length, flat_map};
 ghost use Rattle.std.specs.List.{slice_index_or};
-ghost use Rattle.atam.specs.TileSystem.{Glue, TileType, IsType, IsValid, side_glue};
+ghost use Rattle.atam.specs.TileSystem.{Glue, TileType, IsPair, IsType, IsValid, side_glue};
 ghost use Rattle.tile_io.specs.declared.mark.Mark.{Mark};
 ghost use Rattle.tile_io.specs.Chunks.{PassesOn};
 ghost use Rattle.tile_io.specs.Lines.{line_of};
 ghost use Rattle.tile_io.specs.Prints.{Prints};
-ghost use Rattle.tile_text.specs.Spelling.{spelling, end_of_print, head_words, glue_words, side_word, tile_words, box_words, seed_words};
-ghost use Rattle.tile_text.specs.SystemText.{ReadsSystem};
+ghost use Rattle.tile_text.specs.Spelling.{spelling, spelling_by, newest_spelling, version_of, end_of_print, head_words, glue_words, pair_words, side_word, tile_words, box_words, seed_words};
+ghost use Rattle.tile_text.specs.declared.version.Version.TheVariants.{Two};
+ghost use Rattle.tile_text.specs.SystemText.{ReadsAny, ReadsVersion};
 
-use atam::{BoxArea, GlueId, Place, Side, TypeId};
+use crate::version::Version;
+use atam::{BoxArea, GlueId, GluePair, Place, Side, TypeId};
 use itoa::Buffer;
 use tile_io::{Chunk, Failed, Sink};
 use tile_system::System;
 
-/// Prints the one text of a system. It takes no memory.
+/// Prints the one text of a system, in the oldest version that has it. It takes no memory.
 pub fn print_system<K: Sink>(sys: &System, sink: &mut K) -> Result<(), Failed>
     ensures printed { Prints K.written K.faults sink.old sink.new result (spelling sys.now) }
 
     // What is printed reads as this system again, up to its end, whatever follows.
     ensures reads_back { (text rest : List ℕ) (from : Mark) →
         drop from.at text ≡ spelling sys.now ++ rest
-        → ReadsSystem text from sys.now (end_of_print sys.now from) }
+        → ReadsAny text from sys.now (end_of_print (version_of sys.now) sys.now from) }
+{
+    print_version(sys, version_of(sys), sink)
+}
+
+/// Prints the text of a system in the newest version. It takes no memory.
+pub fn print_newest<K: Sink>(sys: &System, sink: &mut K) -> Result<(), Failed>
+    ensures printed { Prints K.written K.faults sink.old sink.new result
+        (newest_spelling sys.now) }
+
+    // What is printed reads as this system again, up to its end, whatever follows.
+    ensures reads_back { (text rest : List ℕ) (from : Mark) →
+        drop from.at text ≡ newest_spelling sys.now ++ rest
+        → ReadsAny text from sys.now (end_of_print Two sys.now from) }
+    ensures reads_newest { (text rest : List ℕ) (from : Mark) →
+        drop from.at text ≡ newest_spelling sys.now ++ rest
+        → ReadsVersion Two text from sys.now (end_of_print Two sys.now from) }
+{
+    print_version(sys, Version::Two, sink)
+}
+
+// The oldest version that has a system.
+fn version_of(sys: &System) -> Version
+    ensures { result ≡ version_of sys.now }
+{
+    if sys.seed_count() == 1 && sys.pair_count() == 0 {
+        Version::One
+    } else {
+        Version::Two
+    }
+}
+
+fn print_version<K: Sink>(sys: &System, version: Version, sink: &mut K) -> Result<(), Failed>
+    ensures valid { IsValid sys.now }
+    ensures printed { Prints K.written K.faults sink.old sink.new result
+        (spelling_by version sys.now) }
 {
     let mut chunk = Chunk::new();
-    put_system(&mut chunk, sink, sys)?;
+    put_system(&mut chunk, sink, sys, version)?;
     chunk.flush(sink)
 }
 
-fn put_system<K: Sink>(chunk: &mut Chunk, sink: &mut K, sys: &System) -> Result<(), Failed>
+fn put_system<K: Sink>(
+    chunk: &mut Chunk,
+    sink: &mut K,
+    sys: &System,
+    version: Version,
+) -> Result<(), Failed>
     ensures valid { IsValid sys.now }
     ensures passed { PassesOn K.written K.faults sink.old sink.new chunk.old chunk.new result
-        (spelling sys.now) }
+        (spelling_by version sys.now) }
 {
-    put_head(chunk, sink, sys.tau())?;
+    put_head(chunk, sink, version, sys.tau())?;
     put_glues(chunk, sink, sys)?;
+    put_pairs(chunk, sink, sys)?;
     put_types(chunk, sink, sys)?;
     put_box(chunk, sink, sys.area())?;
     put_seeds(chunk, sink, sys)?;
@@ -42,12 +85,17 @@ fn put_system<K: Sink>(chunk: &mut Chunk, sink: &mut K, sys: &System) -> Result<
 }
 
 // The header and the `tau` line.
-fn put_head<K: Sink>(chunk: &mut Chunk, sink: &mut K, tau: u32) -> Result<(), Failed>
+fn put_head<K: Sink>(
+    chunk: &mut Chunk,
+    sink: &mut K,
+    version: Version,
+    tau: u32,
+) -> Result<(), Failed>
     ensures { PassesOn K.written K.faults sink.old sink.new chunk.old chunk.new result
-        (flat_map line_of (head_words tau)) }
+        (flat_map line_of (head_words version tau)) }
 {
     let mut buffer = Buffer::new();
-    chunk.put_line(sink, b"tiles", &[b"1"])?;
+    chunk.put_line(sink, b"tiles", &[version.word()])?;
     chunk.put_line(sink, b"tau", &[buffer.format(tau).as_bytes()])
 }
 
@@ -74,6 +122,33 @@ fn put_glue<K: Sink>(
     let mut buffer = Buffer::new();
     let strength = buffer.format(sys.strength(glue));
     chunk.put_line(sink, b"glue", &[sys.glue_name(glue), strength.as_bytes()])
+}
+
+fn put_pairs<K: Sink>(chunk: &mut Chunk, sink: &mut K, sys: &System) -> Result<(), Failed>
+    ensures { PassesOn K.written K.faults sink.old sink.new chunk.old chunk.new result
+        (flat_map (λ pair. line_of (pair_words sys.now pair)) sys.now.pairs) }
+{
+    for pair in sys.pairs() {
+        put_pair(chunk, sink, sys, *pair)?;
+    }
+    Ok(())
+}
+
+fn put_pair<K: Sink>(
+    chunk: &mut Chunk,
+    sink: &mut K,
+    sys: &System,
+    pair: GluePair,
+) -> Result<(), Failed>
+    requires { IsPair sys.now.glues pair }
+    ensures { PassesOn K.written K.faults sink.old sink.new chunk.old chunk.new result
+        (line_of (pair_words sys.now pair)) }
+{
+    let mut buffer = Buffer::new();
+    let strength = buffer.format(pair.strength);
+    let first = sys.glue_name(pair.first);
+    let second = sys.glue_name(pair.second);
+    chunk.put_line(sink, b"pair", &[first, second, strength.as_bytes()])
 }
 
 fn put_types<K: Sink>(chunk: &mut Chunk, sink: &mut K, sys: &System) -> Result<(), Failed>
