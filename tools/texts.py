@@ -106,7 +106,9 @@ class System:
 def lines_of(text, first=1):
     """The words of each line that is neither empty nor a remark, with its number."""
     for number, line in enumerate(text.split("\n"), first):
-        words = [it for it in line.split(" ") if it]
+        words = line.split(" ")
+        if "" in words:
+            words = [it for it in words if it]
         if words and not words[0].startswith("#"):
             yield number, words
 
@@ -172,11 +174,15 @@ class Growth:
 def growth_of(system, rows):
     """The growth that rows of words say, behind their system."""
     growth = Growth()
+    types, add = system.types, growth.places.append
     for number, words in rows:
         if words[0] == "place" and len(words) == 4:
-            if words[3] not in system.types:
+            if words[3] not in types:
                 raise Unreadable(number, f"no type {words[3]}")
-            growth.places.append(((integer(number, words[1]), integer(number, words[2])), words[3]))
+            try:
+                add(((int(words[1]), int(words[2])), words[3]))
+            except ValueError:
+                raise Unreadable(number, f"{words[1]} {words[2]} is no site") from None
         elif words[0] in ("closed", "unique") and len(words) > 1:
             setattr(growth, words[0], words[1:])
         else:
