@@ -29,7 +29,8 @@ use Rattle.local_check.specs.declared.verdict.Verdict.TheVariants.{Yes, NotExact
 use Rattle.seq_text.specs.GrowthLines.{place_lines, closed_line}
 use Rattle.seq_text.specs.VerdictLines.{verdict_line}
 use Rattle.seq_text.specs.PrintedGrowths.{growth_lines, line_or_none, MayBeOpen, MayBeTold, MayBePrinted}
-use Rattle.tile_text.specs.Spelling.{spelling}
+use Rattle.tile_text.specs.declared.version.Version.{Version}
+use Rattle.tile_text.specs.Spelling.{spelling, spelling_by, version_of}
 use Rattle.seq_text.specs.GrowthText.{GrowthItem, follows_place_or_closed, growth_table, growth_format, place_fields, place_in, places_of, may_stand, ReadsPlaces}
 use Rattle.seq_text.specs.GrowthText.GrowthItem.{PlaceLine, ClosedLine, UniqueLine}
 use Rattle.seq_text.proofs.Growths.{follows_places, unique_follows, unique_follows_closed, places_back, places-same}
@@ -265,5 +266,8 @@ module _ (sys : TileSystem) (valid : IsValid sys) where
       }
 
 -- behind its system's text
+pub behind_text : (version : Version) (sys : TileSystem) (tail : List ℕ) → drop (0 + length (spelling_by version sys)) (spelling_by version sys ++ tail) ≡ tail
+behind_text version sys tail = drop_at (spelling_by version sys) tail (0 + length (spelling_by version sys)) (omega arith)
+
 pub behind_system : (sys : TileSystem) (tail : List ℕ) → drop (0 + length (spelling sys)) (spelling sys ++ tail) ≡ tail
-behind_system sys tail = drop_at (spelling sys) tail (0 + length (spelling sys)) (omega arith)
+behind_system sys tail = behind_text (version_of sys) sys tail

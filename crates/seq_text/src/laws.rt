@@ -10,8 +10,10 @@ ghost use Rattle.atam.specs.Assembly.{Fits};
 ghost use Rattle.atam.specs.Placements.{HasDistinctSites};
 ghost use Rattle.atam.specs.TileSystem.{TileSystem, IsValid};
 ghost use Rattle.local_check.specs.declared.verdict.Verdict.{Verdict};
-ghost use Rattle.tile_text.specs.SystemText.{ReadsSystem};
-ghost use Rattle.tile_text.specs.Spelling.{spelling, end_of_print};
+ghost use Rattle.tile_text.specs.declared.version.Version.{Version};
+ghost use Rattle.tile_text.specs.declared.version.Version.TheVariants.{Two};
+ghost use Rattle.tile_text.specs.SystemText.{ReadsAny};
+ghost use Rattle.tile_text.specs.Spelling.{spelling, spelling_by, newest_spelling, version_of, end_of_print};
 ghost use Rattle.seq_text.specs.PrintedGrowths.{growth_lines, start_mark, MayBePrinted};
 ghost use Rattle.grow_core.specs.declared.event.Event.{Event};
 ghost use Rattle.seq_text.specs.GrowthText.{growth_format, ReadsPlaces, ReadsSequence, ReadsPlacements};
@@ -63,21 +65,24 @@ pub fn law_growth_reads_printed()
         ReadsPlacements sys text from places }
 {}
 
-/// A growth that is printed behind its system's one text reads, from the start of the input, as this system and then as
-/// its places.
+/// A growth that is printed behind its system's one text, or behind that of the newest version,
+/// reads, from the start of the input, as this system and then as its places.
 pub fn law_input_reads_printed()
     ensures system { (sys : TileSystem) (tail : List ℕ) → IsValid sys →
-        ReadsSystem (spelling sys ++ tail) start_mark sys (end_of_print sys start_mark) }
-    ensures sequence { (sys : TileSystem) (places : List Place)
+        ReadsAny (spelling sys ++ tail) start_mark sys
+        (end_of_print (version_of sys) sys start_mark) }
+    ensures newest { (sys : TileSystem) (tail : List ℕ) → IsValid sys →
+        ReadsAny (newest_spelling sys ++ tail) start_mark sys (end_of_print Two sys start_mark) }
+    ensures sequence { (version : Version) (sys : TileSystem) (places : List Place)
         (closed : Option (Option (Site × TypeId))) (verdict : Option Verdict) → IsValid sys →
         MayBePrinted sys places closed verdict →
-        ReadsSequence sys (spelling sys ++ growth_lines sys places closed verdict)
-        (end_of_print sys start_mark) places }
-    ensures grid { (sys : TileSystem) (places : List Place)
+        ReadsSequence sys (spelling_by version sys ++ growth_lines sys places closed verdict)
+        (end_of_print version sys start_mark) places }
+    ensures grid { (version : Version) (sys : TileSystem) (places : List Place)
         (closed : Option (Option (Site × TypeId))) (verdict : Option Verdict) → IsValid sys →
         MayBePrinted sys places closed verdict → HasDistinctSites places →
-        ReadsPlacements sys (spelling sys ++ growth_lines sys places closed verdict)
-        (end_of_print sys start_mark) places }
+        ReadsPlacements sys (spelling_by version sys ++ growth_lines sys places closed verdict)
+        (end_of_print version sys start_mark) places }
 {}
 
 /// Each text, from each start, either reads as one list of events or has one fault.
