@@ -1,5 +1,5 @@
 use Rattle.atam.proofs.OneSeed.{interaction-equal, bond-equal, pull-equal, to_legal, from_legal, to_deterministic, from_deterministic}
-use Rattle.atam.proofs.laws.law_one_seed.Goals as goal
+use Rattle.atam.proofs.laws.law_sole_seed.Goals as goal
 
 pub returns : goal.returns
 returns c = record {
