@@ -33,7 +33,7 @@ use Rattle.seq_text.specs.Inner.Kinds.{kind_of, may_stand_after}
 use Rattle.seq_text.specs.Inner.SoFar.{HoldsLines}
 use Rattle.seq_text.proofs.Fields.{place_of_found}
 use Rattle.seq_text.proofs.Growths.{row_named}
-use Rattle.tile_text.proofs.SystemSpelled.{keyword_word, name_word}
+use Rattle.tile_text.proofs.PlainWords.{keyword_word, name_word}
 use Rattle.seq_text.specs.Inner.Plain.{StartsWithDigits, StartsWithCoordinate, IsPlainPlace, IsPlaceLine}
 
 -- what a digit is
