@@ -10,7 +10,6 @@ use Rattle.assembly.specs.Grids.{TileGrid}
 use Rattle.design.specs.TileSets.{cell_site, system_of}
 use Rattle.design.specs.Laws.{HasDeterministicGrowth}
 use Rattle.counter_compile.specs.declared.kind.Kind.TheVariants.{First}
-use Rattle.counter_compile.specs.declared.compile.TheConstants.{LEAST_BITS, MOST_BITS, MOST_ROWS}
 use Rattle.counter_compile.specs.declared.stop.CounterStop.{CounterStop}
 use Rattle.counter_compile.specs.declared.stop.CounterStop.TheVariants.{BitsOutOfRange, StartTooLarge, TooTall, NoMemory}
 use Rattle.counter_compile.specs.Tiles.{digit, shown_bit, kinds_of, tiles_of}
@@ -25,12 +24,12 @@ counter_box bits start = record { x0 = pos 0; y0 = pos 0; x1 = pos (bits - 1); y
 abbrev pub counter_system : ℕ → ℕ → TileSystem
 counter_system bits start = system_of (tiles_of (bits - 1) start) (First 0) (counter_box bits start)
 
--- why a counter is refused
+-- why a counter is refused: it has 2 to 32 bits, starts at a number of so many bits, and has at most 1024 rows
 unfoldable pub counter_refusal : ℕ → ℕ → Option CounterStop
 counter_refusal bits start =
-    if not (nat_le LEAST_BITS bits && nat_le bits MOST_BITS) then Some BitsOutOfRange
+    if not (nat_le 2 bits && nat_le bits 32) then Some BitsOutOfRange
     else if nat_le (2 ^ bits) start then Some StartTooLarge
-    else if nat_lt MOST_ROWS (row_count bits start) then Some TooTall
+    else if nat_lt 1024 (row_count bits start) then Some TooTall
     else None
 
 -- the refusal that an answer names; want of memory is none

@@ -1,16 +1,11 @@
 // Why a counter is refused.
-use thiserror::Error;
 
 /// Why a counter is refused.
-#[derive(Debug, Clone, Copy, PartialEq, Eq, Error)]
+#[derive(Debug, Clone, Copy, PartialEq, Eq)]
 pub enum CounterStop {
-    #[error("bits out of range")]
     BitsOutOfRange,
-    #[error("start too large")]
     StartTooLarge,
-    #[error("too tall")]
     TooTall,
-    #[error("no memory")]
     NoMemory,
 }
 

@@ -15,7 +15,7 @@ mod short_name;
 mod take;
 
 pub use config::{Config, Head};
-pub use laws::law_machine_text;
+pub use laws::{law_limits, law_machine_text};
 pub use limits::{LONGEST_SHORT_NAME, MOST_CELLS, MOST_ROWS, MOST_STATES, MOST_SYMBOLS};
 pub use machine::{Machine, run_machine};
 pub use reader::read_machine;

@@ -11,11 +11,14 @@ use Rattle.atam.specs.Placements.{tile_at}
 use Rattle.atam.specs.TileSystem.{TileSystem, type_name}
 use Rattle.assembly.specs.Grids.{TileGrid}
 use Rattle.tile_io.specs.Lines.{line_of}
-use Rattle.picture.specs.declared.characters.TheConstants.{CHARACTERS}
 
--- a letter or a digit for each type of index 0 to 61, `#` for all others
+-- the characters of types
+unfoldable pub characters : List ℕ
+characters = codes "ABCDEFGHIJKLMNOPQRSTUVWXYZabcdefghijklmnopqrstuvwxyz0123456789"
+
+-- that of its index for each type of index 0 to 61, `#` for all others
 abbrev pub type_character : TypeId → ℕ
-type_character t = get_or CHARACTERS t.0 35
+type_character t = get_or characters t.0 35
 
 -- that of the tile's type, `.` where the site is empty
 abbrev pub site_character : List Place → Site → ℕ
