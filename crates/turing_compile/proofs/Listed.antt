@@ -309,7 +309,7 @@ module _ (M : TuringMachine) (is_machine : IsMachine M) where
   pub rule_count : length (ruled_pairs M) ≤ length (pairs M)
   rule_count = length-filter_at_most (has_rule M) (pairs M)
 
-  pub label_count : length (labels M) ≤ 8192
+  pub label_count : length (labels M) ≤ 4801
   label_count =
       let a = length-append symbols_part (heads_part ++ (Rightward ∷ Leftward ∷ last_parts)) in
       let b = length-append heads_part (Rightward ∷ Leftward ∷ last_parts) in
@@ -327,7 +327,7 @@ module _ (M : TuringMachine) (is_machine : IsMachine M) where
       let cells = is_machine.cell_count in
       omega (arith, a, b, d, e, f, g, h, i, j, p, r, states, symbols, cells)
 
-  pub kind_count : length (kinds M) ≤ 16384
+  pub kind_count : length (kinds M) ≤ 12928
   kind_count =
       let a = length-append firsts (actions ++ (from_lefts ++ (from_rights ++ (right_ofs ++ left_ofs)))) in
       let b = length-append actions (from_lefts ++ (from_rights ++ (right_ofs ++ left_ofs))) in

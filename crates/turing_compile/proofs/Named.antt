@@ -150,12 +150,12 @@ module _ (M : TuringMachine) (is_machine : IsMachine M) where
 
   pub within_limits : IsWithinLimits (tiles_of M)
   within_limits = record {
-    label_count = label_count M is_machine;
+    label_count = omega (arith, label_count M is_machine);
     label_names = λ g listed. label_named g (listed_label M is_machine g listed);
     distinct_labels = λ g h in_g in_h same.
         one_label g h (listed_label M is_machine g in_g) (listed_label M is_machine h in_h) (sym (label_coded g) ∙ ap head_of same ∙ label_coded h) same;
     strengths = λ g listed. weak_label g;
-    kind_count = kind_count M is_machine;
+    kind_count = omega (arith, kind_count M is_machine);
     kind_names = λ k listed. kind_named k (listed_kind M is_machine k listed);
     distinct_kinds = λ j k in_j in_k same.
         one_kind j k (listed_kind M is_machine j in_j) (listed_kind M is_machine k in_k) (sym (kind_coded j) ∙ ap head_of same ∙ kind_coded k) same;

@@ -1,5 +1,5 @@
 -- Laws of the tiles of a machine, for every machine.
-use Rattle.std.specs.Prelude.{◌≡◌, ℕ, ◌<◌, List, Option, Some, None, slice_get}
+use Rattle.std.specs.Prelude.{◌≡◌, ℕ, ◌<◌, ◌≤◌, List, length, Option, Some, None, slice_get}
 use Rattle.atam.specs.declared.place.Place.{Place}
 use Rattle.atam.specs.Placements.{HasDistinctSites, tile_at}
 use Rattle.atam.specs.TileSystem.{IsValid}
@@ -51,3 +51,7 @@ StoppedRunsAreDeterministic = (M : TuringMachine) → IsMachine M → after M M.
 -- the system of every machine is within all limits, and no two of its names are alike
 abbrev pub CompiledSystemsAreValid : Type 0
 CompiledSystemsAreValid = (M : TuringMachine) → IsMachine M → IsValid (compiled M)
+
+-- and has at most 4801 glues and 12928 types
+abbrev pub CompiledSystemsAreSmall : Type 0
+CompiledSystemsAreSmall = (M : TuringMachine) → IsMachine M → (length (compiled M).glues ≤ 4801) × (length (compiled M).types ≤ 12928)

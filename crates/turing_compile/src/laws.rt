@@ -1,5 +1,5 @@
 // Laws of the tiles of a machine, each as the contract of a function that does nothing.
-ghost use Rattle.turing_compile.specs.Laws.{PlacesShowTheRun, FullGrowthsShowTheRun, FullGrowthsReadBack, StoppedRunsAreDeterministic, CompiledSystemsAreValid};
+ghost use Rattle.turing_compile.specs.Laws.{PlacesShowTheRun, FullGrowthsShowTheRun, FullGrowthsReadBack, StoppedRunsAreDeterministic, CompiledSystemsAreValid, CompiledSystemsAreSmall};
 
 /// Whatever is placed, in whatever order, shows a cell of the machine's run; what nothing extends in the box shows the
 /// run row by row; and where the machine stops within the rows, nothing else grows.
@@ -10,7 +10,8 @@ pub fn law_run()
     ensures deterministic { StoppedRunsAreDeterministic }
 {}
 
-/// The system of every machine is within all limits.
+/// The system of every machine is within all limits, and below those of glues and of types.
 pub fn law_valid()
-    ensures { CompiledSystemsAreValid }
+    ensures limits { CompiledSystemsAreValid }
+    ensures small { CompiledSystemsAreSmall }
 {}
