@@ -5,3 +5,4 @@ pub mod PlaceFindings
 pub mod StoodSites
 pub mod Ranges
 pub mod Surveys
+pub mod Portions

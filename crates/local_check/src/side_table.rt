@@ -1,47 +1,53 @@
 // The input and output sides of the places of a sequence.
 ghost use Rattle.std.specs.Prelude.{◌≡◌, ◌<◌, ◌≤◌, List, length, IfOk};
+ghost use Rattle.std.specs.Cow.{cow_value};
 ghost use Rattle.atam.specs.declared.place.Place.{Place};
 ghost use Rattle.atam.specs.declared.site.Side.{Side};
 ghost use Rattle.atam.specs.Placements.{SamePlacements};
 ghost use Rattle.atam.specs.Assembly.{Fits};
 ghost use Rattle.atam.specs.Growth.{IsLegal};
+ghost use Rattle.type_index.specs.Indexes.{IsIndexOf};
 ghost use Rattle.local_check.specs.Inner.Surveys.{CanSurvey, IsSurvey};
 ghost use Rattle.local_check.specs.SideSets.{has, input_at, output_at, AreSidesOf};
 
+use crate::grid_of::grid_of;
 use crate::place_sides::PlaceSides;
 use crate::side_set::SideSet;
 use crate::survey::{Survey, survey_all, survey_range};
 use assembly::{Grid, Sequence};
 use std::alloc::Global;
+use std::borrow::Cow;
 use std::marker::Model;
 use std::thread::Threads;
 use tile_system::{Beside, NoMemory, Placed, Side, Site, System, TypeId};
 use type_index::TypeIndex;
 
 /// The input and output sides of each place of a sequence, the grid of its places, an index of the
-/// system's types, and where the sequence first breaks a condition on its places.
+/// system's types, and where the sequence first breaks a condition on its places. The grid and the
+/// index are its own or lent.
 #[derive(Drop)]
 pub struct SideSets<'a> {
-    grid: &'a Grid,
+    grid: Cow<'a, Grid>,
     seed_count: usize,
     sides: Vec<PlaceSides>,
-    index: TypeIndex,
+    index: Cow<'a, TypeIndex>,
     inexact: Option<(Site, u32)>,
     rival: Option<(Site, TypeId)>,
 }
 
 impl<'a> Model for SideSets<'a> {
+    ghost use Rattle.std.specs.Cow.{cow_value};
     ghost use Rattle.local_check.specs.SideSets.{SideTable};
     ghost use Rattle.local_check.specs.Inner.PlaceSides.{earlier_sets, output_sets};
 
     ghost Value = { SideTable };
 
     ghost view = { λ s. record {
-      tiles = s.grid.now.tiles;
+      tiles = (cow_value s.grid).tiles;
       seeds = s.seed_count;
       earlier = earlier_sets s.sides.items;
       outputs = output_sets s.sides.items;
-      index = s.index;
+      index = cow_value s.index;
       inexact = s.inexact;
       rival = s.rival;
     } };
@@ -111,10 +117,21 @@ impl<'a> Placed for SideSets<'a> {
 }
 
 /// The sides of the places of a legal sequence, with the first place that isn't held exactly and
-/// the first rival, by the grid of all its places. It takes memory for an index of the types, and a
-/// byte for each place and for each site of the box. Its time grows with the number of places and
-/// with the number of sites of the box.
-pub fn inputs<'a>(
+/// the first rival. It takes memory for a grid of the places, an index of the types, and a byte for
+/// each place and for each site of the box. Its time grows with the number of places and with the
+/// number of sites of the box.
+pub fn inputs<'a>(alloc: Global, sys: &System, seq: &Sequence) -> Result<SideSets<'a>, NoMemory>
+    requires legal { IsLegal sys.now seq.now }
+    requires fits { Fits sys.now seq.now }
+    ensures { IfOk result (AreSidesOf sys.now seq.now) }
+{
+    let _valid = sys.tau();
+    let grid = grid_of(alloc, sys, seq)?;
+    sides_in(alloc, sys, seq, Cow::Owned(grid))
+}
+
+/// The same where a grid has the places already.
+pub fn inputs_of_grid<'a>(
     alloc: Global,
     sys: &System,
     seq: &Sequence,
@@ -126,10 +143,26 @@ pub fn inputs<'a>(
     requires placements { SamePlacements seq.now grid.now.tiles }
     ensures { IfOk result (AreSidesOf sys.now seq.now) }
 {
+    sides_in(alloc, sys, seq, Cow::Borrowed(grid))
+}
+
+// The sides of the places of a sequence, by the grid of all of them.
+fn sides_in<'a>(
+    alloc: Global,
+    sys: &System,
+    seq: &Sequence,
+    grid: Cow<'a, Grid>,
+) -> Result<SideSets<'a>, NoMemory>
+    requires legal { IsLegal sys.now seq.now }
+    requires fits { Fits sys.now seq.now }
+    requires area { (cow_value grid).area ≡ sys.now.area }
+    requires placements { SamePlacements seq.now (cow_value grid).tiles }
+    ensures { IfOk result (AreSidesOf sys.now seq.now) }
+{
     let _valid = sys.tau();
     let index = TypeIndex::build(alloc, sys)?;
-    let survey = survey_range(alloc, sys, seq, grid, &index, 0, seq.len())?;
-    Ok(table(sys, grid, index, survey))
+    let survey = survey_range(alloc, sys, seq, &grid, &index, 0, seq.len())?;
+    Ok(table(sys, grid, Cow::Owned(index), survey))
 }
 
 /// The same by so many workers, each of which looks at a range of the places, in a thread of its own
@@ -151,15 +184,63 @@ pub fn inputs_by<'a, R: Threads + Sync>(
     requires placements { SamePlacements seq.now grid.now.tiles }
     ensures { IfOk result (AreSidesOf sys.now seq.now) }
 {
-    let _valid = sys.tau();
     let index = TypeIndex::build(alloc, sys)?;
+    sides_by(rt, alloc, sys, seq, grid, Cow::Owned(index), workers)
+}
+
+/// The same where there is an index of the types already.
+pub fn inputs_by_index<'a, R: Threads + Sync>(
+    rt: &R,
+    alloc: Global,
+    sys: &System,
+    seq: &Sequence,
+    grid: &'a Grid,
+    types: &'a TypeIndex,
+    workers: u32,
+) -> Result<SideSets<'a>, NoMemory>
+    requires some { 1 ≤ workers }
+    requires few { workers ≤ 16 }
+    requires legal { IsLegal sys.now seq.now }
+    requires fits { Fits sys.now seq.now }
+    requires area { grid.now.area ≡ sys.now.area }
+    requires placements { SamePlacements seq.now grid.now.tiles }
+    requires index { IsIndexOf sys.now types.now }
+    ensures { IfOk result (AreSidesOf sys.now seq.now) }
+{
+    sides_by(rt, alloc, sys, seq, grid, Cow::Borrowed(types), workers)
+}
+
+// The sides of the places of a sequence, by so many workers, with one index of the types.
+fn sides_by<'a, R: Threads + Sync>(
+    rt: &R,
+    alloc: Global,
+    sys: &System,
+    seq: &Sequence,
+    grid: &'a Grid,
+    index: Cow<'a, TypeIndex>,
+    workers: u32,
+) -> Result<SideSets<'a>, NoMemory>
+    requires some { 1 ≤ workers }
+    requires legal { IsLegal sys.now seq.now }
+    requires fits { Fits sys.now seq.now }
+    requires area { grid.now.area ≡ sys.now.area }
+    requires placements { SamePlacements seq.now grid.now.tiles }
+    requires index { IsIndexOf sys.now (cow_value index) }
+    ensures { IfOk result (AreSidesOf sys.now seq.now) }
+{
+    let _valid = sys.tau();
     let survey = survey_all(rt, alloc, sys, seq, grid, &index, workers)?;
-    Ok(table(sys, grid, index, survey))
+    Ok(table(sys, Cow::Borrowed(grid), index, survey))
 }
 
 // What was found of all places, with the grid and the index that it was found by.
-fn table<'a>(sys: &System, grid: &'a Grid, index: TypeIndex, survey: Survey) -> SideSets<'a>
-    ensures { (s : List Place) → CanSurvey sys.now s grid.now index →
+fn table<'a>(
+    sys: &System,
+    grid: Cow<'a, Grid>,
+    index: Cow<'a, TypeIndex>,
+    survey: Survey,
+) -> SideSets<'a>
+    ensures { (s : List Place) → CanSurvey sys.now s (cow_value grid.entry) (cow_value index.entry) →
         IsSurvey sys.now s 0 (length s) survey → AreSidesOf sys.now s result }
 {
     let Survey { sides, breaches } = survey;

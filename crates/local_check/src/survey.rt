@@ -1,17 +1,19 @@
 // One look at each place of a sequence: its sides, whether it is held exactly, and its rivals.
-ghost use Rattle.std.specs.Prelude.{◌≡◌, ◌≤◌, ◌+◌, ◌-◌, ℕ, List, length, IfOk};
-ghost use Rattle.std.specs.Thread.{IsSync};
+ghost use Rattle.std.specs.Prelude.{◌≡◌, ◌≤◌, ◌<◌, ℕ, List, length, IfOk, OnOk};
 ghost use Rattle.atam.specs.declared.place.Place.{Place};
 ghost use Rattle.atam.specs.TileSystem.{TileSystem};
+ghost use Rattle.fan_out.specs.Portions.{InARow};
 ghost use Rattle.local_check.specs.Inner.Surveys.{CanSurvey, IsSurvey};
+ghost use Rattle.local_check.specs.Inner.Portions.{SurveysPortion};
 
 use crate::breaches::Breaches;
 use crate::findings::Findings;
 use crate::place_sides::PlaceSides;
 use crate::stood_sites::StoodSites;
 use assembly::{Grid, Sequence, site_index};
+use fan_out::{Portion, share_numbers};
 use std::alloc::Global;
-use std::thread::{self, Threads};
+use std::thread::Threads;
 use tile_system::{NoMemory, System};
 use type_index::TypeIndex;
 
@@ -22,8 +24,7 @@ pub(crate) struct Survey {
     pub(crate) breaches: Breaches,
 }
 
-// All places, by so many workers. A thread that has nothing to do is started first: the first one may
-// be put on the processor of the one that starts it, and the two would share it for a while.
+// All places, by so many workers, each with a portion of them.
 pub(crate) fn survey_all<R: Threads + Sync>(
     rt: &R,
     alloc: Global,
@@ -35,92 +36,50 @@ pub(crate) fn survey_all<R: Threads + Sync>(
 ) -> Result<Survey, NoMemory>
     requires can { CanSurvey sys.now seq.now whole.now types.now }
     requires some { 1 ≤ workers }
-    requires few { workers ≤ 16 }
     ensures { IfOk result (IsSurvey sys.now seq.now 0 (length seq.now)) }
 {
-    let end = seq.len();
-    if workers == 1 {
-        return survey_range(alloc, sys, seq, whole, types, 0, end);
-    }
-    let (_nothing, survey) = thread::join(
+    let surveys = share_numbers(
         rt,
-        move || {},
-        move || -> Result<Survey, NoMemory>
-            requires { IsSync R.row × CanSurvey sys.now seq.now whole.now types.now
-                × (end ≤ length seq.now) × (1 ≤ workers) × (workers ≤ 16) }
-            ensures { IfOk result (IsSurvey sys.entry.now seq.entry.now 0 end) }
-        { survey_by(rt, alloc, sys, seq, whole, types, 0, end, workers) },
-    );
-    survey
-}
-
-// The places from one index to before another, by so many workers, each with a range of its own.
-fn survey_by<R: Threads + Sync>(
-    rt: &R,
-    alloc: Global,
-    sys: &System,
-    seq: &Sequence,
-    whole: &Grid,
-    types: &TypeIndex,
-    start: usize,
-    end: usize,
-    workers: u32,
-) -> Result<Survey, NoMemory>
-    requires can { CanSurvey sys.now seq.now whole.now types.now }
-    requires range { (start ≤ end) × (end ≤ length seq.now) }
-    requires some { 1 ≤ workers }
-    requires few { workers ≤ 16 }
-    ensures { IfOk result (IsSurvey sys.now seq.now start end) }
-{
-    if workers == 1 {
-        return survey_range(alloc, sys, seq, whole, types, start, end);
-    }
-    let middle = parting(start, end, workers);
-    let (left, right) = thread::join(
-        rt,
-        move || -> Result<Survey, NoMemory>
+        alloc,
+        seq.len(),
+        workers,
+        &move |places: Portion| -> Result<Survey, NoMemory>
             requires { CanSurvey sys.now seq.now whole.now types.now
-                × (start ≤ middle) × (middle ≤ length seq.now) }
-            ensures { IfOk result (IsSurvey sys.entry.now seq.entry.now start middle) }
-        { survey_range(alloc, sys, seq, whole, types, start, middle) },
-        move || -> Result<Survey, NoMemory>
-            requires { IsSync R.row × CanSurvey sys.now seq.now whole.now types.now
-                × (middle ≤ end) × (end ≤ length seq.now)
-                × (1 ≤ workers - 1) × (workers - 1 ≤ 16) × (1 ≤ workers) }
-            ensures { IfOk result (IsSurvey sys.entry.now seq.entry.now middle end) }
-        { survey_by(rt, alloc, sys, seq, whole, types, middle, end, workers - 1) },
-    );
-    unite(left?, right?)
+                × (places.start ≤ places.end) × (places.end ≤ length seq.now) }
+            ensures { IfOk result (IsSurvey sys.entry.now seq.entry.now places.start places.end) }
+        { survey_range(alloc, sys, seq, whole, types, places.start, places.end) },
+    )?;
+    unite(surveys)
 }
 
-// Where a range is parted so that one of its workers has the places before.
-fn parting(start: usize, end: usize, workers: u32) -> usize
-    requires range { start ≤ end }
-    requires some { 1 ≤ workers }
-    ensures { (start ≤ result) × (result ≤ end) }
+// What was found in portions that follow each other.
+fn unite(mut surveys: Vec<Result<Survey, NoMemory>>) -> Result<Survey, NoMemory>
+    requires { 0 < length surveys.items }
+    ensures { IfOk result (λ survey. (sys : TileSystem) (s : List Place) (end : ℕ) →
+        InARow (SurveysPortion sys s) 0 0 end surveys.items → IsSurvey sys s 0 end survey) }
 {
-    start + (end - start) / (workers as usize)
+    let mut whole = surveys.remove(0)?;
+    for survey in surveys {
+        whole.append(survey?)?;
+    }
+    Ok(whole)
 }
 
-// What was found in one range, and in the range behind it.
-fn unite(left: Survey, right: Survey) -> Result<Survey, NoMemory>
-    ensures { IfOk result (λ survey. (sys : TileSystem) (s : List Place) (start middle end : ℕ) →
-        IsSurvey sys s start middle left → IsSurvey sys s middle end right →
-        IsSurvey sys s start end survey) }
-{
-    let Survey {
-        mut sides,
-        breaches,
-    } = left;
-    sides.extend_from_slice(right.sides.as_slice())?;
-    Ok(Survey {
-        sides,
-        breaches: breaches.or(right.breaches),
-    })
+impl Survey {
+    // What was found in the range behind this one.
+    fn append(&mut self, behind: Survey) -> Result<(), NoMemory>
+        ensures { OnOk result ((sys : TileSystem) (s : List Place) (start middle end : ℕ) →
+            IsSurvey sys s start middle self.old → IsSurvey sys s middle end behind →
+            IsSurvey sys s start end self.new) }
+    {
+        self.sides.extend_from_slice(behind.sides.as_slice())?;
+        self.breaches = self.breaches.or(behind.breaches);
+        Ok(())
+    }
 }
 
-// The same by this worker alone: it looks at what stands beside each place in the grid of all of
-// them. The sides beside which a tile stood before it come from the sites of the places before it,
+// The places from one index to before another: it looks at what stands beside each in the grid of
+// all of them. The sides beside which a tile stood before it come from the sites of the places before it,
 // the seeds among them.
 #[inline(never)]
 pub(crate) fn survey_range(

@@ -9,6 +9,7 @@ pub mod Begun
 pub mod SpanRoom
 pub mod SpanSteps
 pub mod Spans
+pub mod Rows
 pub mod Rests
 pub mod Ended
 pub mod Sequences

@@ -392,54 +392,20 @@ module _ (sys : TileSystem) (tiles : List Place) (distinct : HasDistinctSites ti
 pub seeds_below : (sys : TileSystem) (low high : ℕ) → low ≤ high → HasSeedsBelow sys low → HasSeedsBelow sys high
 seeds_below sys low high more seeds p contains = wider sys.area 0 low 0 high p.site (omega arith) more (seeds p contains)
 
-module _ (sys : TileSystem) (grid : TileGrid) (first end above : ℕ) (can : CanList sys grid first end above) where
-  -- what stands before the span is all that list_span asks for
-  pub begins_with : (first ≡ 0) ⊎ HasSeedsBelow sys first
-  begins_with = elim can.begins [ inl all ↦ inl all | inr before ↦ inr (seeds_below sys above first before can.seeds) ]
-
-  module _ (middle : ℕ) (from : first ≤ middle) (seeded : above ≤ middle) (within : middle ≤ end) where
-    -- the part before the middle can be listed, and the one behind it
-    pub can_before : CanList sys grid first middle above
-    can_before = record {
-      valid = can.valid;
-      area = can.area;
-      fits = can.fits;
-      distinct = can.distinct;
-      seeded = can.seeded;
-      span = from;
-      within = omega (arith, within, can.within);
-      seeds = can.seeds;
-      above_within = seeded;
-      begins = can.begins;
-    }
-
-    pub can_behind : CanList sys grid middle end middle
-    can_behind = record {
-      valid = can.valid;
-      area = can.area;
-      fits = can.fits;
-      distinct = can.distinct;
-      seeded = can.seeded;
-      span = within;
-      within = can.within;
-      seeds = seeds_below sys above middle seeded can.seeds;
-      above_within = within;
-      begins = inr (omega arith);
-    }
-
-    -- and both one behind the other are the whole span
-    pub listed_both : (old one other new : List Place) → IsListedBehind sys grid.tiles first middle old one → IsListedBehind sys grid.tiles middle end [] other →
-        new ≡ one ++ other → IsListedBehind sys grid.tiles first end old new
-    listed_both old one other new before behind both = record {
-      part = before.part ++ behind.part;
-      listed = both ∙ ap (λ (l : List Place). l ++ other) before.listed ∙ ap (λ (l : List Place). (old ++ before.part) ++ l) behind.listed ∙ append_assoc old before.part behind.part;
-      follows =
-          follows_both sys grid.tiles can.distinct can.valid.distinct_seeds (seeds_part sys grid.tiles can.seeded) first middle end before.part behind.part from within before.follows behind.follows;
-    }
+module _ (sys : TileSystem) (grid : TileGrid) (can : CanList sys grid) where
+  -- what was listed of two spans, one behind the other, is that of both
+  pub listed_both : (first middle end : ℕ) → first ≤ middle → middle ≤ end → (old one other new : List Place) → IsListedBehind sys grid.tiles first middle old one →
+      IsListedBehind sys grid.tiles middle end [] other → new ≡ one ++ other → IsListedBehind sys grid.tiles first end old new
+  listed_both first middle end from within old one other new before behind both = record {
+    part = before.part ++ behind.part;
+    listed = both ∙ ap (λ (l : List Place). l ++ other) before.listed ∙ ap (λ (l : List Place). (old ++ before.part) ++ l) behind.listed ∙ append_assoc old before.part behind.part;
+    follows =
+        follows_both sys grid.tiles can.distinct can.valid.distinct_seeds (seeds_part sys grid.tiles can.seeded) first middle end before.part behind.part from within before.follows behind.follows;
+  }
 
   -- what was listed of a span follows
-  pub listed_alone : (old new : List Place) (waiting : Waiting) → IsSpanListed sys grid.tiles first end old new waiting → IsListedBehind sys grid.tiles first end old new
-  listed_alone old new waiting listed = record {
+  pub listed_alone : (first end : ℕ) (old new : List Place) (waiting : Waiting) → IsSpanListed sys grid.tiles first end old new waiting → IsListedBehind sys grid.tiles first end old new
+  listed_alone first end old new waiting listed = record {
     part = listed.part;
     listed = listed.listed;
     follows = follows_alone sys grid.tiles can.distinct can.valid.distinct_seeds (seeds_part sys grid.tiles can.seeded) first end listed.part listed.is_part;

@@ -1,4 +1,5 @@
 pub mod ReadyNumbers
 pub mod Replays
+pub mod Rows
 pub mod SideGlues
 pub mod Spans

@@ -1,19 +1,23 @@
 // The canonical order of an assembly whose rows are ordered apart from each other.
-ghost use Rattle.std.specs.Prelude.{◌≡◌, ◌≢◌, ◌↔◌, ◌≤◌, ◌+◌, ◌-◌, ℕ, IsOk, length, IfOk, IfSome};
-ghost use Rattle.std.specs.Thread.{IsSync};
-ghost use Rattle.atam.specs.TileSystem.{IsValid};
+ghost use Rattle.std.specs.Prelude.{◌≡◌, ◌≢◌, ◌↔◌, ◌<◌, ◌≤◌, ◌+◌, ℕ, IsOk, length, IfOk, IfSome};
+ghost use Rattle.atam.specs.TileSystem.{TileSystem, IsValid};
 ghost use Rattle.atam.specs.Assembly.{Fits};
 ghost use Rattle.atam.specs.Growth.{IsProducible};
+ghost use Rattle.atam.specs.Sites.{height_of, width_of};
 ghost use Rattle.assembly.specs.Cells.{cell_count};
+ghost use Rattle.assembly.specs.Grids.{TileGrid};
+ghost use Rattle.fan_out.specs.Portions.{InARow};
 ghost use Rattle.replay_order.specs.Inner.Spans.{HasSeedsBelow, IsListedBehind, CanList};
+ghost use Rattle.replay_order.specs.Inner.Rows.{first_site, begun_by, ListsRows};
 ghost use Rattle.replay_order.specs.ReplayAnswers.{HoldsSeeds, LacksSeed, IsReplayAnswer, IsWholeOrder};
 
 use crate::bonds::Bonds;
 use crate::canonical::{holds_seeds, list_span, replay};
 use crate::stop::ReplayStop;
 use assembly::{Grid, PlaceLog, Sequence, site_index};
+use fan_out::{Portion, share_numbers};
 use std::alloc::Global;
-use std::thread::{self, Threads};
+use std::thread::Threads;
 use tile_system::{NoMemory, Placed, System};
 
 /// The same as `replay`, by so many workers, each of which orders rows of its own, in a thread of its
@@ -37,6 +41,8 @@ pub fn replay_by<R: Threads + Sync>(
     ensures producible { result ≢ Err ReplayStop.NoMemory →
         IsOk result ↔ IsProducible sys.now grid.now.tiles }
 {
+    let _valid = sys.tau();
+    let _distinct = grid.area();
     if workers > 1 && holds_seeds(sys, grid) {
         if let Some(order) = order_by_rows(rt, alloc, sys, grid, workers)? {
             return Ok(order);
@@ -53,18 +59,26 @@ fn order_by_rows<R: Threads + Sync>(
     grid: &Grid,
     workers: u32,
 ) -> Result<Option<Sequence>, NoMemory>
-    requires area { grid.now.area ≡ sys.now.area }
-    requires fits { Fits sys.now grid.now.tiles }
-    requires seeded { HoldsSeeds sys.now grid.now.tiles }
+    requires can { CanList sys.now grid.now }
     requires some { 1 ≤ workers }
-    requires few { workers ≤ 16 }
     ensures { IfOk result (λ found. IfSome found (IsWholeOrder sys.now grid.now.tiles)) }
 {
-    let area = grid.area();
-    let log = PlaceLog::make(alloc, sys)?;
-    let sites = area.width() as usize * area.height() as usize;
+    let rows = grid.area().height() as usize;
     let above = above_seeds(sys);
-    let order = list_by(rt, alloc, sys, grid, log, 0, sites, above, workers)?;
+    let parts = share_numbers(
+        rt,
+        alloc,
+        rows,
+        workers,
+        &move |rows: Portion| -> Result<Sequence, NoMemory>
+            requires { CanList sys.now grid.now × HasSeedsBelow sys.now above
+                × (above ≤ cell_count sys.now.area)
+                × (rows.start ≤ rows.end) × (rows.end ≤ height_of sys.now.area) }
+            ensures { ListsRows sys.entry.now grid.entry.now above
+                rows.worker rows.start rows.end result }
+        { list_rows(alloc, sys, grid, above, rows) },
+    )?;
+    let order = unite(parts)?;
     if order.len() < grid.count() as usize {
         return Ok(None);
     }
@@ -86,77 +100,66 @@ fn above_seeds(sys: &System) -> usize
     rows * width
 }
 
-// What the canonical order has of the sites with numbers from one to before another, if that is all
-// of their tiles, behind what was listed, by so many workers. No seed is at a site from this number
-// on.
-fn list_by<R: Threads + Sync>(
-    rt: &R,
+// What the canonical order has of the tiles in the rows of one worker, if that is all of them: behind
+// the seeds, where it is the first worker.
+fn list_rows(
     alloc: Global,
     sys: &System,
     grid: &Grid,
-    log: PlaceLog,
-    first: usize,
-    end: usize,
     above: usize,
-    workers: u32,
+    rows: Portion,
 ) -> Result<Sequence, NoMemory>
-    requires can { CanList sys.now grid.now first end above }
-    requires room { length log.places + (end - first) ≤ log.room }
-    requires some { 1 ≤ workers }
-    requires most { workers ≤ 16 }
-    ensures { IfOk result (IsListedBehind sys.now grid.now.tiles first end log.places) }
+    requires can { CanList sys.now grid.now }
+    requires seeds { HasSeedsBelow sys.now above }
+    requires above { above ≤ cell_count sys.now.area }
+    requires rows { (rows.start ≤ rows.end) × (rows.end ≤ height_of sys.now.area) }
+    ensures { ListsRows sys.now grid.now above rows.worker rows.start rows.end result }
 {
-    if workers == 1 {
-        return list_alone(alloc, sys, grid, log, first, end);
-    }
-    let middle = parting(grid, first, end, above, workers);
-    let own = PlaceLog::with_room(alloc, end - middle)?;
-    let (right, left) = thread::join(
-        rt,
-        move || -> Result<Sequence, NoMemory>
-            requires { CanList sys.now grid.now middle end middle
-                × (length own.places + (end - middle) ≤ own.room) }
-            ensures { IfOk result (IsListedBehind sys.entry.now grid.entry.now.tiles middle end own.places) }
-        { list_alone(alloc, sys, grid, own, middle, end) },
-        move || -> Result<Sequence, NoMemory>
-            requires { IsSync R.row × CanList sys.now grid.now first middle above
-                × (length log.places + (middle - first) ≤ log.room)
-                × (1 ≤ workers - 1) × (workers - 1 ≤ 16) × (1 ≤ workers) }
-            ensures { IfOk result (IsListedBehind sys.entry.now grid.entry.now.tiles first middle log.places) }
-        { list_by(rt, alloc, sys, grid, log, first, middle, above, workers - 1) },
-    );
-    let mut order = left?;
-    order.append(&right?)?;
-    Ok(order)
-}
-
-// The same by this worker alone.
-fn list_alone(
-    alloc: Global,
-    sys: &System,
-    grid: &Grid,
-    log: PlaceLog,
-    first: usize,
-    end: usize,
-) -> Result<Sequence, NoMemory>
-    requires can { (above : ℕ) × CanList sys.now grid.now first end above }
-    requires room { length log.places + (end - first) ≤ log.room }
-    ensures { IfOk result (IsListedBehind sys.now grid.now.tiles first end log.places) }
-{
+    let first = first_site(sys, above, rows.start);
+    let end = first_site(sys, above, rows.end);
     let bonds = Bonds::make(alloc, sys)?;
-    let mut log = log;
+    let mut log = log_of(alloc, sys, rows.worker, end - first)?;
     let _waiting = list_span(alloc, &bonds, grid, &mut log, first, end)?;
     Ok(log.into_sequence())
 }
 
-// Where the rows of the last one of so many workers begin in a span: above the seeds.
-fn parting(grid: &Grid, first: usize, end: usize, above: usize, workers: u32) -> usize
-    requires span { (first ≤ end) × (end ≤ cell_count grid.now.area) }
-    requires above { above ≤ end }
-    requires workers { 1 ≤ workers }
-    ensures { (first ≤ result) × (above ≤ result) × (result ≤ end) }
+// Where a row begins, but for those that have seeds: they are all of them in the span of the first.
+fn first_site(sys: &System, above: usize, row: usize) -> usize
+    requires { row ≤ height_of sys.now.area }
+    ensures { result ≡ first_site above (width_of sys.now.area) row }
 {
-    let width = grid.area().width() as usize;
-    let last = (end - first) / width / workers as usize * width;
-    above.max(end - last)
+    if row == 0 {
+        return 0;
+    }
+    above.max(row * sys.area().width() as usize)
+}
+
+// What a worker begins with, and room for so many places more: the first one has the seeds, and room
+// for all.
+fn log_of(alloc: Global, sys: &System, worker: u32, count: usize) -> Result<PlaceLog, NoMemory>
+    requires { count ≤ cell_count sys.now.area }
+    ensures begun { IfOk result (λ log. log.places ≡ begun_by sys.now worker) }
+    ensures room { IfOk result (λ log. length log.places + count ≤ log.room) }
+{
+    let log = if worker == 0 {
+        PlaceLog::make(alloc, sys)?
+    } else {
+        PlaceLog::with_room(alloc, count)?
+    };
+    Ok(log)
+}
+
+// What all workers have listed, one behind the other.
+fn unite(mut parts: Vec<Result<Sequence, NoMemory>>) -> Result<Sequence, NoMemory>
+    requires { 0 < length parts.items }
+    ensures { IfOk result (λ order. (sys : TileSystem) (grid : TileGrid) (above end : ℕ) →
+        CanList sys grid → InARow (ListsRows sys grid above) 0 0 end parts.items →
+        IsListedBehind sys grid.tiles 0 (first_site above (width_of sys.area) end)
+        sys.seeds order) }
+{
+    let mut order = parts.remove(0)?;
+    for part in parts {
+        order.append(&part?)?;
+    }
+    Ok(order)
 }

@@ -1,5 +1,5 @@
 -- Parts of the canonical order: what it lists of a span of the box's sites, where all sites before the span have been listed.
-use Rattle.std.specs.Prelude.{◌≡◌, ◌≢◌, ℕ, zero, suc, ◌<◌, ◌≤◌, ◌++◌, ◌⊎◌, List, [], ◌∷◌, Option, Some, None, take, slice_get, Contains}
+use Rattle.std.specs.Prelude.{◌≡◌, ◌≢◌, ℕ, zero, suc, ◌<◌, ◌≤◌, ◌++◌, List, [], ◌∷◌, Option, Some, None, take, slice_get, Contains}
 use Rattle.atam.specs.declared.site.Site.{Site}
 use Rattle.atam.specs.declared.place.TypeId.{TypeId}
 use Rattle.atam.specs.declared.place.Place.{Place}
@@ -9,7 +9,7 @@ use Rattle.atam.specs.Placements.{HasDistinctSites, IsPartOf, tile_at}
 use Rattle.atam.specs.TileSystem.{TileSystem, IsValid}
 use Rattle.atam.specs.Assembly.{Fits}
 use Rattle.atam.specs.Canonical.{IsReady}
-use Rattle.assembly.specs.Cells.{cell_count, site_at}
+use Rattle.assembly.specs.Cells.{site_at}
 use Rattle.assembly.specs.Grids.{TileGrid}
 use Rattle.replay_order.specs.ReplayAnswers.{HoldsSeeds}
 use Rattle.replay_order.specs.Inner.Replays.{Waiting, AreLacks}
@@ -77,15 +77,10 @@ pub record IsListedBehind (sys : TileSystem) (tiles : List Place) (first end : �
   pub listed : new ≡ old ++ part
   pub follows : FollowsIfFull sys tiles first end part
 
--- the grid holds the seeds of a valid system, and they are below the span or in it, and then it begins with the first site
-pub record CanList (sys : TileSystem) (grid : TileGrid) (first end above : ℕ) : Type 0 where
+-- the grid holds the seeds of a valid system, in its box
+pub record CanList (sys : TileSystem) (grid : TileGrid) : Type 0 where
   pub valid : IsValid sys
   pub area : grid.area ≡ sys.area
   pub fits : Fits sys grid.tiles
   pub distinct : HasDistinctSites grid.tiles
   pub seeded : HoldsSeeds sys grid.tiles
-  pub span : first ≤ end
-  pub within : end ≤ cell_count sys.area
-  pub seeds : HasSeedsBelow sys above
-  pub above_within : above ≤ end
-  pub begins : (first ≡ 0) ⊎ (above ≤ first)

@@ -1,3 +1,4 @@
+use Rattle.std.specs.Cow.{cow_value}
 use Rattle.std.proofs.Common.{◌≡◌, ◌∙◌, length, ap, arith}
 use Rattle.std.proofs.lemmas.List.{length-map}
 use Rattle.local_check.specs.Inner.PlaceSides.{PlaceSides, earlier_sets, output_sets}
@@ -9,9 +10,9 @@ pub returns : goal.returns
 returns c s can found =
     let items = c.args.survey.sides.items in
     let count : length items ≡ length s = omega (arith, found.count) in
-    table c.args.sys.now s c.args.grid.now.tiles (earlier_sets items) (output_sets items) can.valid.distinct_seeds can.legal
+    table c.args.sys.now s (cow_value c.args.grid).tiles (earlier_sets items) (output_sets items) can.valid.distinct_seeds can.legal
     (length-map items (λ (a : PlaceSides). a.earlier) ∙ count) (length-map items (λ (a : PlaceSides). a.outputs) ∙ count)
     found.earlier found.outputs can.placements
-    (length c.seeds.result.now) (ap length c.seeds.ensures.seeds) c.args.index can.index
+    (length c.seeds.result.now) (ap length c.seeds.ensures.seeds) (cow_value c.args.index) can.index
     c.args.survey.breaches.inexact (inexact_whole c.args.sys.now s (length s) c.args.survey.breaches.inexact found.inexact)
     c.args.survey.breaches.rival (rival_whole c.args.sys.now s (length s) c.args.survey.breaches.rival found.rival)

@@ -1,35 +1,34 @@
-use Rattle.std.proofs.Common.{◌≡◌, ◌≤◌, ◌++◌, ◌∙◌, ℕ, List, Option, length, length-append, arith, ap, sym, subst}
-use Rattle.std.proofs.lemmas.List.{length-map, map-append}
-use Rattle.atam.specs.declared.site.Site.{Site}
-use Rattle.atam.specs.declared.place.TypeId.{TypeId}
-use Rattle.local_check.specs.SideSets.{SideSet}
-use Rattle.local_check.specs.Inner.PlaceSides.{PlaceSides, earlier_sets, output_sets}
-use Rattle.local_check.specs.Inner.Ranges.{FindsInexactIn, FindsRivalIn}
-use Rattle.local_check.specs.Inner.Sides.{AreEarlierFrom, AreOutputsFrom}
-use Rattle.local_check.proofs.Judging.{inexact_joined, rival_joined}
-use Rattle.local_check.proofs.Sides.{earlier_joined, outputs_joined}
+use Rattle.std.proofs.Common.{◌≡◌, ◌∷◌, ◌∙◌, suc, [], ℕ, List, Result, Ok, sym, ap, subst}
+use Rattle.std.proofs.lemmas.Result.{IfOk-at_ok}
+use Rattle.std.proofs.lemmas.List.{nil_from_length}
+use Rattle.tile_system.specs.declared.memory.NoMemory.{NoMemory}
+use Rattle.fan_out.specs.Portions.{InARow}
+use Rattle.fan_out.proofs.InARow.{first_rest}
+use Rattle.local_check.specs.declared.survey.Survey.{Survey}
+use Rattle.local_check.specs.Inner.Portions.{SurveysPortion}
+use Rattle.local_check.specs.Inner.Surveys.{IsSurvey}
 use Rattle.local_check.proofs.survey.unite.Goals as goal
 
+pub loop-survey-init : goal.loop-survey-init
+loop-survey-init c sys s end row =
+    let all = first_rest c.args.surveys.items c.remove.new.self.items c.remove.result c.requires c.remove.ensures.value c.remove.ensures.items in
+    let Row : List (Result Survey NoMemory) → Type 0 = λ l. InARow (SurveysPortion sys s) 0 0 end l in
+    let parted = subst Row all row in
+    let Rest : List (Result Survey NoMemory) → Type 0 = λ l. InARow (SurveysPortion sys s) 1 parted.0 end l in
+    (1, parted.0, IfOk-at_ok (IsSurvey sys s 0 parted.0) c.in_ok-whole.was parted.2, subst Rest (sym c.into_iter-survey-iterator.ensures.into_iter_gives.0) parted.3)
+
+pub loop-survey-preserved : goal.loop-survey-preserved
+loop-survey-preserved c sys s end row =
+    let before = c.loop-survey.invariant sys s end row in
+    let Row : List (Result Survey NoMemory) → Type 0 = λ l. InARow (SurveysPortion sys s) before.0 before.1 end l in
+    let parted = subst Row c.in-Some.ensures.steps.0 before.3 in
+    let behind = IfOk-at_ok (IsSurvey sys s before.1 parted.0) c.in_ok-survey.was parted.2 in
+    (suc before.0, parted.0, c.in_ok-append.ensures sys s 0 before.1 parted.0 before.2 behind, parted.3)
+
 pub returns : goal.returns
-returns c sys s start middle end one other =
-    let left = c.args.left.sides.items in
-    let right = c.args.right.sides.items in
-    let all : c.extend_from_slice.new.self.items ≡ left ++ right = c.in_ok-extend_from_slice.ensures.items ∙ ap (λ l. left ++ l) c.as_slice.ensures.value in
-    let meet : start ≤ middle = omega (arith, one.count) in
-    let Earlier : List SideSet → Type 0 = λ l. AreEarlierFrom sys s start l in
-    let Outputs : List SideSet → Type 0 = λ l. AreOutputsFrom sys s start l in
-    record {
-      count = omega (arith, ap length all, length-append left right, one.count, other.count);
-      earlier =
-          subst Earlier (sym (ap earlier_sets all ∙ map-append (λ (a : PlaceSides). a.earlier) left right))
-          (earlier_joined sys s start middle (earlier_sets left) (earlier_sets right) (omega (arith, length-map left (λ (a : PlaceSides). a.earlier), one.count)) one.earlier other.earlier);
-      outputs =
-          subst Outputs (sym (ap output_sets all ∙ map-append (λ (a : PlaceSides). a.outputs) left right))
-          (outputs_joined sys s start middle (output_sets left) (output_sets right) (omega (arith, length-map left (λ (a : PlaceSides). a.outputs), one.count)) one.outputs other.outputs);
-      inexact =
-          subst (λ (f : Option (Site × ℕ)). FindsInexactIn sys s start end f) (sym c.or.ensures.inexact)
-          (inexact_joined sys s start middle end meet c.args.left.breaches.inexact c.args.right.breaches.inexact one.inexact other.inexact);
-      rival =
-          subst (λ (f : Option (Site × TypeId)). FindsRivalIn sys s start end f) (sym c.or.ensures.rival)
-          (rival_joined sys s start middle end meet c.args.left.breaches.rival c.args.right.breaches.rival one.rival other.rival);
-    }
+returns c sys s end row =
+    let before = c.loop-survey.invariant sys s end row in
+    let rest = c.loop-survey.survey-iterator.rest in
+    let none : rest.items ≡ [] = nil_from_length rest.items (sym rest.ok.0 ∙ c.in-None.ensures.steps.0) in
+    let Row : List (Result Survey NoMemory) → Type 0 = λ l. InARow (SurveysPortion sys s) before.0 before.1 end l in
+    subst (λ (n : ℕ). IsSurvey sys s 0 n c.loop-survey.whole) (subst Row none before.3) before.2

@@ -1,20 +1,29 @@
-use Rattle.std.proofs.Common.{◌≡◌, ◌≤◌, ◌*◌, ◌∙◌, length, arith, ap}
+use Rattle.std.proofs.Common.{rules, ◌≡◌, ◌≤◌, ◌∙◌, length, refl, ap, arith}
 use Rattle.atam.specs.declared.area.BoxArea.{BoxArea}
-use Rattle.atam.specs.Sites.{width_of}
+use Rattle.atam.specs.Sites.{width_of, height_of}
 use Rattle.assembly.specs.Cells.{cell_count}
+use Rattle.fan_out.specs.Portions.{InARow}
+use Rattle.fan_out.proofs.InARow.{row_map}
+use Rattle.replay_order.specs.Inner.Rows.{first_site, ListsRows}
+use Rattle.replay_order.proofs.Rows.{first_site-end}
 use Rattle.replay_order.proofs.Spans.{listed_whole}
 use Rattle.replay_order.proofs.by_rows.order_by_rows.Goals as goal
 
-pub list_by-requires-clause-room : goal.list_by-requires-clause-room
-list_by-requires-clause-room g c κs within =
-    let same : cell_count c.area-area.result ≡ cell_count c.args.sys.now.area = ap (λ (a : BoxArea). cell_count a) (c.area-area.ensures.area ∙ c.requires.area) in
-    let sites : c.width.result * c.height.result ≡ cell_count c.area-area.result = λ k. c.width.ensures k * c.height.ensures k in
-    omega (arith, sites, same, ap length c.in_ok-log.ensures.seeds, c.in_ok-log.ensures.room)
-
 pub returns : goal.returns
 returns g c =
-    let same : cell_count c.area-area.result ≡ cell_count c.args.sys.now.area = ap (λ (a : BoxArea). cell_count a) (c.area-area.ensures.area ∙ c.requires.area) in
-    let sites : c.width.result * c.height.result ≡ cell_count c.args.sys.now.area = ap (λ n. n * c.height.result) c.width.ensures ∙ ap (λ n. width_of c.area-area.result * n) c.height.ensures ∙ same in
-    let all : length c.args.grid.now.tiles ≤ length c.in_ok-order.order = omega (arith, c.if-len-count.false, c.len.ensures, c.count.ensures) in
-    listed_whole c.args.sys.now c.args.grid.now (c.width.result * c.height.result) c.in_ok-log.log.places c.in_ok-order.order
-    sites c.in_ok-log.ensures.seeds c.above_seeds-above.ensures.valid c.requires.fits c.area-area.ensures.distinct c.requires.seeded c.in_ok-order.ensures all
+    let sys = c.args.sys.now in
+    let grid = c.args.grid.now in
+    let can = c.requires.can in
+    let above = c.above_seeds-above.result in
+    let rows = c.height-rows.result in
+    let parts = c.in_ok-parts.parts.items in
+    let row : InARow (ListsRows sys grid above) 0 0 rows parts =
+    row_map _ (ListsRows sys grid above) (λ worker start end found below said. search rules) 0 0 rows parts c.in_ok-parts.ensures.each
+    in
+    let all_rows : rows ≡ height_of sys.area = c.height-rows.ensures ∙ ap (λ (area : BoxArea). height_of area) (c.area.ensures.area ∙ can.area) in
+    let sites : first_site above (width_of sys.area) rows ≡ cell_count sys.area =
+    ap (λ n. first_site above (width_of sys.area) n) all_rows ∙ first_site-end above sys.area can.valid.box c.above_seeds-above.ensures.within
+    in
+    let all : length grid.tiles ≤ length c.in_ok-order.order = omega (arith, c.if-len-count.false, c.len.ensures, c.count.ensures) in
+    listed_whole sys grid (first_site above (width_of sys.area) rows) sys.seeds c.in_ok-order.order sites refl
+    can.valid can.fits can.distinct can.seeded (c.in_ok-order.ensures sys grid above rows can row) all

@@ -1,4 +1,4 @@
-use Rattle.local_check.proofs.side_table.inputs_by.Goals as goal
+use Rattle.local_check.proofs.side_table.sides_by.Goals as goal
 
 pub returns : goal.returns
 returns g c =
@@ -8,5 +8,5 @@ returns g c =
       fits = c.requires.fits;
       area = c.requires.area;
       placements = c.requires.placements;
-      index = c.in_ok-index.ensures;
+      index = c.requires.index;
     }) c.in_ok-survey.ensures
