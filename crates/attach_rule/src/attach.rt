@@ -14,9 +14,9 @@ use crate::bonds;
 use crate::facing::{facing_pull, glue_of, glues_facing};
 use tile_system::{GlueId, Placed, Side, Site, System, TypeId};
 
-// The strength with which two sides interact.
+/// The strength with which two abutting sides interact, by the glues on them.
 #[inline(always)]
-pub(crate) fn interaction(sys: &System, own: Option<GlueId>, other: Option<GlueId>) -> u32
+pub fn interaction(sys: &System, own: Option<GlueId>, other: Option<GlueId>) -> u32
     requires { IfSome own (λ g. g.0 < length sys.now.glues) }
     ensures value { result ≡ model.interaction sys.now own other }
     ensures bound { result ≤ MOST_STRENGTH }

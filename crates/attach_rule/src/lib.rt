@@ -11,7 +11,7 @@ mod outside;
 mod plane;
 mod type_list;
 
-pub use attach::{bond, bond_with, can_attach, first_type, pull};
+pub use attach::{bond, bond_with, can_attach, first_type, interaction, pull};
 pub use bonding::{Strengths, bonds, facing_bonds};
 pub use candidate::candidates;
 pub use facing::{FacingGlues, facing_pull, glues_beside, glues_facing};
