@@ -1,0 +1,258 @@
+// The types by the glues that interact with one of their sides.
+ghost use Rattle.std.specs.Prelude.{◌≡◌, ◌≢◌, ◌<◌, ◌≤◌, ◌+◌, ◌^◌, ◌⊎◌, true, length, slice_get, IfOk, OnOk, Some};
+ghost use Rattle.atam.specs.declared.limits.TheConstants.{MOST_STRENGTH};
+ghost use Rattle.atam.specs.declared.site.Side.{Side};
+ghost use Rattle.atam.specs.declared.place.TypeId.{TypeId};
+ghost use Rattle.atam.specs.TileSystem.{IsType, is_pair_of, side_glue};
+ghost use Rattle.atam.specs.Assembly.{interaction};
+ghost use Rattle.type_index.specs.Indexes.{AreGlueFacts};
+ghost use Rattle.type_index.specs.Meetings.{AreMeetings, Leads};
+ghost use Rattle.type_index.specs.PairLinks.{ArePairLinks, HasGlue};
+ghost use Rattle.type_index.specs.Inner.Cursors.{GoesBy, IsCursor};
+ghost use Rattle.type_index.specs.Inner.Linking.{HasNoMeetings, PutsMeeting};
+
+use crate::cursor::{Cursor, Way};
+use crate::glue_table::{GlueKind, GlueTable};
+use crate::pair_links::PairLinks;
+use std::alloc::Global;
+use std::marker::Model;
+use tile_system::{GlueId, GluePair, NoMemory, Side, System, TypeId};
+
+// A type that interacts with a glue, the strength, and the place of the next such type.
+#[derive(Clone, Copy)]
+pub(crate) struct Meeting {
+    pub(crate) next: u32,
+    pub(crate) tile: u16,
+    pub(crate) strength: u8,
+}
+
+// For each glue that is listed the place of the first type that interacts with it on one side. The
+// last place of each list has the number of types.
+#[derive(Drop)]
+pub(crate) struct MeetingLists {
+    first: Vec<u32>,
+    meetings: Vec<Meeting>,
+}
+
+impl Model for MeetingLists {
+    ghost use Rattle.type_index.specs.Meetings.{MeetingOrder};
+
+    ghost Value = { MeetingOrder };
+
+    ghost view = { λ l. record {
+      first = l.first.items;
+      meetings = l.meetings.items;
+    } };
+}
+
+impl MeetingLists {
+    // The lists of all types; none where no glues are paired.
+    pub(crate) fn build(
+        alloc: Global,
+        sys: &System,
+        side: Side,
+        glues: &GlueTable,
+        links: &PairLinks,
+    ) -> Result<MeetingLists, NoMemory>
+        requires glues { AreGlueFacts sys.now glues.now }
+        requires links { ArePairLinks sys.now 0 links.now }
+        ensures { IfOk result (AreMeetings sys.now side glues.now.kinds 0) }
+    {
+        if sys.pair_count() > 0 {
+            return MeetingLists::filled(alloc, sys, side, glues, links);
+        }
+        Ok(MeetingLists {
+            first: Vec::new(alloc),
+            meetings: Vec::new(alloc),
+        })
+    }
+
+    // The same where glues are paired.
+    fn filled(
+        alloc: Global,
+        sys: &System,
+        side: Side,
+        glues: &GlueTable,
+        links: &PairLinks,
+    ) -> Result<MeetingLists, NoMemory>
+        requires glues { AreGlueFacts sys.now glues.now }
+        requires links { ArePairLinks sys.now 0 links.now }
+        ensures { IfOk result (AreMeetings sys.now side glues.now.kinds 0) }
+    {
+        let _valid = sys.tau();
+        let count = sys.type_count();
+        let mut lists = MeetingLists::ended(alloc, sys)?;
+        for passed in 0..count {
+            let tile = TypeId(count - 1 - passed);
+            lists.pass(sys, side, tile, glues, links)?;
+        }
+        Ok(lists)
+    }
+
+    // Lists without a type.
+    fn ended(alloc: Global, sys: &System) -> Result<MeetingLists, NoMemory>
+        ensures { IfOk result (HasNoMeetings sys.now) }
+    {
+        let _valid = sys.tau();
+        let end = Meeting {
+            next: 0,
+            tile: sys.type_count() as u16,
+            strength: 0,
+        };
+        Ok(MeetingLists {
+            first: Vec::from_elem(alloc, 0, sys.glue_count() as usize)?,
+            meetings: Vec::from_elem(alloc, end, 1)?,
+        })
+    }
+
+    // Puts a type first in the lists of all glues that interact with its side.
+    fn pass(
+        &mut self,
+        sys: &System,
+        side: Side,
+        tile: TypeId,
+        glues: &GlueTable,
+        links: &PairLinks,
+    ) -> Result<(), NoMemory>
+        requires glues { AreGlueFacts sys.now glues.now }
+        requires links { ArePairLinks sys.now 0 links.now }
+        requires kind { IsType sys.now tile }
+        requires lists { AreMeetings sys.now side glues.now.kinds (tile.0 + 1) self.old }
+        requires first { length self.old.first ≡ length sys.now.glues }
+        requires few { length self.old.meetings + 65537 < 2 ^ 32 }
+        ensures lists { OnOk result (AreMeetings sys.now side glues.now.kinds tile.0 self.new) }
+        ensures first { length self.new.first ≡ length sys.now.glues }
+        ensures few { length self.new.meetings ≤ length self.old.meetings + 65537 }
+    {
+        match sys.side(tile, side) {
+            Some(glue) => self.put(sys, side, tile, glue, glues, links),
+            None => Ok(()),
+        }
+    }
+
+    // The same for a type that bears this glue there.
+    fn put(
+        &mut self,
+        sys: &System,
+        side: Side,
+        tile: TypeId,
+        glue: GlueId,
+        glues: &GlueTable,
+        links: &PairLinks,
+    ) -> Result<(), NoMemory>
+        requires glues { AreGlueFacts sys.now glues.now }
+        requires links { ArePairLinks sys.now 0 links.now }
+        requires kind { IsType sys.now tile }
+        requires bears { side_glue sys.now tile side ≡ Some glue }
+        requires lists { AreMeetings sys.now side glues.now.kinds (tile.0 + 1) self.old }
+        requires first { length self.old.first ≡ length sys.now.glues }
+        requires few { length self.old.meetings + 65537 < 2 ^ 32 }
+        ensures lists { OnOk result (AreMeetings sys.now side glues.now.kinds tile.0 self.new) }
+        ensures first { length self.new.first ≡ length sys.now.glues }
+        ensures few { length self.new.meetings ≤ length self.old.meetings + 65537 }
+    {
+        let _valid = sys.tau();
+        let pairs = sys.pairs();
+        let count = sys.pair_count();
+        self.meet(sys, glues, glue, tile, glues.strength(sys, glue))?;
+        let mut number = links.first(sys, glue);
+        while number < count {
+            let pair = pairs[number as usize];
+            self.meet(sys, glues, other_of(pair, glue), tile, pair.strength)?;
+            number = links.behind(sys, number, pair, glue);
+        }
+        Ok(())
+    }
+
+    // Puts a type first in the list of a glue that has one, where they interact.
+    #[inline(always)]
+    fn meet(
+        &mut self,
+        sys: &System,
+        glues: &GlueTable,
+        glue: GlueId,
+        tile: TypeId,
+        strength: u32,
+    ) -> Result<(), NoMemory>
+        requires glues { AreGlueFacts sys.now glues.now }
+        requires known { glue.0 < length sys.now.glues }
+        requires first { length self.old.first ≡ length sys.now.glues }
+        requires small { tile.0 < 65536 }
+        requires weak { strength ≤ MOST_STRENGTH }
+        requires few { length self.old.meetings < 2 ^ 32 }
+        ensures puts { OnOk result (PutsMeeting glues.now.kinds glue tile strength self.old self.new) }
+        ensures first { length self.new.first ≡ length self.old.first }
+        ensures few { length self.new.meetings ≤ length self.old.meetings + 1 }
+    {
+        if strength == 0 || glues.kind(sys, glue) != GlueKind::Listed {
+            return Ok(());
+        }
+        let meeting = Meeting {
+            next: self.first[glue.0 as usize],
+            tile: tile.0 as u16,
+            strength: strength as u8,
+        };
+        let place = self.meetings.len() as u32;
+        self.meetings.push(meeting)?;
+        self.first[glue.0 as usize] = place;
+        Ok(())
+    }
+
+    // A cursor at the first type of the list of a glue that has one.
+    #[inline(always)]
+    pub(crate) fn start(&self, sys: &System, side: Side, glues: &GlueTable, glue: GlueId) -> Cursor
+        requires glues { AreGlueFacts sys.now glues.now }
+        requires listed { slice_get glues.now.kinds glue.0 ≡ Some GlueKind.Listed }
+        requires lists { AreMeetings sys.now side glues.now.kinds 0 self.now }
+        ensures cursor { IsCursor sys.now side (Some glue) 0 result }
+        ensures way { GoesBy sys.now side self.now.meetings (Some glue) result result.way }
+    {
+        let _valid = sys.tau();
+        let most = glues.most(sys, glue);
+        self.cursor(sys, side, glue, 0, self.first[glue.0 as usize], most)
+    }
+
+    // A cursor at the type at a place of the list of a glue.
+    #[inline(always)]
+    pub(crate) fn cursor(
+        &self,
+        sys: &System,
+        side: Side,
+        glue: GlueId,
+        from: usize,
+        place: u32,
+        most: u32,
+    ) -> Cursor
+        requires leads { Leads sys.now side glue self.now.meetings from place }
+        requires most { (t : TypeId) → interaction sys.now (side_glue sys.now t side) (Some glue) ≤ most }
+        requires bound { most ≤ MOST_STRENGTH }
+        ensures cursor { IsCursor sys.now side (Some glue) from result }
+        ensures way { GoesBy sys.now side self.now.meetings (Some glue) result result.way }
+    {
+        let _valid = sys.tau();
+        let meeting = self.meetings[place as usize];
+        Cursor {
+            at: meeting.tile as usize,
+            strength: u32::from(meeting.strength),
+            most,
+            way: Way::Meetings(meeting.next),
+        }
+    }
+}
+
+// The glue that a pair has besides this one.
+#[inline(always)]
+#[tactic(auto, using(crate::proofs::PairOrders::other_is))]
+fn other_of(pair: GluePair, glue: GlueId) -> GlueId
+    requires has { HasGlue glue pair }
+    requires unlike { pair.first.0 ≢ pair.second.0 }
+    ensures unlike { result.0 ≢ glue.0 }
+    ensures both { is_pair_of pair glue result ≡ true }
+    ensures one { (result ≡ pair.first) ⊎ (result ≡ pair.second) }
+{
+    if pair.first == glue {
+        pair.second
+    } else {
+        pair.first
+    }
+}
