@@ -1,7 +1,5 @@
 -- What a system grew into, and what is told of it.
-use Rattle.std.proofs.Common.{◌≡◌, All, ◌∙◌, List, length, get_or, Option, Some, None, IfSome, ap, refl, sym, subst, arith}
-use Rattle.std.specs.Prelude.{slice_get}
-use Rattle.std.proofs.lemmas.Option.{slice_get-get_or}
+use Rattle.std.proofs.Common.{◌≡◌, All, List, Option, Some, None, IfSome, ap, refl, subst}
 use Rattle.atam.specs.declared.place.Place.{Place}
 use Rattle.atam.specs.declared.place.TypeId.{TypeId}
 use Rattle.atam.specs.declared.site.Site.{Site}
@@ -15,10 +13,8 @@ use Rattle.site_table.specs.Seats.{GrownValue}
 use Rattle.local_check.specs.declared.verdict.Verdict.{Verdict}
 use Rattle.local_check.specs.declared.verdict.Verdict.TheVariants.{Yes, NotExact, Rival, NotTerminal}
 use Rattle.local_check.specs.Judgement.{IsVerdict}
-use Rattle.replay_order.specs.ReplayAnswers.{LacksSeed}
 use Rattle.seq_text.specs.VerdictLines.{NamesTypes}
 use Rattle.tilebench.specs.declared.commands.grow.Growth.{Growth}
-use Rattle.tilebench.specs.Commands.Replay.{LacksSeedAt}
 use Rattle.tilebench.specs.Commands.Grow.{IsGrowth, IsGrowthText, growth_text, is_unique}
 use Rattle.tilebench.specs.Inner.Rooms.{GrowsTo, outcome_of}
 
@@ -50,13 +46,3 @@ growth_told sys table growth grows = record {
   printed = ap (λ (s : TileSystem). growth_text s (outcome_of growth)) grows.same;
   answer = refl;
 }
-
--- where the one seed of a system isn't there, it is the first
-pub lacks_first : (sys : TileSystem) (tiles : List Place) (first : Place) → length sys.seeds ≡ 1 → slice_get sys.seeds 0 ≡ Some first → LacksSeed sys tiles →
-    LacksSeedAt sys tiles first.site
-lacks_first sys tiles first one is (k, seed, within, at, missing) =
-    let zero_is : k ≡ 0 = omega (arith, within, one) in
-    let there : slice_get sys.seeds k ≡ Some (get_or sys.seeds k seed) = slice_get-get_or sys.seeds k seed within in
-    let same : Some first ≡ Some seed = sym is ∙ ap (slice_get sys.seeds) (sym zero_is) ∙ there ∙ ap (λ (p : Place). Some p) at in
-    let equal : first ≡ seed = cc in
-    record { seed = seed; of_system = (k, within, at); missing = missing; at = ap (λ (p : Place). p.site) equal }

@@ -1,18 +1,14 @@
 -- What the laws of confluence say of growth answers.
-use Rattle.std.proofs.Common.{◌≡◌, ◌∙◌, ℕ, Bool, true, true≢false, Some, List, Option, refl, sym, ap, subst}
-use Rattle.tile_io.specs.declared.mark.Mark.{Mark}
-use Rattle.tile_io.specs.Formats.{Reads}
+use Rattle.std.proofs.Common.{◌≡◌, ◌∙◌, ℕ, Bool, true, true≢false, Some, List, Option, refl, sym, ap}
 use Rattle.atam.specs.declared.place.Place.{Place}
 use Rattle.atam.specs.Placements.{HasDistinctSites, SamePlacements}
-use Rattle.atam.specs.TileSystem.{TileSystem, IsValid}
+use Rattle.atam.specs.TileSystem.{TileSystem}
 use Rattle.atam.specs.Growth.{IsProducible}
 use Rattle.atam.specs.Determinism.{IsDeterministicInBox}
 use Rattle.atam.proofs.Sequences.{IsLegal-distinct}
 use Rattle.atam.proofs.Open.{least_open_same}
 use Rattle.atam.proofs.Tiles.{SamePlacements-trans, SameTiles-from}
-use Rattle.tile_text.specs.SystemText.{ReadsSystem, SystemItem, system_format, system_items}
-use Rattle.tile_text.proofs.OneSystem.{reads_one_system}
-use Rattle.tile_text.proofs.Valid.{reads_valid}
+use Rattle.tile_text.proofs.Eithers.{any_valid}
 use Rattle.local_check.specs.declared.verdict.Verdict.{Verdict}
 use Rattle.local_check.specs.declared.verdict.Verdict.TheVariants.{Yes, NotExact, Rival, NotTerminal}
 use Rattle.local_check.proofs.Verdicts.{verdict_yes}
@@ -24,14 +20,6 @@ use Rattle.tilebench.specs.Growing.{TellsGrowth}
 use Rattle.tilebench.specs.Commands.Grow.{IsGrowth, IsGrowthText, growth_text, is_unique}
 use Rattle.tilebench.specs.Headline.{IsHeadline}
 use Rattle.tilebench.proofs.ReadingBack.{growth_may, sequence_back}
-
--- a system that was read is valid
-pub valid_system : (text : List ℕ) (from to : Mark) (sys : TileSystem) → ReadsSystem text from sys to → IsValid sys
-valid_system text from to sys reads =
-    let valid = reads_valid text from to (system_items sys) reads.items in
-    let Read : List SystemItem → Type 0 = λ items. Reads system_format text from items to in
-    let other : ReadsSystem text from valid.0 to = record { items = subst Read valid.1 reads.items; no_pairs = valid.2 } in
-    subst IsValid (sym (reads_one_system text from to to sys valid.0 reads other).0) valid.3
 
 -- a verdict is a yes exactly where it is `Yes`
 unique_yes : (verdict : Verdict) → is_unique verdict ≡ true → verdict ≡ Yes
@@ -73,7 +61,7 @@ growth_of_deterministic sys seeds tiles outcome grown s found =
 pub headline : (workers : ℕ) (grown : Option GrownValue) (input : List ℕ) (is_yes : Bool) (text : List ℕ) → TellsGrowth IsGrowthText workers grown input is_yes text → IsHeadline input is_yes text
 headline workers grown input is_yes text answer =
     let sys = answer.sys in
-    let valid = valid_system input _ answer.read.end sys answer.read.reads in
+    let valid = any_valid input _ answer.read.end sys answer.read.reads in
     let seeds : HasDistinctSites sys.seeds = valid.distinct_seeds in
     let tiles = answer.table.grid.tiles in
     let outcome = answer.told.outcome in

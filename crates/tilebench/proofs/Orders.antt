@@ -17,12 +17,12 @@ use Rattle.tile_system.specs.declared.memory.NoMemory.{NoMemory}
 use Rattle.seq_text.specs.GrowthLines.{place_lines}
 use Rattle.tilebench.specs.declared.commands.replay.Reordering.{Reordering}
 use Rattle.tilebench.specs.Commands.Replay.{IsAssemblyOf, IsReordering, IsReplayAnswer, IsSystemThenPlacements, is_whole, reordering_text}
-use Rattle.tilebench.proofs.Headlines.{valid_system}
 use Rattle.tilebench.proofs.ReadingBack.{placements_back}
 use Rattle.tile_io.specs.declared.mark.Mark.{Mark}
 use Rattle.tile_io.specs.declared.fault.TextStop.{TextStop}
 use Rattle.tile_io.specs.Formats.{Format, ReadsOrStops}
-use Rattle.tile_text.specs.SystemText.{ReadsSystem}
+use Rattle.tile_text.specs.SystemText.{ReadsAny}
+use Rattle.tile_text.proofs.Eithers.{any_valid}
 use Rattle.tilebench.specs.Inputs.{FailsWithin, first_mark}
 use Rattle.tilebench.specs.Inner.Gives.{Gives}
 use Rattle.tilebench.specs.Inner.Stops.{stop_of_text}
@@ -42,7 +42,7 @@ replay_answer input sys places tiles reordering read assembly reordered = record
   printed = refl;
   answer = refl;
   reads_back = λ order is.
-      let valid : IsValid sys = valid_system input _ read.end sys read.reads in
+      let valid : IsValid sys = any_valid input _ read.end sys read.reads in
       let Reordered : Reordering → Type 0 = IsReordering sys tiles in
       let whole = subst Reordered is reordered in
       let distinct : HasDistinctSites order = IsLegal-distinct sys order valid.distinct_seeds whole.legal in
@@ -82,7 +82,7 @@ replayed_whole sys tiles (Err stop) (Ok order) answer same none = absurd (true�
 replayed_whole sys tiles (Err stop) (Err memory) answer same none = tt
 
 -- what stops the reading of a text behind that of a system is the input's fault, or want of memory
-pub stops_within : {Item Answer T : Type 0} (format : TileSystem → Format Item) (input : List ℕ) (sys : TileSystem) (end : Mark) → ReadsSystem input first_mark sys end → (IsReadAs : Answer → Type 0) (stop : TextStop) →
+pub stops_within : {Item Answer T : Type 0} (format : TileSystem → Format Item) (input : List ℕ) (sys : TileSystem) (end : Mark) → ReadsAny input first_mark sys end → (IsReadAs : Answer → Type 0) (stop : TextStop) →
     ReadsOrStops (format sys) input end IsReadAs (Err stop) → (Holds : T → Type 0) → Gives Holds (FailsWithin format input) (Err (stop_of_text stop))
 stops_within format input sys end reads IsReadAs (stops.Fault fault) h Holds = inr (sys, record { end = end; reads = reads; rest = h })
 stops_within format input sys end reads IsReadAs stops.NoMemory h Holds = tt

@@ -1,4 +1,4 @@
--- The spelling of a valid system reads back as it.
+-- The spellings of a valid system read back as it.
 use Rattle.std.proofs.Common.{◌≡◌, ◌++◌, ℕ, List, [], length, drop, refl, sym, ap, subst, ◌∙◌, append-nil, inr}
 use Rattle.tile_io.specs.declared.mark.Mark.{Mark}
 use Rattle.tile_io.specs.Checks.{nothing_more}
@@ -7,11 +7,15 @@ use Rattle.tile_io.specs.Lines.{TextLine, lines_from, lines_of, mark_after}
 use Rattle.tile_io.specs.Rest.{HasNoMore}
 use Rattle.tile_io.proofs.Progress.{passes_nothing}
 use Rattle.atam.specs.TileSystem.{TileSystem, IsValid}
-use Rattle.tile_text.specs.Spelling.{spelling, end_of_print}
-use Rattle.tile_text.proofs.SystemSpelled.{printed_reads}
-use Rattle.seq_text.proofs.Printed.{behind_system}
+use Rattle.tile_text.specs.declared.version.Version.{Version}
+use Rattle.tile_text.specs.declared.version.Version.TheVariants.{Two}
+use Rattle.tile_text.specs.SystemText.{IsSystemOf}
+use Rattle.tile_text.specs.Spelling.{end_of_print, newest_spelling, spelling, spelling_by, version_of}
+use Rattle.tile_text.proofs.PrintLemmas.{has_version}
+use Rattle.tile_text.proofs.SystemSpelled.{printed_any}
+use Rattle.seq_text.proofs.Printed.{behind_text}
 use Rattle.tilebench.specs.Inputs.{IsSystemAlone, first_mark}
-use Rattle.tilebench.specs.Spelled.{SpellsSystem}
+use Rattle.tilebench.specs.Spelled.{SpellsNewest, SpellsSystem}
 
 no_lines : lines_of [] ≡ []
 unfolding lines_of
@@ -25,15 +29,20 @@ nothing_left text from ended =
     let Passed : List TextLine → Type 0 = λ l. Passes nothing_more l [] in
     (mark_after lines from (length lines), inr (record { passed = subst Passed (sym none) (passes_nothing nothing_more); complete = refl; place = refl }))
 
-alone_back : (sys : TileSystem) → IsValid sys → IsSystemAlone (spelling sys) sys
-alone_back sys valid =
+-- the text of a version that has a system, and nothing behind it
+alone_back : (version : Version) (sys : TileSystem) → IsValid sys → IsSystemOf version sys → IsSystemAlone (spelling_by version sys) sys
+alone_back version sys valid has =
     let Alone : List ℕ → Type 0 = λ text. IsSystemAlone text sys in
-    let end = end_of_print sys first_mark in
-    subst Alone (append-nil (spelling sys)) (record {
+    let text = spelling_by version sys in
+    let end = end_of_print version sys first_mark in
+    subst Alone (append-nil text) (record {
       end = end;
-      reads = printed_reads sys (spelling sys ++ []) [] first_mark valid refl;
-      rest = nothing_left (spelling sys ++ []) end (behind_system sys []);
+      reads = printed_any version sys (text ++ []) [] first_mark valid has refl;
+      rest = nothing_left (text ++ []) end (behind_text version sys []);
     })
 
 pub spelled : (sys : TileSystem) → IsValid sys → SpellsSystem sys (spelling sys)
-spelled sys valid = record { printed = refl; valid = valid; reads_back = alone_back sys valid }
+spelled sys valid = record { printed = refl; valid = valid; reads_back = alone_back (version_of sys) sys valid (has_version sys) }
+
+pub spelled_newest : (sys : TileSystem) → IsValid sys → SpellsNewest sys (newest_spelling sys)
+spelled_newest sys valid = record { printed = refl; valid = valid; reads_back = alone_back Two sys valid tt }

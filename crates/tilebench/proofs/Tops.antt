@@ -2,7 +2,7 @@
 use Rattle.std.proofs.Common.{◌≡◌, ◌≢◌, ◌⊎◌, ◌≤◌, ◌∙◌, ℕ, Bool, true, false, List, Option, Some, None, Result, Err, refl, sym, ap, subst, arith, unwrap_or, inl, inr}
 use Rattle.tile_io.specs.Faults.{Rose}
 use Rattle.command_line.specs.declared.commands.Command.{Command}
-use Rattle.command_line.specs.declared.commands.Command.TheVariants.{Grow, Race, Report, Check, Replay, Schedule, Format, Turing, Picture, Counter, Load}
+use Rattle.command_line.specs.declared.commands.Command.TheVariants.{Grow, Race, Report, Check, Replay, Schedule, Format, Upgrade, Turing, Picture, Counter, Load}
 use Rattle.command_line.specs.declared.commands.CommandName.{CommandName}
 use Rattle.command_line.specs.declared.words_stop.WordsStop.{WordsStop}
 use Rattle.command_line.specs.declared.words_stop.WordsStop.TheVariants.{NoCommand, Usage, NoMemory}
@@ -49,6 +49,7 @@ unrefused words accepted Check called stop refuses = refuses
 unrefused words accepted Replay called stop refuses = refuses
 unrefused words accepted Schedule called stop refuses = refuses
 unrefused words accepted Format called stop refuses = refuses
+unrefused words accepted Upgrade called stop refuses = refuses
 unrefused words accepted Turing called stop refuses = refuses
 unrefused words accepted Picture called stop refuses = refuses
 unrefused words accepted (Load number) called stop refuses = refuses

@@ -19,6 +19,7 @@ use Rattle.tilebench.specs.Commands.Check.{IsCheckAnswer}
 use Rattle.tilebench.specs.Commands.Replay.{IsReplayAnswer}
 use Rattle.tilebench.specs.Commands.Schedule.{IsScheduleAnswer}
 use Rattle.tilebench.specs.Commands.Format.{IsFormatAnswer}
+use Rattle.tilebench.specs.Commands.Upgrade.{IsUpgradeAnswer}
 use Rattle.tilebench.specs.Commands.Turing.{IsTuringAnswer}
 use Rattle.tilebench.specs.Commands.Picture.{IsPictureAnswer}
 use Rattle.tilebench.specs.Commands.Counter.{IsCounterAnswer}
@@ -34,6 +35,7 @@ pub mod Replay
 pub mod Report
 pub mod Schedule
 pub mod Turing
+pub mod Upgrade
 
 -- what a command answers to what is left of the source, with the growth that it hands out, and what is left afterwards
 abbrev pub Answers : Command → Option GrownValue → Option (List ℕ) → Option (List ℕ) → Bool → List ℕ → Type 0
@@ -44,6 +46,7 @@ Answers command.Check = λ grown. AnswersInput (TellsNoGrowth IsCheckAnswer grow
 Answers command.Replay = λ grown. AnswersInput (TellsNoGrowth IsReplayAnswer grown)
 Answers command.Schedule = λ grown. AnswersInput (TellsNoGrowth IsScheduleAnswer grown)
 Answers command.Format = λ grown. AnswersInput (TellsNoGrowth IsFormatAnswer grown)
+Answers command.Upgrade = λ grown. AnswersInput (TellsNoGrowth IsUpgradeAnswer grown)
 Answers command.Turing = λ grown. AnswersInput (TellsNoGrowth IsTuringAnswer grown)
 Answers command.Picture = λ grown. AnswersInput (TellsNoGrowth IsPictureAnswer grown)
 Answers (command.Counter bits start) = λ grown. AnswersUnread (IsCounterAnswer bits start grown)
@@ -64,6 +67,7 @@ Takes name.Check = HoldsInput (IsReadable sequence_format)
 Takes name.Replay = HoldsInput (IsReadable grid_format)
 Takes name.Schedule = HoldsInput (IsReadable schedule_format)
 Takes name.Format = HoldsInput (IsReadable alone)
+Takes name.Upgrade = HoldsInput (IsReadable alone)
 Takes name.Turing = HoldsInput (IsReadableMachine alone)
 Takes name.Picture = HoldsInput (IsReadable grid_format)
 Takes name.Counter = λ left. Unit {0}
@@ -78,6 +82,7 @@ Fails name.Check = FailsInput (FailsWithin sequence_format)
 Fails name.Replay = FailsInput (FailsWithin grid_format)
 Fails name.Schedule = FailsInput (FailsWithin schedule_format)
 Fails name.Format = FailsInput (FailsWithin alone)
+Fails name.Upgrade = FailsInput (FailsWithin alone)
 Fails name.Turing = FailsInput (FailsWithinMachine alone)
 Fails name.Picture = FailsInput (FailsWithin grid_format)
 Fails name.Counter = λ left left_after fault. ⊥

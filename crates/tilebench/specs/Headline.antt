@@ -72,7 +72,7 @@ pub record IsHeadline (input : List ℕ) (is_yes : Bool) (text : List ℕ) : Typ
   pub outcome : Outcome
   pub grown : IsGrowth sys tiles outcome
   pub printed : text ≡ growth_text sys outcome
-  -- its places are a legal sequence from the seed, with exactly the placements of an assembly
+  -- its places are a legal sequence from the seeds, with exactly the placements of an assembly
   pub legal : IsLegal sys outcome.order
   pub same : SamePlacements outcome.order tiles
   -- and behind the spelling of the system they read as this sequence

@@ -1,6 +1,7 @@
 -- The input of a command, and its faults.
 use Rattle.std.specs.Prelude.{◌≡◌, ◌⊎◌, ◌<◌, ◌≤◌, ℕ, Bool, List, length, Option, Some}
 use Rattle.std.specs.Io.KnownBytes.{Consumes, IsAtEnd}
+use Rattle.tile_io.specs.declared.fault.Cause.{Cause}
 use Rattle.tile_io.specs.declared.fault.Cause.TheVariants.{TooLong}
 use Rattle.tile_io.specs.declared.fault.TextFault.{TextFault}
 use Rattle.tile_io.specs.declared.mark.Mark.{Mark}
@@ -9,7 +10,7 @@ use Rattle.tile_io.specs.Checks.{nothing_more}
 use Rattle.tile_io.specs.Formats.{Format, Fault, IsRead}
 use Rattle.tile_io.specs.Rest.{HasNoMore}
 use Rattle.atam.specs.TileSystem.{TileSystem}
-use Rattle.tile_text.specs.SystemText.{ReadsSystem, system_format}
+use Rattle.tile_text.specs.SystemText.{FaultAny, ReadsAny}
 use Rattle.machine_text.specs.Machines.{TuringMachine}
 use Rattle.machine_text.specs.MachineText.{ReadsMachine, machine_format}
 
@@ -24,7 +25,7 @@ pub record IsTextThen {Value : Type 0} (IsText : List ℕ → Mark → Value →
   pub rest : IsRest value end
 
 abbrev pub IsSystemThen : (TileSystem → Mark → Type 0) → List ℕ → TileSystem → Type 0
-IsSystemThen IsRest input sys = IsTextThen ReadsSystem IsRest input sys
+IsSystemThen IsRest input sys = IsTextThen ReadsAny IsRest input sys
 
 -- the input is the text of this system, or of this machine, and only empty lines and remarks follow it
 abbrev pub IsSystemAlone : List ℕ → TileSystem → Type 0
@@ -33,30 +34,30 @@ IsSystemAlone input sys = IsSystemThen (λ sys end. HasNoMore input end) input s
 abbrev pub IsMachineAlone : List ℕ → TuringMachine → Type 0
 IsMachineAlone input M = IsTextThen ReadsMachine (λ M end. HasNoMore input end) input M
 
--- of a kind of text whose format is `front`, followed by a text of another format
-module _ {Value Front Item : Type 0} (IsText : List ℕ → Mark → Value → Mark → Type 0) (front : Format Front) (format : Value → Format Item) (input : List ℕ) where
+-- of a kind of text, by what it reads as and by its faults, followed by a text of another format
+module _ {Value Item : Type 0} (IsText : List ℕ → Mark → Value → Mark → Type 0) (IsFault : List ℕ → Mark → ℕ → Cause → Type 0) (format : Value → Format Item) (input : List ℕ) where
   -- the input is the text of some value, and then one of this format
   abbrev pub IsReadableAs : Type 0
   IsReadableAs = (value : Value) × IsTextThen IsText (λ value end. IsRead (format value) input end) input value
 
   -- the text of a value, or what follows it, has this first fault
   abbrev pub FailsWithinAs : TextFault → Type 0
-  FailsWithinAs fault = Fault front input first_mark fault.line fault.cause
+  FailsWithinAs fault = IsFault input first_mark fault.line fault.cause
       ⊎ ((value : Value) × IsTextThen IsText (λ value end. Fault (format value) input end fault.line fault.cause) input value)
 
--- of the text of a system
+-- of the text of a system, of either version
 abbrev pub IsReadable : {Item : Type 0} → (TileSystem → Format Item) → List ℕ → Type 0
-IsReadable format input = IsReadableAs ReadsSystem system_format format input
+IsReadable format input = IsReadableAs ReadsAny FaultAny format input
 
 abbrev pub FailsWithin : {Item : Type 0} → (TileSystem → Format Item) → List ℕ → TextFault → Type 0
-FailsWithin format input fault = FailsWithinAs ReadsSystem system_format format input fault
+FailsWithin format input fault = FailsWithinAs ReadsAny FaultAny format input fault
 
 -- of the text of a machine
 abbrev pub IsReadableMachine : {Item : Type 0} → (TuringMachine → Format Item) → List ℕ → Type 0
-IsReadableMachine format input = IsReadableAs ReadsMachine machine_format format input
+IsReadableMachine format input = IsReadableAs ReadsMachine (Fault machine_format) format input
 
 abbrev pub FailsWithinMachine : {Item : Type 0} → (TuringMachine → Format Item) → List ℕ → TextFault → Type 0
-FailsWithinMachine format input fault = FailsWithinAs ReadsMachine machine_format format input fault
+FailsWithinMachine format input fault = FailsWithinAs ReadsMachine (Fault machine_format) format input fault
 
 -- what follows where nothing may
 abbrev pub alone : {Value : Type 0} → Value → Format ⊥

@@ -1,11 +1,17 @@
 -- What commands answer that print a system.
 use Rattle.std.specs.Prelude.{◌≡◌, ℕ, List}
 use Rattle.atam.specs.TileSystem.{TileSystem, IsValid}
-use Rattle.tile_text.specs.Spelling.{spelling}
+use Rattle.tile_text.specs.Spelling.{newest_spelling, spelling}
 use Rattle.tilebench.specs.Inputs.{IsSystemAlone}
 
 -- the text is the one spelling of a valid system, and reads back as it
 pub record SpellsSystem (sys : TileSystem) (text : List ℕ) : Type 0 where
   pub printed : text ≡ spelling sys
+  pub valid : IsValid sys
+  pub reads_back : IsSystemAlone text sys
+
+-- the text is the one of the newest version that a valid system has, and reads back as it
+pub record SpellsNewest (sys : TileSystem) (text : List ℕ) : Type 0 where
+  pub printed : text ≡ newest_spelling sys
   pub valid : IsValid sys
   pub reads_back : IsSystemAlone text sys

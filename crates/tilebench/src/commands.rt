@@ -16,6 +16,7 @@ mod reports;
 mod schedule;
 mod spelled;
 mod turing;
+mod upgrade;
 
 use crate::run::{run, run_growth};
 use crate::status::Ran;
@@ -58,6 +59,7 @@ pub fn run_command<R: Threads + Sync, S: Source, K: Sink, E: Sink, G: Gate>(
         Command::Replay => run(alloc, &replay::Replay, source, out, err),
         Command::Schedule => run(alloc, &schedule::Schedule, source, out, err),
         Command::Format => run(alloc, &format::Format, source, out, err),
+        Command::Upgrade => run(alloc, &upgrade::Upgrade, source, out, err),
         Command::Turing => run(alloc, &turing::Turing, source, out, err),
         Command::Picture => run(alloc, &pictures::Picture, source, out, err),
         Command::Counter { bits, start } => tell(counter::answer(alloc, bits, start), out, err),

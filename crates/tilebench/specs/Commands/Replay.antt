@@ -1,5 +1,5 @@
 -- What `replay` answers.
-use Rattle.std.specs.Prelude.{◌≡◌, ◌≢◌, ℕ, Bool, true, false, List, ◌++◌, Some, Contains}
+use Rattle.std.specs.Prelude.{◌≡◌, ◌≢◌, ◌<◌, ℕ, Bool, true, false, List, ◌++◌, Some, slice_get}
 use Rattle.atam.specs.declared.place.Place.{Place}
 use Rattle.atam.specs.declared.site.Site.{Site}
 use Rattle.atam.specs.TileSystem.{TileSystem}
@@ -13,14 +13,16 @@ use Rattle.tilebench.specs.declared.commands.replay.Reordering.{Reordering}
 use Rattle.tilebench.specs.declared.commands.replay.Reordering.TheVariants.{Whole, SeedMissing, Stuck}
 use Rattle.tilebench.specs.Inputs.{IsSystemThen}
 
--- a seed of this site isn't there
+-- the first seed that isn't there, in the system's order, is of this site
 pub record LacksSeedAt (sys : TileSystem) (tiles : List Place) (site : Site) : Type 0 where
+  pub index : ℕ
   pub seed : Place
-  pub of_system : Contains sys.seeds seed
+  pub of_system : slice_get sys.seeds index ≡ Some seed
   pub missing : tile_at tiles seed.site ≢ Some seed.tile
   pub at : site ≡ seed.site
+  pub first : (k : ℕ) (p : Place) → k < index → slice_get sys.seeds k ≡ Some p → tile_at tiles p.site ≡ Some p.tile
 
--- the canonical order of the tiles, a legal sequence with exactly their placements; or the site of a seed that isn't there; or the seeds are there, and not all tiles can be reached from
+-- the canonical order of the tiles, a legal sequence with exactly their placements; or the site of the first seed that isn't there; or the seeds are there, and not all tiles can be reached from
 -- them: how many can't, and the least site of those
 abbrev pub IsReordering : TileSystem → List Place → Reordering → Type 0
 IsReordering sys tiles (Whole order) = IsWholeOrder sys tiles order

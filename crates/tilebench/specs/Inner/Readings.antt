@@ -6,28 +6,25 @@ use Rattle.tile_io.specs.declared.mark.Mark.{Mark}
 use Rattle.tile_io.specs.Formats.{Fault, Format, IsRead}
 use Rattle.tile_io.proofs.Laws.{not_both, reads_once}
 use Rattle.atam.specs.TileSystem.{TileSystem}
-use Rattle.tile_text.specs.SystemText.{ReadsSystem, system_format, system_items}
-use Rattle.tile_text.proofs.OneSystem.{reads_one_system}
+use Rattle.tile_text.specs.SystemText.{FaultAny, ReadsAny}
+use Rattle.tile_text.proofs.Eithers.{any_not_both, any_one_system}
 use Rattle.machine_text.specs.Machines.{TuringMachine}
 use Rattle.machine_text.specs.MachineText.{ReadsMachine, machine_format, machine_of}
 use Rattle.tilebench.specs.Inputs.{FailsWithin, FailsWithinAs, FailsWithinMachine, IsReadable, IsReadableAs, IsReadableMachine, first_mark}
 
 -- where a text of some kind has no fault, and is that of one value
-module _ {Value Front : Type 0} (IsText : List ℕ → Mark → Value → Mark → Type 0) (front : Format Front)
-    (faultless : (text : List ℕ) (from to : Mark) (value : Value) (number : ℕ) (cause : Cause) → IsText text from value to → Fault front text from number cause → ⊥)
+module _ {Value : Type 0} (IsText : List ℕ → Mark → Value → Mark → Type 0) (IsFault : List ℕ → Mark → ℕ → Cause → Type 0)
+    (faultless : (text : List ℕ) (from to : Mark) (value : Value) (number : ℕ) (cause : Cause) → IsText text from value to → IsFault text from number cause → ⊥)
     (one : (text : List ℕ) (from to end : Mark) (value other : Value) → IsText text from value to → IsText text from other end → (value ≡ other) × (to ≡ end)) where
   module _ {Item : Type 0} (format : Value → Format Item) (input : List ℕ) (fault : TextFault) where
     -- an input that reads as such a text and then one of the format has no fault
-    taken_or_faulty_as : IsReadableAs IsText front format input → FailsWithinAs IsText front format input fault → ⊥
+    taken_or_faulty_as : IsReadableAs IsText IsFault format input → FailsWithinAs IsText IsFault format input fault → ⊥
     taken_or_faulty_as (value, whole) (inl fails) = faultless input first_mark whole.end value fault.line fault.cause whole.reads fails
     taken_or_faulty_as (value, whole) (inr (other, behind)) =
         let same = one input first_mark whole.end behind.end value other whole.reads behind.reads in
         let there : IsRead (format other) input whole.end = subst (λ (v : Value). IsRead (format v) input whole.end) same.0 whole.rest in
         let here : IsRead (format other) input behind.end = subst (λ (mark : Mark). IsRead (format other) input mark) same.1 there in
         not_both (format other) input behind.end here.0 here.1 fault.line fault.cause here.2 behind.rest
-
-system_faultless : (text : List ℕ) (from to : Mark) (sys : TileSystem) (number : ℕ) (cause : Cause) → ReadsSystem text from sys to → Fault system_format text from number cause → ⊥
-system_faultless text from to sys number cause reads fails = not_both system_format text from (system_items sys) to number cause reads.items fails
 
 machine_faultless : (text : List ℕ) (from to : Mark) (M : TuringMachine) (number : ℕ) (cause : Cause) → ReadsMachine text from M to → Fault machine_format text from number cause → ⊥
 machine_faultless text from to M number cause reads fails = not_both machine_format text from reads.items to number cause reads.reads fails
@@ -39,8 +36,8 @@ one_machine text from to end M N reads other =
 
 -- of the text of a system
 pub taken_or_faulty : {Item : Type 0} (format : TileSystem → Format Item) (input : List ℕ) (fault : TextFault) → IsReadable format input → FailsWithin format input fault → ⊥
-taken_or_faulty format input fault taken fails = taken_or_faulty_as ReadsSystem system_format system_faultless reads_one_system format input fault taken fails
+taken_or_faulty format input fault taken fails = taken_or_faulty_as ReadsAny FaultAny any_not_both any_one_system format input fault taken fails
 
 -- of the text of a machine
 pub taken_or_faulty_machine : {Item : Type 0} (format : TuringMachine → Format Item) (input : List ℕ) (fault : TextFault) → IsReadableMachine format input → FailsWithinMachine format input fault → ⊥
-taken_or_faulty_machine format input fault taken fails = taken_or_faulty_as ReadsMachine machine_format machine_faultless one_machine format input fault taken fails
+taken_or_faulty_machine format input fault taken fails = taken_or_faulty_as ReadsMachine (Fault machine_format) machine_faultless one_machine format input fault taken fails

@@ -16,7 +16,7 @@ use crate::input::read_front;
 use crate::room::{Reply, Room};
 use crate::stop::Stop;
 use assembly::{Grid, Sequence};
-use local_check::{Verdict, inputs, judge};
+use local_check::{Verdict, inputs_of_grid, judge};
 use replay_order::{Legality, check_legal};
 use seq_text::{print_legality, print_verdict, read_sequence_once};
 use std::alloc::Global;
@@ -114,7 +114,7 @@ fn judgement_of(alloc: Global, sys: &System, sequence: &Sequence) -> Result<Judg
     let mut grid = Grid::make(alloc, sys.area())?;
     match check_legal(sys, sequence, &mut grid) {
         Legality::Legal => {
-            let sides = inputs(alloc, sys, sequence, &grid)?;
+            let sides = inputs_of_grid(alloc, sys, sequence, &grid)?;
             Ok(Judgement::Legal(judge(sys, sequence, &sides)))
         }
         breach => Ok(Judgement::Breach(breach)),

@@ -3,10 +3,11 @@ ghost use Rattle.std.specs.Prelude.{◌≡◌, ◌≤◌, List, length, IfOk};
 ghost use Rattle.tile_io.specs.declared.limits.TheConstants.{MOST_INPUT};
 ghost use Rattle.atam.specs.declared.place.Place.{Place};
 ghost use Rattle.atam.specs.Assembly.{Fits};
+ghost use Rattle.replay_order.specs.ReplayAnswers.{LacksSeed};
 ghost use Rattle.seq_text.specs.GrowthText.{grid_format};
 ghost use Rattle.tilebench.specs.Inner.Gives.{Gives};
 ghost use Rattle.tilebench.specs.Inputs.{FailsWithin, IsReadable};
-ghost use Rattle.tilebench.specs.Commands.Replay.{IsAssemblyOf, IsReordering, IsReplayAnswer, IsSystemThenPlacements, is_whole, reordering_text};
+ghost use Rattle.tilebench.specs.Commands.Replay.{IsAssemblyOf, IsReordering, IsReplayAnswer, LacksSeedAt, IsSystemThenPlacements, is_whole, reordering_text};
 ghost use Rattle.tilebench.specs.Inner.Rooms.{OrdersTypes};
 ghost use Rattle.tilebench.specs.Inner.Readings.{taken_or_faulty};
 
@@ -18,7 +19,7 @@ use replay_order::{ReplayStop, replay};
 use seq_text::{print_places, print_stuck, print_stuck_seed, read_grid_once};
 use std::alloc::Global;
 use tile_io::{Failed, Sink};
-use tile_system::{NoMemory, Site, System};
+use tile_system::{NoMemory, Placed, Site, System};
 
 /// The command.
 #[derive(Clone, Copy)]
@@ -54,7 +55,7 @@ pub struct Replayed {
 pub enum Reordering {
     /// The tiles in canonical order.
     Whole(Sequence),
-    /// The site of a seed that the assembly lacks.
+    /// The site of the first seed that the assembly lacks.
     SeedMissing(Site),
     /// How many tiles can't be reached from the seeds, and the least site of theirs.
     Stuck { left: u32, least: Site },
@@ -104,9 +105,21 @@ fn reordering_of(alloc: Global, sys: &System, grid: &Grid) -> Result<Reordering,
     let _area = sys.area();
     match replay(alloc, sys, grid) {
         Ok(order) => Ok(Reordering::Whole(order)),
-        // a system has one seed
-        Err(ReplayStop::NoSeedThere) => Ok(Reordering::SeedMissing(sys.seed().site)),
+        Err(ReplayStop::NoSeedThere) => Ok(Reordering::SeedMissing(missing_seed(sys, grid))),
         Err(ReplayStop::Stuck { left, least }) => Ok(Reordering::Stuck { left, least }),
         Err(ReplayStop::NoMemory) => Err(NoMemory),
     }
+}
+
+// The site of the first seed, in the system's order, that the assembly lacks.
+fn missing_seed(sys: &System, grid: &Grid) -> Site
+    requires { LacksSeed sys.now grid.now.tiles }
+    ensures { LacksSeedAt sys.now grid.now.tiles result }
+{
+    for seed in sys.seeds() {
+        if grid.at(seed.site) != Some(seed.tile) {
+            return seed.site;
+        }
+    }
+    unreachable!()
 }

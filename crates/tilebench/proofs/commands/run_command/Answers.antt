@@ -23,6 +23,9 @@ returns-in-Schedule g c = rw c.in-Schedule.is c.run-in-Schedule.ensures
 pub returns-in-Format : goal.returns-in-Format
 returns-in-Format g c = rw c.in-Format.is c.run-in-Format.ensures
 
+pub returns-in-Upgrade : goal.returns-in-Upgrade
+returns-in-Upgrade g c = rw c.in-Upgrade.is c.run-in-Upgrade.ensures
+
 pub returns-in-Report : goal.returns-in-Report
 returns-in-Report g c = rw c.in-Report.is c.run_growth-in-Report.ensures
 

@@ -1,6 +1,6 @@
 use Rattle.std.proofs.Common.{ℕ, List, refl, subst}
 use Rattle.tilebench.specs.Inputs.{IsSystemAlone}
-use Rattle.tilebench.proofs.Headlines.{valid_system}
+use Rattle.tile_text.proofs.Eithers.{any_valid}
 use Rattle.tilebench.proofs.Spelling.{spelled}
 use Rattle.tilebench.proofs.commands.format.FormatRoom.answer.Goals as goal
 
@@ -9,4 +9,4 @@ returns c =
     let sys = c.in_ok-sys.sys in
     let Alone : List ℕ → Type 0 = λ input. IsSystemAlone input sys in
     let read = subst Alone c.deref.ensures.value c.in_ok-sys.ensures in
-    record { answer = record { sys = sys; read = read; spelled = spelled sys (valid_system c.args.input.items _ read.end sys read.reads); answer = refl }; prints = tt }
+    record { answer = record { sys = sys; read = read; spelled = spelled sys (any_valid c.args.input.items _ read.end sys read.reads); answer = refl }; prints = tt }

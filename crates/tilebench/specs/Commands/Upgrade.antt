@@ -1,0 +1,12 @@
+-- What `upgrade` answers.
+use Rattle.std.specs.Prelude.{◌≡◌, ℕ, Bool, true, List}
+use Rattle.atam.specs.TileSystem.{TileSystem}
+use Rattle.tilebench.specs.Inputs.{IsSystemAlone}
+use Rattle.tilebench.specs.Spelled.{SpellsNewest}
+
+-- the input is the text of one system, and this its text in the newest version
+pub record IsUpgradeAnswer (input : List ℕ) (is_yes : Bool) (text : List ℕ) : Type 0 where
+  pub sys : TileSystem
+  pub read : IsSystemAlone input sys
+  pub spelled : SpellsNewest sys text
+  pub answer : is_yes ≡ true
