@@ -58,7 +58,7 @@ kinds_alone sys kinds none same =
     subst Is (sym same) (record {
       count = length-replicate (length sys.glues) Alone;
       lone = λ g is. lone_unpaired sys g none;
-      unpaired = λ no_pairs g is.
+      unpaired = λ none g is.
           let all = replicate (length sys.glues) Alone in
           let within : g.0 < length sys.glues = omega (arith, slice_get_within all g.0 Listed is, length-replicate (length sys.glues) Alone) in
           same_kind (sym (get_or-replicate (length sys.glues) g.0 Alone Listed within) ∙ get_or_from_slice_get all g.0 Listed Listed is);
