@@ -3,3 +3,4 @@ pub mod Looked
 pub mod Listing
 pub mod Ordering
 pub mod ClosedRows
+pub mod Logged

@@ -1,6 +1,6 @@
 -- One look at a site, and the lists of sites.
-use Rattle.std.proofs.Common.{◌≡◌, ◌≢◌, ◌⊎◌, ◌<◌, ◌≤◌, ◌+◌, ◌-◌, ◌*◌, ◌++◌, ℕ, List, [], ◌∷◌, length, length-append, Some, None, All, Contains, append-nil, append_assoc, get_or, pos, refl, sym, ◌∙◌, ap, subst, inl, inr, arith}
-use Rattle.std.proofs.lemmas.List.Elements.{Contains-append_left, All-nil, All-cons, All-append, Contains-get_or}
+use Rattle.std.proofs.Common.{◌≡◌, ◌≢◌, ◌⊎◌, ◌<◌, ◌≤◌, ◌+◌, ◌-◌, ◌*◌, ◌^◌, ◌++◌, ℕ, List, [], ◌∷◌, length, length-append, Some, None, All, Contains, append-nil, append_assoc, get_or, pos, refl, sym, ◌∙◌, ap, subst, inl, inr, arith}
+use Rattle.std.proofs.lemmas.List.Elements.{Contains-append_left, All-nil, All-cons, All-append, Contains-get_or, Contains-push, Contains-append_cases}
 use Rattle.std.proofs.lemmas.Option.{none-some}
 use Rattle.std.proofs.Math.Nat.{le_trans}
 use Rattle.atam.specs.declared.site.Site.{Site}
@@ -15,13 +15,14 @@ use Rattle.atam.specs.Growth.{IsCandidate, IsClosedInBox}
 use Rattle.atam.proofs.Bonds.{pull-mono}
 use Rattle.atam.proofs.Count.{count_in_box}
 use Rattle.atam.proofs.Lists.{some_or_none}
-use Rattle.atam.proofs.Placements.{Extends, Extends-IsPartOf, same_tiles}
+use Rattle.atam.proofs.Placements.{Extends, Extends-IsPartOf, Contains-tile_at, empty_in_part, same_tiles}
 use Rattle.atam.proofs.Sequences.{Fits-push}
 use Rattle.atam.proofs.Tiles.{same_back, SameTiles-put, SamePlacements-push, SamePlacements-trans}
 use Rattle.assembly.specs.Grids.{TileGrid}
 use Rattle.atam.proofs.Opening.{IsCandidate-same, Fits-part}
 use Rattle.grow_core.specs.declared.placed_tile.PlacedTile.{PlacedTile}
-use Rattle.grow_core.specs.Core.{ScoutState, least}
+use Rattle.grow_core.specs.Core.{ScoutState, least, places}
+use Rattle.grow_core.proofs.Listed.{unplaced, whole_place}
 use Rattle.grow_core.specs.Steps.{place, tile_of, Supports, Sees, Wins}
 use Rattle.site_table.specs.Seats.{SeatValue, GoesOn}
 use Rattle.site_table.specs.Rule.{IsPossible}
@@ -86,14 +87,16 @@ goes_by old mid new site t wins goes grid puts mine placer won = record {
   won = puts.won ∙ won;
 }
 
-pub claimed_by : (sys : TileSystem) (old mid new : Growing) (site : Site) (t : TypeId) → mid.grid ≡ old.grid → Puts (place site t) mid new → IsGrowing sys new → GrowsOn old new → ClaimsAt sys site old new
-claimed_by sys old mid new site t grid puts growing goes = record {
+pub claimed_by : (sys : TileSystem) (old mid new : Growing) (site : Site) (t : TypeId) → mid.grid ≡ old.grid → Puts (place site t) mid new → IsGrowing sys new → GrowsOn old new →
+    (old.seat.scout.owned ≡ 2 ^ 64 - 1 → IsCandidate sys old.grid.tiles site t) → ClaimsAt sys site old new
+claimed_by sys old mid new site t grid puts growing goes sole = record {
   growing = growing;
   goes = goes;
   tile = t;
   tiles = λ m. puts.tiles m ∙ ap (λ g. tile_at (g.tiles ++ place site t ∷ []) m) grid;
   placements = subst (λ g. SamePlacements (g.tiles ++ place site t ∷ []) new.grid.tiles) grid puts.placements;
   count = puts.count ∙ ap (λ g. length g.tiles + 1) grid;
+  sole = sole;
 }
 
 -- a seat that did nothing
@@ -172,23 +175,45 @@ tile_put old grid p area empty here others placements distinct count = record {
 
 -- a claim that is won
 pub claim_won : (sys : TileSystem) (old mid new : Growing) (site : Site) (t : TypeId) → IsGrowing sys old → InBox sys.area site → IsType sys t → GoesOn old.seat mid.seat → mid.grid ≡ old.grid →
-    mid.won ≡ old.won + 1 → Wins old.seat.scout (place site t) mid.seat.scout → Puts (place site t) mid new → ClaimsAt sys site old new
-claim_won sys old mid new site t growing inside kind goes grid won wins puts =
+    mid.won ≡ old.won + 1 → Wins old.seat.scout (place site t) mid.seat.scout → Puts (place site t) mid new → IsCandidate sys old.grid.tiles site t → ClaimsAt sys site old new
+claim_won sys old mid new site t growing inside kind goes grid won wins puts grows =
     let few = growing.few_wins in
     let n = least old.seat.scout.owned in
     claimed_by sys old mid new site t grid puts
     (grown_by sys old mid new site t growing inside kind goes grid wins.seen puts (omega (arith, won, few)))
     (goes_by old mid new site t (tile_of (place site t) n ∷ []) goes grid puts wins.mine
     (All-cons (λ (u : PlacedTile). u.placer ≡ n) (tile_of (place site t) n) [] refl (All-nil (λ (u : PlacedTile). u.placer ≡ n))) (omega (arith, won)))
+    (λ _. grows)
 
 -- and one that is lost
 pub claim_lost : (sys : TileSystem) (old mid new : Growing) (site : Site) (t : TypeId) → IsGrowing sys old → InBox sys.area site → IsType sys t → GoesOn old.seat mid.seat → mid.grid ≡ old.grid →
-    mid.won ≡ old.won → Sees old.seat.scout (place site t) mid.seat.scout → Puts (place site t) mid new → ClaimsAt sys site old new
-claim_lost sys old mid new site t growing inside kind goes grid won sees puts =
+    mid.won ≡ old.won → Sees old.seat.scout (place site t) mid.seat.scout → Puts (place site t) mid new → (old.seat.scout.owned ≢ 2 ^ 64 - 1) → ClaimsAt sys site old new
+claim_lost sys old mid new site t growing inside kind goes grid won sees puts shared =
     let few = growing.few_wins in
     claimed_by sys old mid new site t grid puts
     (grown_by sys old mid new site t growing inside kind goes grid sees.seen puts (omega (arith, won, few)))
     (goes_by old mid new site t [] goes grid puts (sees.mine ∙ sym (append-nil old.seat.scout.mine)) (All-nil (λ (u : PlacedTile). u.placer ≡ least old.seat.scout.owned)) (omega (arith, won)))
+    (λ all. absurd (shared all))
+
+-- who owns all numbers has seen each tile that stands, and no claim is lost
+never_held : (sys : TileSystem) (v w : ScoutState) (m : Site) (t : TypeId) → IsPossible sys v → IsPossible sys w → tile_at v.seen m ≡ None → Sees v (place m t) w → v.owned ≢ 2 ^ 64 - 1
+never_held sys v w m t before after empty sees all =
+    let p : Place = place m t in
+    let seen : Contains w.seen p = sees.seen.part p (Contains-push v.seen p) in
+    let unseen : ¬ Contains v.seen p = λ c. none-some t (sym empty ∙ Contains-tile_at v.seen p before.scout.distinct c) in
+    elim (Contains-append_cases sys.seeds (places w.mine) p (whole_place sys after.tiles w after.history after.scout (sees.owned ∙ all) p (after.scout.part p seen))) [
+      | inl seed ↦ unseen (before.scout.seeds p seed)
+      | inr won ↦
+          let tile = unplaced w.mine p won in
+          unseen (subst (Contains v.seen) tile.2 (before.scout.mine_seen tile.0 (subst (λ (l : List PlacedTile). Contains l tile.0) sees.mine tile.1)))
+    ]
+
+-- so it is at a site that is empty in the grid
+pub never_lost : (sys : TileSystem) (old : Growing) (w : ScoutState) (m : Site) (t : TypeId) → IsGrowing sys old → IsPossible sys old.seat.scout → IsPossible sys w → tile_at old.grid.tiles m ≡ None → Sees old.seat.scout (place m t) w → old.seat.scout.owned ≢ 2 ^ 64 - 1
+never_lost sys old w m t growing before after empty sees =
+    let seen = old.seat.scout.seen in
+    let same = same_tiles seen old.grid.tiles before.scout.distinct growing.distinct growing.seen in
+    never_held sys old.seat.scout w m t before after (empty_in_part seen old.grid.tiles m same.0 empty) sees
 
 -- a growth starts
 pub growth_start : (sys : TileSystem) (seat : SeatValue) (grid : TileGrid) → seat.sys ≡ sys → grid.area ≡ sys.area → SamePlacements seat.scout.seen grid.tiles → HasDistinctSites grid.tiles → IsPossible seat.sys seat.scout →

@@ -1,6 +1,8 @@
 -- Tiles at the least open site, in their order.
-use Rattle.std.proofs.Common.{◌≡◌, ◌<◌, ◌≤◌, ◌++◌, length, List, [], ◌∷◌, sym, subst, arith}
+use Rattle.std.proofs.Common.{◌≡◌, ◌<◌, ◌≤◌, ◌+◌, ◌-◌, ◌^◌, ◌++◌, ℕ, length, length-append, List, [], ◌∷◌, map, All, Contains, append-nil, append_assoc, sym, ◌∙◌, ap, subst, arith}
 use Rattle.std.proofs.lemmas.Int.{ints}
+use Rattle.std.proofs.lemmas.List.{length-map, map_push}
+use Rattle.std.proofs.lemmas.List.Elements.{All-nil, All-push, Contains-append_right}
 use Rattle.atam.specs.declared.site.Site.{Site}
 use Rattle.atam.specs.declared.place.TypeId.{TypeId}
 use Rattle.atam.specs.declared.place.Place.{Place}
@@ -23,10 +25,13 @@ use Rattle.assembly.specs.Grids.{TileGrid}
 use Rattle.assembly.proofs.Cells.{index_of, not_before}
 use Rattle.grow_core.specs.Steps.{place}
 use Rattle.number_set.specs.Numbers.{Numbers, IsIn, IsLeastOf}
+use Rattle.frontier_seat.specs.declared.growing.Growing.{Growing}
 use Rattle.frontier_seat.specs.declared.work_list.Spot.{Spot}
-use Rattle.frontier_seat.specs.Inner.Fillings.{Fills, GrewInOrder, IsFilling}
+use Rattle.frontier_seat.specs.Growths.{IsGrowing}
+use Rattle.frontier_seat.specs.Orders.{AreCanonicalClaims}
+use Rattle.frontier_seat.specs.Inner.Fillings.{Fills, GrewByNumbers, GrewInOrder, IsFilling}
 use Rattle.frontier_seat.specs.Inner.Listings.{IsSpot}
-use Rattle.frontier_seat.specs.Inner.Looks.{IsClosedBut}
+use Rattle.frontier_seat.specs.Inner.Looks.{ClaimsAt, IsClosedBut}
 
 -- the seeds alone
 pub order_start : (sys : TileSystem) (tiles order : List Place) → IsValid sys → SamePlacements sys.seeds tiles → order ≡ sys.seeds → GrewInOrder sys tiles order
@@ -69,16 +74,70 @@ pub order_stays : (sys : TileSystem) (tiles after old new : List Place) → afte
 order_stays sys tiles after old new same_tiles same order =
     subst (λ (l : List Place). GrewInOrder sys l new) (sym same_tiles) (subst (λ (l : List Place). GrewInOrder sys tiles l) (sym same) order)
 
+-- no claim yet
+pub numbers_start : (sys : TileSystem) (tiles : List Place) (numbers : List ℕ) → IsValid sys → SamePlacements sys.seeds tiles → numbers ≡ [] → GrewByNumbers sys tiles numbers
+numbers_start sys tiles numbers valid same none = record {
+  claims = [];
+  sites = ap (map (site_at sys.area)) (sym none);
+  within = subst (All (λ n. n < cell_count sys.area)) (sym none) (All-nil (λ n. n < cell_count sys.area));
+  grew = order_start sys tiles (sys.seeds ++ []) valid same (append-nil sys.seeds);
+}
+
+-- one claim more of who owns all numbers
+pub numbers_more : (sys : TileSystem) (before after : Growing) (spot : Spot) (old new : List ℕ) → IsGrowing sys before → IsSpot sys.area spot → before.seat.scout.owned ≡ 2 ^ 64 - 1 →
+    ((n : Site) (u : TypeId) → InBox sys.area n → IsCandidate sys before.grid.tiles n u → ¬ IsBefore n spot.site) →
+    ClaimsAt sys spot.site before after → new ≡ old ++ spot.number ∷ [] → GrewByNumbers sys before.grid.tiles old → GrewByNumbers sys after.grid.tiles new
+numbers_more sys before after spot old new growing is all least claim longer order =
+    let p : Place = place spot.site claim.tile in
+    let claims = order.claims in
+    let fills : Fills sys spot.site before.grid.tiles after.grid.tiles (sys.seeds ++ claims) (sys.seeds ++ (claims ++ p ∷ [])) =
+    record { tile = claim.tile; grows = claim.sole all; placements = claim.placements; logged = sym (append_assoc sys.seeds claims (p ∷ [])) } in
+    record {
+      claims = claims ++ p ∷ [];
+      sites = map_push (λ (q : Place). q.site) claims p ∙ ap (λ (l : List Site). l ++ spot.site ∷ []) order.sites
+          ∙ ap (λ (m : Site). map (site_at sys.area) old ++ m ∷ []) (sym is.site) ∙ sym (map_push (site_at sys.area) old spot.number) ∙ ap (map (site_at sys.area)) (sym longer);
+      within = subst (All (λ n. n < cell_count sys.area)) (sym longer) (All-push (λ n. n < cell_count sys.area) old spot.number order.within is.within);
+      grew = order_more sys before.grid.tiles after.grid.tiles spot.site (sys.seeds ++ claims) (sys.seeds ++ (claims ++ p ∷ [])) growing.distinct least fills order.grew;
+    }
+
+-- or none
+pub numbers_stay : (sys : TileSystem) (before after : Growing) (old new : List ℕ) → after ≡ before → new ≡ old → GrewByNumbers sys before.grid.tiles old → GrewByNumbers sys after.grid.tiles new
+numbers_stay sys before after old new same_growing same order =
+    subst (λ (g : Growing). GrewByNumbers sys g.grid.tiles new) (sym same_growing) (subst (λ (l : List ℕ). GrewByNumbers sys before.grid.tiles l) (sym same) order)
+
 -- at most as many tiles as the box has sites
 pub few_logged : (sys : TileSystem) (tiles order : List Place) → IsValid sys → Fits sys tiles → GrewInOrder sys tiles order → length order ≤ cell_count sys.area
 few_logged sys tiles order valid fits grew =
     count_in_box sys.area order (IsLegal-distinct sys order valid.distinct_seeds grew.legal) (Fits-part sys order tiles grew.same.part fits).sites
+
+-- and as many claims, beside the seeds
+pub few_claims : (sys : TileSystem) (tiles : List Place) (numbers : List ℕ) → IsValid sys → Fits sys tiles → GrewByNumbers sys tiles numbers → length numbers + length sys.seeds ≤ cell_count sys.area
+few_claims sys tiles numbers valid fits order =
+    let few = few_logged sys tiles (sys.seeds ++ order.claims) valid fits order.grew in
+    let both = length-append sys.seeds order.claims in
+    let many : length order.claims ≡ length numbers = sym (length-map order.claims (λ (p : Place). p.site)) ∙ (ap length order.sites ∙ length-map numbers (site_at sys.area)) in
+    omega (arith, few, both, many)
 
 -- growth in order has its canonical sequence
 pub canonical_order : (sys : TileSystem) (tiles order : List Place) → IsValid sys → Fits sys tiles → GrewInOrder sys tiles order → IsCanonical sys tiles order
 canonical_order sys tiles order valid fits grew =
     let order_fits : Fits sys order = Fits-part sys order tiles grew.same.part fits in
     canonical_too sys order tiles grew.same order (canonical_of sys order valid.distinct_seeds order_fits grew.legal grew.least)
+
+-- by the numbers of its sites, too
+pub canonical_claims : (sys : TileSystem) (tiles : List Place) (numbers : List ℕ) → IsValid sys → Fits sys tiles → GrewByNumbers sys tiles numbers → AreCanonicalClaims sys tiles numbers
+canonical_claims sys tiles numbers valid fits order =
+    let few = few_claims sys tiles numbers valid fits order in
+    let stand = λ (p : Place) (c : Contains order.claims p). order.grew.same.part p (Contains-append_right sys.seeds order.claims p c) in
+    record {
+      claims = order.claims;
+      sites = order.sites;
+      within = order.within;
+      few = omega (arith, few);
+      fits = Fits-part sys order.claims tiles stand fits;
+      stand = stand;
+      canonical = canonical_order sys tiles (sys.seeds ++ order.claims) valid fits order.grew;
+    }
 
 -- and is a full one once the box is closed
 pub full_growth : (sys : TileSystem) (grid : TileGrid) (order : List Place) → IsFilling sys grid → IsClosedInBox sys grid.tiles → GrewInOrder sys grid.tiles order → IsFullGrowth sys grid.tiles

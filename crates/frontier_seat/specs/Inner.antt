@@ -2,4 +2,5 @@
 pub mod Listings
 pub mod Looks
 pub mod Fillings
+pub mod Types
 pub mod Pickers

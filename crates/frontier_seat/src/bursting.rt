@@ -36,7 +36,7 @@ pub(crate) fn spend<C: Chooser, L: Ledger>(
     table: &SiteTable,
     growing: &mut Growing,
     chooser: &mut C,
-    picker: &mut Picker,
+    picker: &mut Picker<'_>,
     work: &mut WorkList,
     most: u32,
     steps: &mut Steps<L>,
@@ -77,7 +77,7 @@ pub(crate) fn is_open<C: Chooser>(
     sys: &System,
     growing: &Growing,
     chooser: &mut C,
-    picker: &mut Picker,
+    picker: &mut Picker<'_>,
     work: &mut WorkList,
 ) -> bool
     requires growing { IsGrowing sys.now growing.now }
@@ -106,7 +106,7 @@ fn attaches<C: Chooser>(
     sys: &System,
     growing: &Growing,
     chooser: &mut C,
-    picker: &mut Picker,
+    picker: &mut Picker<'_>,
     spot: Spot,
 ) -> bool
     requires growing { IsGrowing sys.now growing.now }

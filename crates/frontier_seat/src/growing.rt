@@ -63,7 +63,10 @@ impl Growing {
                 self.won += 1;
                 self.put(Place { site, tile }, number)
             }
-            Claimed::Held(there) => self.put(Place { site, tile: there }, number),
+            Claimed::Held(there) => {
+                let _owned = self.seat.owned();
+                self.put(Place { site, tile: there }, number)
+            }
         }
     }
 
@@ -79,11 +82,13 @@ impl Growing {
         ensures { MatchBool result (ClaimsAt sys.now spot.site self.old self.new)
             (self.new ≡ self.old) }
     {
+        let _owned = self.seat.owned();
         let _area = sys.area();
         let Spot { site, number } = spot;
         let Some(tile) = table.look_at(&mut self.seat, site, number) else {
             return false;
         };
+        let _owned = self.seat.owned();
         self.put(Place { site, tile }, number);
         true
     }

@@ -12,13 +12,14 @@ ghost use Rattle.frontier_seat.specs.Inner.Pickers.{IsPickerOf};
 
 use crate::Chooser;
 use crate::picking::Picker;
+use crate::types::Types;
 use crate::work_list::{Spot, WorkList};
 use assembly::{Grid, PlaceLog, Row, Sequence, put_seeds, site_index};
 use std::alloc::Global;
 use tile_system::{NoMemory, Place, System};
 
 // Lists the empty sites beside the seeds, which are all that stands.
-fn list_beside_seeds(sys: &System, grid: &Grid, work: &mut WorkList)
+pub(crate) fn list_beside_seeds(sys: &System, grid: &Grid, work: &mut WorkList)
     requires filling { IsFilling sys.now grid.now }
     requires start { SamePlacements sys.now.seeds grid.now.tiles }
     requires area { work.old.area ≡ sys.now.area }
@@ -42,7 +43,7 @@ fn fill<C: Chooser>(
     sys: &System,
     grid: &mut Grid,
     chooser: &mut C,
-    picker: &mut Picker,
+    picker: &mut Picker<'_>,
     spot: Spot,
     work: &mut WorkList,
     log: &mut PlaceLog,
@@ -85,7 +86,7 @@ fn fill_all<C: Chooser>(
     sys: &System,
     grid: &mut Grid,
     chooser: &mut C,
-    picker: &mut Picker,
+    picker: &mut Picker<'_>,
     work: &mut WorkList,
     log: &mut PlaceLog,
 )
@@ -129,7 +130,7 @@ pub fn fill_least_first<C: Chooser>(
     put_seeds(sys, &mut grid);
     let _grid = grid.area();
     let mut log = PlaceLog::make(alloc, sys)?;
-    let mut picker = Picker::make(alloc, sys)?;
+    let mut picker = Picker::make(alloc, sys, Types::build(alloc, sys)?)?;
     let mut work = WorkList::make(alloc, area)?;
     fill_all(sys, &mut grid, chooser, &mut picker, &mut work, &mut log);
     Ok((grid, log.into_sequence()))

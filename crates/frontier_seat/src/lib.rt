@@ -5,15 +5,19 @@
 mod bursting;
 mod catching;
 mod chooser;
+mod claim_log;
 mod growing;
 mod in_order;
 mod picking;
 mod scout;
 mod share;
+mod sweeping;
+mod types;
 mod work_list;
 
 pub use bursting::Burst;
 pub use chooser::{Chooser, First, RngChooser, Wanderer};
+pub use claim_log::ClaimLog;
 pub use growing::Growing;
 pub use in_order::fill_least_first;
 pub use scout::Scout;

@@ -4,30 +4,37 @@ ghost use Rattle.atam.specs.Sites.{IsNearSite};
 ghost use Rattle.atam.specs.Placements.{tile_at};
 ghost use Rattle.atam.specs.Assembly.{Fits};
 ghost use Rattle.tile_system.specs.Neighbors.{StandBeside};
+ghost use Rattle.type_index.specs.Indexes.{IsIndexOf};
 ghost use Rattle.frontier_seat.specs.Inner.Looks.{IsOpenType};
 ghost use Rattle.frontier_seat.specs.Inner.Pickers.{IsPickerOf};
 
 use crate::Chooser;
+use crate::types::Types;
 use assembly::Grid;
 use attach_rule::TypeList;
 use std::alloc::Global;
 use tile_system::{Beside, NoMemory, Site, System, TypeId};
-use type_index::{FacingCache, TypeIndex};
+use type_index::FacingCache;
 
 // An index of types, what was found by it before, and room for all types.
 #[derive(Drop)]
-pub(crate) struct Picker {
-    index: TypeIndex,
+pub(crate) struct Picker<'i> {
+    types: Types<'i>,
     cache: FacingCache,
     list: TypeList,
 }
 
-impl Picker {
-    pub(crate) fn make(alloc: Global, sys: &System) -> Result<Picker, NoMemory>
+impl<'i> Picker<'i> {
+    pub(crate) fn make(
+        alloc: Global,
+        sys: &System,
+        types: Types<'i>,
+    ) -> Result<Picker<'i>, NoMemory>
+        requires { IsIndexOf sys.now types }
         ensures { IfOk result (IsPickerOf sys.now) }
     {
         Ok(Picker {
-            index: TypeIndex::build(alloc, sys)?,
+            types,
             cache: FacingCache::make(alloc, sys)?,
             list: TypeList::make(alloc, sys)?,
         })
@@ -54,7 +61,7 @@ impl Picker {
     {
         let found = self
             .cache
-            .found_beside(sys, &self.index, grid, site, beside);
+            .found_beside(sys, self.types.index(), grid, site, beside);
         if found.count > 2 {
             return self.pick_listed(sys, grid, site, chooser);
         }
@@ -82,7 +89,9 @@ impl Picker {
         ensures open { IsOpenType sys.now grid.now.tiles site result }
         ensures picker { IsPickerOf sys.now self.new }
     {
-        self.index.candidates(sys, grid, site, &mut self.list);
+        self.types
+            .index()
+            .candidates(sys, grid, site, &mut self.list);
         let count = self.list.len();
         if count == 0 {
             return None;

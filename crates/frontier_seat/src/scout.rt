@@ -3,11 +3,12 @@ ghost use Rattle.std.specs.Prelude.{◌≡◌, ◌⊎◌, ◌<◌, ◌≤◌, �
 ghost use Rattle.atam.specs.TileSystem.{IsValid};
 ghost use Rattle.atam.specs.Placements.{SamePlacements, tile_at};
 ghost use Rattle.atam.specs.Growth.{IsClosedInBox};
-ghost use Rattle.atam.specs.Canonical.{IsCanonical};
 ghost use Rattle.assembly.specs.Cells.{cell_count};
 ghost use Rattle.site_table.specs.Seats.{IsSeatOf};
 ghost use Rattle.site_table.specs.Laws.{IsFinal};
 ghost use Rattle.frontier_seat.specs.Growths.{EndsBurst, IsGrowing, GrowsOn};
+ghost use Rattle.frontier_seat.specs.Orders.{AreCanonicalClaims};
+ghost use Rattle.type_index.specs.Indexes.{IsIndexOf};
 ghost use Rattle.number_set.specs.Numbers.{IsIn};
 ghost use Rattle.frontier_seat.specs.Inner.Listings.{AreEmptySites, IsSpot};
 ghost use Rattle.frontier_seat.specs.Inner.Looks.{ClaimsAt, IsClosedBut, ListsOpen, LooksAt, MayList};
@@ -15,9 +16,12 @@ ghost use Rattle.frontier_seat.specs.Inner.Pickers.{IsPickerOf};
 
 use crate::bursting::{is_open, spend};
 use crate::catching::see_edges;
+use crate::in_order::list_beside_seeds;
 use crate::picking::Picker;
+use crate::sweeping::look_in_order;
+use crate::types::Types;
 use crate::work_list::{Spot, WorkList};
-use crate::{Burst, Chooser, Growing};
+use crate::{Burst, Chooser, ClaimLog, Growing};
 use assembly::Grid;
 use site_table::{SiteSeat, SiteTable};
 use std::alloc::Global;
@@ -25,21 +29,22 @@ use std::marker::Model;
 use std::sync::ledger::Ledger;
 use tile_io::Steps;
 use tile_system::System;
+use type_index::TypeIndex;
 
 // More claims than a box has sites.
 const MOST_CLAIMS: u32 = u32::MAX;
 
-/// A seat with the grid of what it has seen, an index of types, and room to work: with the grid,
-/// two bytes and an eighth a site.
+/// A seat with the grid of what it has seen, an index of types, which may be lent to it, and room to
+/// work: with the grid, two bytes and an eighth a site.
 #[derive(Drop)]
-pub struct Scout {
+pub struct Scout<'i> {
     growing: Growing,
-    picker: Picker,
+    picker: Picker<'i>,
     work: WorkList,
     listed: bool,
 }
 
-impl Model for Scout {
+impl<'i> Model for Scout<'i> {
     ghost use Rattle.std.specs.Prelude.{◌≡◌};
     ghost use Rattle.frontier_seat.specs.declared.growing.Growing.{Growing};
     ghost use Rattle.frontier_seat.specs.Growths.{IsGrowing};
@@ -64,7 +69,7 @@ pub(crate) fn look<C: Chooser, L: Ledger>(
     table: &SiteTable,
     growing: &mut Growing,
     chooser: &mut C,
-    picker: &mut Picker,
+    picker: &mut Picker<'_>,
     spot: Spot,
     work: &mut WorkList,
     steps: &mut Steps<L>,
@@ -113,15 +118,69 @@ fn list(sys: &System, growing: &Growing, listed: bool, work: &mut WorkList)
     work.list_frontier(&growing.grid);
 }
 
-impl Scout {
-    /// A scout of this seat. The grid is what the seat has seen. All its room is made here; where
-    /// memory is wanting both come back.
+// The same where the seeds alone were seen, without a look at each site.
+fn list_seeded(sys: &System, growing: &Growing, listed: bool, work: &mut WorkList)
+    requires growing { IsGrowing sys.now growing.now }
+    requires start { SamePlacements sys.now.seeds growing.now.grid.tiles }
+    requires area { work.old.area ≡ sys.now.area }
+    requires may { MayList sys.now growing.now.grid.tiles listed work.old.numbers }
+    ensures area { work.new.area ≡ work.old.area }
+    ensures lists { ListsOpen sys.now growing.now.grid.tiles work.new.numbers }
+{
+    if listed {
+        return;
+    }
+    list_beside_seeds(sys, &growing.grid, work);
+}
+
+impl<'i> Scout<'i> {
+    /// A scout of this seat, with an index of types of its own. The grid is what the seat has seen.
+    /// All its room is made here; where memory is wanting both come back.
     pub fn make(
         alloc: Global,
         sys: &System,
         seat: SiteSeat,
         seen: Grid,
-    ) -> Result<Scout, (SiteSeat, Grid)>
+    ) -> Result<Scout<'i>, (SiteSeat, Grid)>
+        requires system { seat.sys ≡ sys.now }
+        requires area { seen.area ≡ sys.now.area }
+        requires seen { SamePlacements seat.scout.seen seen.tiles }
+        ensures ok { IfOk result (λ scout. scout ≡ record { seat = seat; grid = seen; won = 0 }) }
+        ensures err { IfErr result (λ parts. parts ≡ (seat, seen)) }
+    {
+        let Ok(types) = Types::build(alloc, sys) else {
+            return Err((seat, seen));
+        };
+        Scout::with_types(alloc, sys, types, seat, seen)
+    }
+
+    /// The same with an index of types that is lent to it, as one index serves many scouts.
+    pub fn with_index(
+        alloc: Global,
+        sys: &System,
+        index: &'i TypeIndex,
+        seat: SiteSeat,
+        seen: Grid,
+    ) -> Result<Scout<'i>, (SiteSeat, Grid)>
+        requires index { IsIndexOf sys.now index.now }
+        requires system { seat.sys ≡ sys.now }
+        requires area { seen.area ≡ sys.now.area }
+        requires seen { SamePlacements seat.scout.seen seen.tiles }
+        ensures ok { IfOk result (λ scout. scout ≡ record { seat = seat; grid = seen; won = 0 }) }
+        ensures err { IfErr result (λ parts. parts ≡ (seat, seen)) }
+    {
+        Scout::with_types(alloc, sys, Types::lent(index), seat, seen)
+    }
+
+    // The same, whoever owns the index.
+    fn with_types(
+        alloc: Global,
+        sys: &System,
+        types: Types<'i>,
+        seat: SiteSeat,
+        seen: Grid,
+    ) -> Result<Scout<'i>, (SiteSeat, Grid)>
+        requires types { IsIndexOf sys.now types }
         requires system { seat.sys ≡ sys.now }
         requires area { seen.area ≡ sys.now.area }
         requires seen { SamePlacements seat.scout.seen seen.tiles }
@@ -131,7 +190,7 @@ impl Scout {
         let area = sys.area();
         let _owned = seat.owned();
         let _area = seen.area();
-        let Ok(picker) = Picker::make(alloc, sys) else {
+        let Ok(picker) = Picker::make(alloc, sys, types) else {
             return Err((seat, seen));
         };
         let Ok(work) = WorkList::make(alloc, area) else {
@@ -188,6 +247,48 @@ impl Scout {
     {
         let _area = sys.area();
         self.burst(sys, table, chooser, 0, 1, MOST_CLAIMS, steps);
+    }
+
+    /// The same for who owns all numbers and has seen the seeds alone: it always claims the least
+    /// open site, and logs it. With the seeds before them, the claims are then the canonical sequence
+    /// of what has grown (`law_least_first`).
+    pub fn sweep_in_order<C: Chooser, L: Ledger>(
+        &mut self,
+        sys: &System,
+        table: &SiteTable,
+        chooser: &mut C,
+        steps: &mut Steps<L>,
+        log: &mut ClaimLog,
+    )
+        requires seat { IsSeatOf table.now self.old.seat }
+        requires system { table.now.sys ≡ sys.now }
+        requires sole { self.old.seat.scout.owned ≡ 2 ^ 64 - 1 }
+        requires start { SamePlacements sys.now.seeds self.old.grid.tiles }
+        requires none { log.old.numbers ≡ [] }
+        requires room { cell_count sys.now.area ≤ log.old.room }
+        ensures goes { GrowsOn self.old self.new }
+        ensures closed { IsClosedInBox sys.now self.new.grid.tiles }
+        ensures seen { SamePlacements self.new.seat.scout.seen self.new.grid.tiles }
+        ensures last { IsFinal sys.now self.new.seat.scout }
+        ensures order { AreCanonicalClaims sys.now self.new.grid.tiles log.new.numbers }
+        ensures cost { steps.new + length self.old.grid.tiles
+            ≡ steps.old + length self.new.grid.tiles }
+        ensures few { steps.new < steps.old + cell_count sys.now.area }
+    {
+        list_seeded(sys, &self.growing, self.listed, &mut self.work);
+        self.listed = true;
+        look_in_order(
+            sys,
+            table,
+            &mut self.growing,
+            chooser,
+            &mut self.picker,
+            &mut self.work,
+            steps,
+            log,
+        );
+        let _area = sys.area();
+        let _owned = self.growing.seat.owned();
     }
 
     /// Claims as a sweep does, at most so many times, and says whether the box is closed then. Of
@@ -269,8 +370,8 @@ impl Scout {
 
     /// The seat, and what it has seen.
     pub fn end(self) -> (SiteSeat, Grid)
-        ensures seat { result.0 ≡ self.seat }
-        ensures grid { result.1 ≡ self.grid }
+        ensures seat { result.0 ≡ self.entry.seat }
+        ensures grid { result.1 ≡ self.entry.grid }
         ensures same { SamePlacements result.0.scout.seen result.1.tiles }
     {
         let growing = self.growing;

@@ -227,8 +227,11 @@ impl WorkList {
         ensures least { IfSome result (IsLeastOf self.old.numbers) }
         ensures removed { IfSome result (Removes self.old.numbers self.new.numbers) }
         ensures none { IfNone result ((n : ℕ) → ¬ IsIn self.old.numbers n) }
+        ensures same { IfNone result (self.new ≡ self.old) }
     {
-        self.numbers.pop_least()
+        let number = self.numbers.least()?;
+        self.numbers.remove(number);
+        Some(number)
     }
 
     // Lists the site on one side, if it is in the box and no tile is there.

@@ -1,3 +1,4 @@
-pub mod Numbering
 pub mod Winning
+pub mod Numbering
 pub mod Ordering
+pub mod Joined

@@ -32,6 +32,7 @@ use Rattle.atam.proofs.Placements.{same_place}
 use Rattle.grow_core.proofs.Own.{mine_tile}
 use Rattle.grow_core.proofs.Listed.{owned-below, unplaced}
 use Rattle.grow_core.proofs.Stepped.{quiet}
+use Rattle.grow_workers.specs.declared.leavings.Part.{Part}
 use Rattle.grow_workers.specs.Inner.Wins.{HasNumbers, IsParted, OthersWin, PartedGrowth}
 use Rattle.grow_workers.specs.Workers.{Gains, GrewOn, IsGrowth, greatest_but, worker_number}
 use Rattle.atam.proofs.Lists.{Contains-here}
@@ -65,6 +66,13 @@ alone_grew sys old start before after seat grid none area goes seen =
           ∙ (ap (λ l. placed_by n old.scout.mine ++ l) (by_none n goes.wins (λ t c e. other (sym e ∙ All-contains (λ (u : PlacedTile). u.placer ≡ least old.scout.owned) goes.wins t placer c)))
           ∙ append-nil (placed_by n old.scout.mine)));
     }
+
+-- what its scout leaves
+pub scout_grew : (sys : TileSystem) (old : SeatValue) (start : TileGrid) (before after : Growing) (part : Part) → before ≡ record { seat = old; grid = start; won = 0 } → after ≡ record { seat = part.seat; grid = part.grid; won = part.won } →
+    start.area ≡ sys.area → GrowsOn before after → SamePlacements part.seat.scout.seen part.grid.tiles → PartedGrowth sys old start part.seat part.grid part.won []
+scout_grew sys old start before after part begun left area goes seen =
+    let left_over : Growing = record { seat = part.seat; grid = part.grid; won = part.won } in
+    alone_grew sys old start before left_over (ap (λ (g : Growing). g.seat) begun) (ap (λ (g : Growing). g.grid) begun) (ap (λ (g : Growing). g.won) begun) area (subst (GrowsOn before) left goes) seen
 
 -- where nothing was done
 pub nothing_grew : (sys : TileSystem) (seat : SeatValue) (grid : TileGrid) → grid.area ≡ sys.area → SamePlacements seat.scout.seen grid.tiles → PartedGrowth sys seat grid seat grid 0 []
@@ -118,6 +126,12 @@ SamePlacements-append a b c d first second = record {
   part = λ p in_both. elim (Contains-append_cases a b p in_both) [ inl one ↦ Contains-append_left c d p (first.part p one) | inr other ↦ Contains-append_right c d p (second.part p other) ];
   whole = λ p in_both. elim (Contains-append_cases c d p in_both) [ inl one ↦ Contains-append_left a b p (first.whole p one) | inr other ↦ Contains-append_right a b p (second.whole p other) ];
 }
+
+-- what a seat that joined another has seen is what both grids have
+pub united_seen : (one other all tiles more both : List Place) → SamePlacements one tiles → SamePlacements other more → SamePlacements (one ++ other) all → SamePlacements (tiles ++ more) both → SamePlacements all both
+united_seen one other all tiles more both first second joined merged =
+    SamePlacements-trans all (one ++ other) both (same_back (one ++ other) all joined)
+    (SamePlacements-trans (one ++ other) (tiles ++ more) both (SamePlacements-append one other tiles more first second) merged)
 
 -- Workers on the kept part of a seat and one on the given part are workers on the whole.
 module _ (sys : TileSystem) (old kept0 kept1 given0 given1 new : SeatValue) (start grid other both : TileGrid) (first won : ℕ) (others : List ℕ) (parted : IsParted old kept0 given0)
@@ -200,8 +214,7 @@ module _ (sys : TileSystem) (old kept0 kept1 given0 given1 new : SeatValue) (sta
       (subst (λ m. OthersWin kept0.scout.mine kept1.scout.mine m others) parted.is_kept.owned rest.others_win)
 
   seen_both : SamePlacements new.scout.seen both.tiles
-  seen_both = SamePlacements-trans new.scout.seen (kept1.scout.seen ++ given1.scout.seen) both.tiles (same_back (kept1.scout.seen ++ given1.scout.seen) new.scout.seen joined.seen)
-      (SamePlacements-trans (kept1.scout.seen ++ given1.scout.seen) (grid.tiles ++ other.tiles) both.tiles (SamePlacements-append kept1.scout.seen given1.scout.seen grid.tiles other.tiles rest.seen part.seen) merged)
+  seen_both = united_seen kept1.scout.seen given1.scout.seen new.scout.seen grid.tiles other.tiles both.tiles rest.seen part.seen joined.seen merged
 
   pub united_grew : PartedGrowth sys old start new both first (won ∷ others)
   united_grew = record {
@@ -395,6 +408,10 @@ out_seen sys new grid out distinct seen closed closes =
     let seen_closed : IsClosedInBox sys new.scout.seen = closed_same sys new.scout.seen grid.tiles closes.scout.distinct distinct seen closed in
     let quiet_is = quiet sys closes.tiles new.scout closes.history closes.scout seen_closed in
     SamePlacements-trans out.grid.tiles (places closes.tiles) new.scout.seen (same_back (places closes.tiles) out.grid.tiles closes.same) (same_back new.scout.seen (places closes.tiles) quiet_is)
+
+pub grid_left : (sys : TileSystem) (new : SeatValue) (grid : TileGrid) (out : GrownValue) → HasDistinctSites grid.tiles → SamePlacements new.scout.seen grid.tiles → IsClosedInBox sys grid.tiles → Closes sys new.scout out → SamePlacements grid.tiles out.grid.tiles
+grid_left sys new grid out distinct seen closed closes =
+    SamePlacements-trans grid.tiles new.scout.seen out.grid.tiles (same_back new.scout.seen grid.tiles seen) (same_back out.grid.tiles new.scout.seen (out_seen sys new grid out distinct seen closed closes))
 
 pub whole_growth : (sys : TileSystem) (workers : ℕ) (start : TileGrid) (old new : SeatValue) (grid : TileGrid) (wins : List ℕ) (out : GrownValue) → IsValid sys → old.scout.owned ≡ 2 ^ 64 - 1 →
     old.scout.mine ≡ [] → GrewOn sys old start new grid wins → length wins ≡ workers → 1 ≤ workers → workers ≤ 16 → HasDistinctSites grid.tiles → Closes sys new.scout out → IsGrowth sys workers out

@@ -1,3 +1,4 @@
 -- Definitions that only private functions cite.
 pub mod Prepared
 pub mod Wins
+pub mod Sharing

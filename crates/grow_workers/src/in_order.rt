@@ -1,19 +1,33 @@
 // Growth by one worker in canonical order.
-ghost use Rattle.std.specs.Prelude.{IfOk};
+ghost use Rattle.std.specs.Prelude.{◌≡◌, ◌<◌, ◌≤◌, ◌-◌, ◌^◌, [], IfOk};
+ghost use Rattle.atam.specs.Placements.{SamePlacements};
 ghost use Rattle.atam.specs.Canonical.{IsCanonical};
+ghost use Rattle.atam.specs.Growth.{IsClosedInBox};
+ghost use Rattle.assembly.specs.Cells.{cell_count};
+ghost use Rattle.type_index.specs.Indexes.{IsIndexOf};
+ghost use Rattle.frontier_seat.specs.Orders.{AreCanonicalClaims};
 ghost use Rattle.grow_workers.specs.Workers.{IsGrowth};
+ghost use Rattle.grow_workers.specs.Inner.Sharing.{HasSeen, IsShared};
+ghost use Rattle.grow_workers.specs.Inner.Wins.{PartedGrowth};
 
-use assembly::Sequence;
-use frontier_seat::{RngChooser, fill_least_first};
+use crate::leavings::{Part, part_of, scout_of};
+use crate::prepared::{Prepared, prepare};
+use crate::shared::Shared;
+use crate::team::Team;
+use assembly::{Grid, Sequence};
+use frontier_seat::{ClaimLog, RngChooser};
 use rand_pcg::Lcg64Xsh32;
-use site_table::Grown;
+use site_table::{Grown, SiteSeat};
 use std::alloc::Global;
-use tile_io::Gate;
+use std::marker::Brand;
+use std::sync::ledger::{Blank, Ledger};
+use tile_io::{Gate, Steps};
 use tile_system::{NoMemory, System};
+use type_index::TypeIndex;
 
 /// What `grow` leaves with one worker and the choice 0, and its canonical sequence, which is the
-/// order in which it grew: no pass has to order the tiles. A worker alone shares nothing, so no
-/// table is made. It calls the gate once, before its first tile.
+/// order of its claims: no pass has to find it. It calls the gate once, before its first
+/// claim.
 pub fn grow_in_order<G: Gate>(
     alloc: Global,
     sys: &System,
@@ -22,10 +36,90 @@ pub fn grow_in_order<G: Gate>(
     ensures growth { IfOk result (λ r. IsGrowth sys.now 1 r.0) }
     ensures order { IfOk result (λ r. IsCanonical sys.now r.0.grid.tiles r.1) }
 {
-    gate.arrive(0);
+    let types = TypeIndex::build(alloc, sys)?;
+    grow_in_order_by_index(alloc, sys, &types, gate)
+}
+
+/// The same with an index of the system's types that is lent to it.
+pub fn grow_in_order_by_index<G: Gate>(
+    alloc: Global,
+    sys: &System,
+    types: &TypeIndex,
+    gate: &G,
+) -> Result<(Grown, Sequence), NoMemory>
+    requires { IsIndexOf sys.now types.now }
+    ensures growth { IfOk result (λ r. IsGrowth sys.now 1 r.0) }
+    ensures order { IfOk result (λ r. IsCanonical sys.now r.0.grid.tiles r.1) }
+{
+    let _valid = sys.tau();
+    let Prepared { table, seat, seen } = prepare(alloc, sys)?;
+    let shared = Shared {
+        sys,
+        table: &table,
+        types,
+        gate,
+        choice: 0,
+        workers: 1,
+        team: Team::of(1),
+    };
+    let (part, log) = sweep_logged(alloc, &shared, seat, seen)?;
+    drop(shared);
+    let mut grid = part.grid;
+    let _grown = grid.area();
+    grid.clear();
+    let grown = table.close(part.seat, grid);
+    let order = log.sequence_of(alloc, sys, grown.grid())?;
+    Ok((grown, order))
+}
+
+// One sweep of who owns all numbers, from the seeds on, always at the least open site, with a log
+// of its claims. It picks the ledger.
+fn sweep_logged<G: Gate>(
+    alloc: Global,
+    shared: &Shared<'_, G>,
+    seat: SiteSeat,
+    seen: Grid,
+) -> Result<(Part, ClaimLog), NoMemory>
+    requires shared { IsShared shared.now }
+    requires seen { HasSeen shared.now seat seen }
+    requires sole { seat.scout.owned ≡ 2 ^ 64 - 1 }
+    requires start { SamePlacements shared.now.sys.now.seeds seen.tiles }
+    ensures grew { IfOk result (λ r.
+        PartedGrowth shared.now.sys.now seat seen r.0.seat r.0.grid r.0.won []) }
+    ensures closed { IfOk result (λ r. IsClosedInBox shared.now.sys.now r.0.grid.tiles) }
+    ensures order { IfOk result
+        (λ r. AreCanonicalClaims shared.now.sys.now r.0.grid.tiles r.1.numbers) }
+{
+    let mut log = ClaimLog::make(alloc, shared.sys.area())?;
+    shared.gate.arrive(0);
+    let part = sweep_counted::<Brand, G>(alloc, shared, seat, seen, &mut log, Blank::new(1))?;
+    Ok((part, log))
+}
+
+fn sweep_counted<L: Ledger, G: Gate>(
+    alloc: Global,
+    shared: &Shared<'_, G>,
+    seat: SiteSeat,
+    seen: Grid,
+    log: &mut ClaimLog,
+    blank: Blank,
+) -> Result<Part, NoMemory>
+    requires blank { (blank.name ≡ L.name) × (blank.parts ≡ L.parts) × (0 < blank.parts) }
+    requires shared { IsShared shared.now }
+    requires seen { HasSeen shared.now seat seen }
+    requires sole { seat.scout.owned ≡ 2 ^ 64 - 1 }
+    requires start { SamePlacements shared.now.sys.now.seeds seen.tiles }
+    requires none { log.old.numbers ≡ [] }
+    requires room { cell_count shared.now.sys.now.area ≤ log.old.room }
+    ensures grew { IfOk result (λ r.
+        PartedGrowth shared.now.sys.now seat seen r.seat r.grid r.won []) }
+    ensures closed { IfOk result (λ r. IsClosedInBox shared.now.sys.now r.grid.tiles) }
+    ensures order { IfOk result
+        (λ r. AreCanonicalClaims shared.now.sys.now r.grid.tiles log.new.numbers) }
+{
+    let mut scout = scout_of(alloc, shared, seat, seen)?;
     let mut chooser = RngChooser::make(Lcg64Xsh32::new(0, 0));
-    let (grid, order) = fill_least_first(alloc, sys, &mut chooser)?;
-    let _area = sys.area();
-    let won = grid.count() - sys.seeds().len() as u32;
-    Ok((Grown::by_one(grid, won), order))
+    let mut steps: Steps<L> = Steps::open(blank);
+    scout.sweep_in_order(shared.sys, shared.table, &mut chooser, &mut steps, log);
+    Ok(part_of(scout))
 }

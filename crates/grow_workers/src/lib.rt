@@ -1,15 +1,17 @@
 //! Growth by workers, each with a seat of one table.
 #![tactic(auto)]
 
-mod alone;
+mod ending;
 mod growth;
 mod in_order;
+mod joining;
 mod leavings;
 mod member;
-mod parts;
 mod picks;
 mod prepared;
+mod shared;
+mod starts;
 mod team;
 
-pub use growth::{grow, grow_on};
-pub use in_order::grow_in_order;
+pub use growth::{grow, grow_by_index, grow_on};
+pub use in_order::{grow_in_order, grow_in_order_by_index};

@@ -1,4 +1,4 @@
-// What a table leaves when it is closed, and what growth without a table leaves.
+// What a table leaves when it is closed.
 ghost use Rattle.std.specs.Prelude.{◌≡◌, ◌≢◌, ◌+◌, ◌-◌, ◌*◌, ◌%◌, ◌<◌, ◌≤◌, ℕ, [], ◌∷◌, ◌++◌, cond, None, length, slice_index, count_by, All};
 ghost use Rattle.std.specs.Slots.{slots_items, slots_len, IsFull};
 ghost use Rattle.atam.specs.Sites.{IsBox};
@@ -17,8 +17,7 @@ use std::alloc::Global;
 use std::marker::Model;
 use tile_system::{BoxArea, Place};
 
-/// The grown tiles, and how many of them each number placed. A table's `close` makes one, and
-/// `by_one` where one worker grew without a table.
+/// The grown tiles, and how many of them each number placed. A table's `close` alone makes one.
 #[derive(Drop)]
 pub struct Grown {
     grid: Grid,
@@ -34,19 +33,6 @@ impl Model for Grown {
 }
 
 impl Grown {
-    /// What one worker grew without a table, and how many of the tiles it placed: all under the
-    /// number 0, as a sole seat of a table does.
-    pub fn by_one(grid: Grid, won: u32) -> Grown
-        ensures grid { result.grid ≡ grid }
-        ensures numbers { length result.won ≡ 64 }
-        ensures first { slice_index result.won 0 ≡ won }
-        ensures others { (n : ℕ) → 0 < n → slice_index result.won n ≡ 0 }
-    {
-        let mut counts = [0u32; 64];
-        counts[0] = won;
-        Grown { grid, won: counts }
-    }
-
     pub fn grid(&self) -> &Grid
         ensures { result.now ≡ self.now.grid }
     {

@@ -1,5 +1,5 @@
 -- Growth on a grid alone, at the least open site.
-use Rattle.std.specs.Prelude.{◌≡◌, ℕ, ◌+◌, ◌*◌, ◌≤◌, ◌<◌, ◌⊎◌, None, List, [], ◌∷◌, ◌++◌, length, Contains}
+use Rattle.std.specs.Prelude.{◌≡◌, ℕ, ◌+◌, ◌*◌, ◌≤◌, ◌<◌, ◌⊎◌, None, List, [], ◌∷◌, ◌++◌, All, map, length, Contains}
 use Rattle.atam.specs.declared.site.Side.{Side}
 use Rattle.atam.specs.declared.site.Site.{Site}
 use Rattle.atam.specs.declared.place.TypeId.{TypeId}
@@ -48,3 +48,10 @@ pub record GrewInOrder (sys : TileSystem) (tiles order : List Place) : Type 0 wh
   pub legal : IsLegal sys order
   pub least : FillsLeast sys order
   pub same : SamePlacements order tiles
+
+-- The same where the tiles behind the seeds were claimed at the sites of the box with these numbers.
+pub record GrewByNumbers (sys : TileSystem) (tiles : List Place) (numbers : List ℕ) : Type 0 where
+  pub claims : List Place
+  pub sites : map (λ p. p.site) claims ≡ map (site_at sys.area) numbers
+  pub within : All (λ n. n < cell_count sys.area) numbers
+  pub grew : GrewInOrder sys tiles (sys.seeds ++ claims)

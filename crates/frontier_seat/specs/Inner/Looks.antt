@@ -1,5 +1,5 @@
 -- One look at a site, and the claim there.
-use Rattle.std.specs.Prelude.{◌≡◌, ℕ, ◌+◌, ◌*◌, ◌≤◌, ◌<◌, List, [], ◌∷◌, ◌++◌, length, Bool, MatchBool, Option, MatchOption}
+use Rattle.std.specs.Prelude.{◌≡◌, ℕ, ◌+◌, ◌-◌, ◌*◌, ◌^◌, ◌≤◌, ◌<◌, ◌⊎◌, List, [], ◌∷◌, ◌++◌, length, Bool, MatchBool, Option, MatchOption}
 use Rattle.atam.specs.declared.site.Site.{Site}
 use Rattle.atam.specs.declared.place.TypeId.{TypeId}
 use Rattle.atam.specs.declared.place.Place.{Place}
@@ -10,6 +10,7 @@ use Rattle.assembly.specs.Cells.{cell_count, site_at}
 use Rattle.grow_core.specs.Steps.{place}
 use Rattle.number_set.specs.Numbers.{Numbers, IsIn, count_below}
 use Rattle.frontier_seat.specs.declared.growing.Growing.{Growing}
+use Rattle.frontier_seat.specs.declared.work_list.Spot.{Spot}
 use Rattle.frontier_seat.specs.Growths.{IsGrowing, GrowsOn}
 use Rattle.frontier_seat.specs.Inner.Listings.{AreEmptySites}
 
@@ -31,6 +32,12 @@ pub record ClaimsAt (sys : TileSystem) (site : Site) (old new : Growing) : Type 
   pub tiles : (m : Site) → tile_at new.grid.tiles m ≡ tile_at (old.grid.tiles ++ place site tile ∷ []) m
   pub placements : SamePlacements (old.grid.tiles ++ place site tile ∷ []) new.grid.tiles
   pub count : length new.grid.tiles ≡ length old.grid.tiles + 1
+  -- who owns all numbers wins it
+  pub sole : old.seat.scout.owned ≡ 2 ^ 64 - 1 → IsCandidate sys old.grid.tiles site tile
+
+-- a claim whose site's number is logged, or nothing
+abbrev pub LogsClaim : TileSystem → Spot → Growing → Growing → List ℕ → List ℕ → Type 0
+LogsClaim sys spot before after old new = (ClaimsAt sys spot.site before after × (new ≡ old ++ spot.number ∷ [])) ⊎ ((after ≡ before) × (new ≡ old))
 
 -- no type attaches at a site of the box but those with these numbers
 abbrev pub IsClosedBut : TileSystem → List Place → (ℕ → Type 0) → Type 0

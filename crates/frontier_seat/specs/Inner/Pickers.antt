@@ -7,6 +7,6 @@ use Rattle.frontier_seat.specs.declared.picking.Picker.{Picker}
 
 -- the index is of the system, what is cached was found in it, and there is room for its types
 pub record IsPickerOf (sys : TileSystem) (picker : Picker) : Type 0 where
-  pub index : IsIndexOf sys picker.index
+  pub types : IsIndexOf sys picker.types
   pub known : AreFindings sys picker.cache
   pub room : length sys.types ≤ picker.list.room

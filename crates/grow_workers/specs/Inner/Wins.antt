@@ -27,6 +27,8 @@ OthersWin old new owned (k ∷ wins) = OwnsTwoOrMore owned × Gains old new (gre
 
 -- a seat that was parted: one worker has the greatest number, and the rest is what the others have
 pub record IsParted (seat kept given : SeatValue) : Type 0 where
+  pub table : kept.table ≡ seat.table
+  pub system : kept.sys ≡ seat.sys
   pub real : IsPossible seat.sys seat.scout
   pub two : OwnsTwoOrMore seat.scout.owned
   pub is_kept : IsKeptPart seat.scout kept.scout

@@ -4,7 +4,7 @@ use Rattle.grow_workers.proofs.member.take_turns.Given as goal
 
 -- the seat stays the table's
 abbrev pub invariant-loop-turn : goal.invariant-loop-turn
-invariant-loop-turn l = record {
+invariant-loop-turn g l = record {
   goes : GrowsOn l.fn.scout l.scout;
-  seat : IsSeatOf l.table l.scout.seat;
+  seat : IsSeatOf l.shared.table.now l.scout.seat;
 }

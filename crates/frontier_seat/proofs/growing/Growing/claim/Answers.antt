@@ -1,11 +1,12 @@
-use Rattle.std.proofs.Common.{arith, ◌≡◌, ◌<◌, ◌+◌, subst, sym, refl}
+use Rattle.std.proofs.Common.{arith, ◌≡◌, ◌<◌, ◌+◌, ◌∙◌, subst, sym, refl}
 use Rattle.atam.specs.declared.area.BoxArea.{BoxArea}
 use Rattle.atam.specs.TileSystem.{TileSystem, IsType}
 use Rattle.frontier_seat.specs.declared.growing.Growing.{Growing}
 use Rattle.assembly.specs.Cells.{cell_count, site_at}
 use Rattle.assembly.proofs.Cells.{cell_count-most}
 use Rattle.grow_core.specs.Steps.{Supports}
-use Rattle.frontier_seat.proofs.Looked.{supported, few_tiles, claim_won, claim_lost}
+use Rattle.site_table.specs.Rule.{IsPossible}
+use Rattle.frontier_seat.proofs.Looked.{supported, few_tiles, claim_won, claim_lost, never_lost}
 use Rattle.frontier_seat.proofs.growing.Growing.claim.Goals as goal
 
 pub claim_at-requires-clause-supported : goal.claim_at-requires-clause-supported
@@ -24,14 +25,18 @@ pub returns-in-Won-clause-claim : goal.returns-in-Won-clause-claim
 returns-in-Won-clause-claim g c =
     let old = c.args.self.now in
     let mid : Growing = record { seat = c.claim_at.new.seat; grid = old.grid; won = old.won + 1 } in
-    claim_won c.args.sys.now old mid c.put.new.self c.args.spot.site c.args.tile c.requires.growing c.requires.spot.inside c.requires.open.kind c.in-Won.ensures.seat refl refl c.in-Won.ensures.claim.1 c.put.ensures
+    claim_won c.args.sys.now old mid c.put.new.self c.args.spot.site c.args.tile c.requires.growing c.requires.spot.inside c.requires.open.kind c.in-Won.ensures.seat refl refl c.in-Won.ensures.claim.1 c.put.ensures c.requires.open
 
 pub returns-in-Held-clause-claim : goal.returns-in-Held-clause-claim
 returns-in-Held-clause-claim g c =
     let old = c.args.self.now in
     let mid : Growing = record { seat = c.claim_at.new.seat; grid = old.grid; won = old.won } in
+    let system = c.requires.growing.system in
+    let before = subst (λ (z : TileSystem). IsPossible z old.seat.scout) system c.owned-owned.ensures.possible in
+    let after = subst (λ (z : TileSystem). IsPossible z c.claim_at.new.seat.scout) (c.in-Held.ensures.seat.sys ∙ system) c.owned-owned-in-Held.ensures.possible in
     let kind = subst (λ (z : TileSystem). IsType z c.in-Held.there) c.requires.system c.in-Held.ensures.kind in
     claim_lost c.args.sys.now old mid c.put-in-Held.new.self c.args.spot.site c.in-Held.there c.requires.growing c.requires.spot.inside kind c.in-Held.ensures.seat refl refl c.in-Held.ensures.claim c.put-in-Held.ensures
+    (never_lost c.args.sys.now old c.claim_at.new.seat.scout c.args.spot.site c.in-Held.there c.requires.growing before after c.requires.open.attaches.empty c.in-Held.ensures.claim)
 
 pub claim_at-requires-clause-within : goal.claim_at-requires-clause-within
 claim_at-requires-clause-within g c = subst (λ (z : TileSystem). c.args.spot.number < cell_count z.area) (sym c.requires.system) c.requires.spot.within

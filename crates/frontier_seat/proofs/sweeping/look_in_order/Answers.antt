@@ -1,0 +1,91 @@
+use Rattle.std.proofs.Common.{◌<◌, ◌∙◌, length, inl, inr, sym, subst, arith}
+use Rattle.atam.specs.declared.area.BoxArea.{BoxArea}
+use Rattle.assembly.specs.Cells.{cell_count}
+use Rattle.number_set.proofs.Counting.{count_below-removes}
+use Rattle.frontier_seat.specs.declared.work_list.Spot.{Spot}
+use Rattle.frontier_seat.specs.Inner.Listings.{IsSpot, ListedSites}
+use Rattle.frontier_seat.specs.Inner.Looks.{ListsOpen}
+use Rattle.frontier_seat.proofs.Listing.{closed_none, closed_taken, spot_here}
+use Rattle.frontier_seat.proofs.Looked.{few_tiles, goes_further, goes_nowhere, less_work}
+use Rattle.frontier_seat.proofs.Ordering.{few_claims, least_listed, numbers_more, numbers_start, numbers_stay}
+use Rattle.frontier_seat.proofs.sweeping.look_in_order.Goals as goal
+
+pub loop-number-init : goal.loop-number-init
+loop-number-init g c = record {
+  growing = c.requires.growing;
+  goes = goes_nowhere c.args.growing.now;
+  picker = c.requires.picker;
+  area = λ _. c.args.work.now.area;
+  row = c.least-row.ensures;
+  lists = c.requires.lists;
+  order = numbers_start c.args.sys.now c.args.growing.now.grid.tiles c.args.log.now.numbers c.area-area.ensures.valid c.requires.start c.requires.none;
+  room = λ _. c.args.log.now.room;
+  cost = omega arith;
+}
+
+pub look_logged-requires-clause-room : goal.look_logged-requires-clause-room
+look_logged-requires-clause-room g c =
+    let sys = c.args.sys.now in
+    let inv = c.loop-number.invariant in
+    let valid = c.area-area.ensures.valid in
+    let few = few_claims sys c.loop-number.growing.grid.tiles c.loop-number.log.numbers valid inv.growing.fits inv.order in
+    let some = valid.some_seed in
+    let room = inv.room in
+    let enough = c.requires.room in
+    omega (arith, few, some, room, enough)
+
+pub look_logged-requires-clause-closed : goal.look_logged-requires-clause-closed
+look_logged-requires-clause-closed g c =
+    closed_taken c.args.sys.now c.loop-number.growing.grid.tiles c.loop-number.work.numbers c.take_least.new.self.numbers c.in-Some.number c.in-Some.ensures.removed c.loop-number.invariant.lists.all
+
+pub loop-number-smaller : goal.loop-number-smaller
+loop-number-smaller g c =
+    let sys = c.args.sys.now in
+    let n = cell_count sys.area in
+    let looks = c.look_logged.ensures.looks in
+    let within = subst (λ (a : BoxArea). c.in-Some.number < cell_count a) (c.loop-number.invariant.area ∙ c.requires.area) c.in-Some.ensures.within in
+    less_work n (length c.loop-number.growing.grid.tiles) (length c.look_logged.new.growing.grid.tiles) _ _ _
+    (few_tiles sys c.look_logged.new.growing looks.growing)
+    (count_below-removes c.loop-number.work.numbers c.take_least.new.self.numbers c.in-Some.number n c.in-Some.ensures.removed c.in-Some.ensures.least.member within)
+    (looks.work n)
+
+pub loop-number-preserved : goal.loop-number-preserved
+loop-number-preserved g c =
+    let sys = c.args.sys.now in
+    let inv = c.loop-number.invariant in
+    let before = c.loop-number.growing in
+    let after = c.look_logged.new.growing in
+    let old = c.loop-number.log.numbers in
+    let new = c.look_logged.new.log.numbers in
+    let numbers = c.loop-number.work.numbers in
+    let looks = c.look_logged.ensures.looks in
+    let site = c.site-site.result in
+    let number = c.in-Some.number in
+    let is : IsSpot c.area-area.result (record { site = site; number = number }) =
+    spot_here c.area-area.result site number (subst (λ (a : BoxArea). number < cell_count a) (inv.area ∙ (c.requires.area ∙ sym c.area-area.ensures.area)) c.in-Some.ensures.within) c.site-site.ensures.site c.site-site.ensures.inside in
+    let spot : Spot = record { site = site; number = number } in
+    let is_own : IsSpot sys.area spot = subst (λ (a : BoxArea). IsSpot a spot) c.area-area.ensures.area is in
+    let cost = c.look_logged.ensures.cost in
+    let was = inv.cost in
+    record {
+      growing = looks.growing;
+      goes = goes_further c.args.growing.now before after inv.goes looks.goes;
+      picker = c.look_logged.ensures.picker;
+      area = c.look_logged.ensures.area ∙ (c.take_least.ensures.area ∙ inv.area);
+      row = c.site-site.ensures.row;
+      lists = record { empty = looks.listed; all = looks.closed };
+      order = elim c.look_logged.ensures.logs [
+        | inl logged ↦ numbers_more sys before after spot old new inv.growing is_own (inv.goes.seat.owned ∙ c.requires.sole)
+            (least_listed sys before.grid.tiles numbers spot c.area-area.ensures.valid.box is_own inv.lists.all c.in-Some.ensures.least) logged.0 logged.1 inv.order
+        | inr same ↦ numbers_stay sys before after old new same.0 same.1 inv.order
+      ];
+      room = c.look_logged.ensures.room ∙ inv.room;
+      cost = omega (arith, cost, was);
+    }
+
+pub returns-clause-closed : goal.returns-clause-closed
+returns-clause-closed g c = closed_none c.args.sys.now c.loop-number.growing.grid.tiles c.loop-number.work.numbers c.in_default.ensures.none c.loop-number.invariant.lists.all
+
+pub returns-clause-lists : goal.returns-clause-lists
+returns-clause-lists g c =
+    subst (λ (w : ListedSites). ListsOpen c.args.sys.now c.loop-number.growing.grid.tiles w.numbers) (sym c.in_default.ensures.same) c.loop-number.invariant.lists

@@ -1,0 +1,27 @@
+use Rattle.std.proofs.Common.{◌≡◌, ◌+◌, ◌-◌, ◌*◌, length}
+use Rattle.assembly.specs.Cells.{cell_count}
+use Rattle.assembly.specs.Rows.{IsRow}
+use Rattle.number_set.specs.Numbers.{count_below}
+use Rattle.frontier_seat.specs.Growths.{IsGrowing, GrowsOn}
+use Rattle.frontier_seat.specs.Inner.Fillings.{GrewByNumbers}
+use Rattle.frontier_seat.specs.Inner.Looks.{ListsOpen}
+use Rattle.frontier_seat.specs.Inner.Pickers.{IsPickerOf}
+use Rattle.frontier_seat.proofs.sweeping.look_in_order.Given as goal
+
+-- what is listed is all that may be open, and what was claimed is logged
+abbrev pub invariant-loop-number : goal.invariant-loop-number
+invariant-loop-number g l = record {
+  growing : IsGrowing l.sys l.growing;
+  goes : GrowsOn l.fn.growing l.growing;
+  picker : IsPickerOf l.sys l.picker;
+  area : l.work.area ≡ l.fn.work.area;
+  row : IsRow l.area l.row;
+  lists : ListsOpen l.sys l.growing.grid.tiles l.work.numbers;
+  order : GrewByNumbers l.sys l.growing.grid.tiles l.log.numbers;
+  room : l.log.room ≡ l.fn.log.room;
+  cost : l.steps + length l.fn.growing.grid.tiles ≡ l.fn.steps + length l.growing.grid.tiles;
+}
+
+-- the sites that are listed, and four for each tile that may come
+abbrev pub decreases-loop-number : goal.decreases-loop-number
+decreases-loop-number g l = 4 * (cell_count l.sys.area - length l.growing.grid.tiles) + count_below l.work.numbers (cell_count l.sys.area)

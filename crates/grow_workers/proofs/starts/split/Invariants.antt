@@ -1,0 +1,18 @@
+use Rattle.std.proofs.Common.{◌≡◌, ◌≤◌, ◌+◌, ◌-◌, All, length}
+use Rattle.grow_workers.specs.declared.starts.Start.{Start}
+use Rattle.grow_workers.specs.Inner.Sharing.{ArePartedOff, HasSeen, IsStart}
+use Rattle.grow_workers.specs.Inner.Wins.{HasNumbers}
+use Rattle.grow_workers.proofs.starts.split.Given as goal
+
+-- the workers so far have begun, and what is left of the seat suffices for the others
+abbrev pub invariant-loop-worker : goal.invariant-loop-worker
+invariant-loop-worker g l = record {
+  some : 1 ≤ l.worker;
+  few : l.worker ≤ l.shared.workers;
+  numbers : HasNumbers (l.shared.workers - l.worker + 1) l.kept.scout.owned;
+  seen : HasSeen l.shared l.kept l.fn.seen;
+  parted : ArePartedOff l.fn.seat l.starts.items l.kept;
+  grids : All (λ (start : Start). start.seen ≡ l.fn.seen) l.starts.items;
+  each : All (IsStart l.shared) l.starts.items;
+  count : length l.starts.items + 1 ≡ l.worker;
+}

@@ -1,0 +1,80 @@
+// What several workers leave, joined.
+ghost use Rattle.std.specs.Prelude.{All, ◌≡◌, ◌<◌, ◌+◌, List, [], length, IfOk};
+ghost use Rattle.assembly.specs.Grids.{TileGrid};
+ghost use Rattle.site_table.specs.Seats.{IsSeatOf, SeatValue};
+ghost use Rattle.grow_workers.specs.Inner.Sharing.{AreStartsOf, AreWorksOf, HasSeen, IsShared};
+ghost use Rattle.grow_workers.specs.Inner.Wins.{IsParted, PartedGrowth};
+ghost use Rattle.grow_workers.specs.declared.starts.Start.{Start};
+
+use crate::leavings::{Harvest, Part};
+use crate::shared::Shared;
+use std::alloc::Global;
+use tile_io::Gate;
+use tile_system::NoMemory;
+
+// What all workers leave, each of whose parts is there if there was memory for it: worker 0's comes
+// last. They are joined in the other order than the seats were parted in.
+pub(crate) fn join<G: Gate>(
+    alloc: Global,
+    shared: &Shared<'_, G>,
+    done: Vec<Result<Part, NoMemory>>,
+) -> Result<Harvest, NoMemory>
+    requires shared { IsShared shared.now }
+    requires some { 0 < length done.items }
+    requires each { All (λ d. IfOk d (λ part. HasSeen shared.now part.seat part.grid)) done.items }
+    ensures grew { IfOk result (λ h. (old : SeatValue) (grid : TileGrid) (starts : List Start) →
+        IsSeatOf shared.now.table.now old → AreStartsOf old grid starts →
+        AreWorksOf shared.now starts done.items →
+        PartedGrowth shared.now.sys.now old grid h.seat h.grid h.first h.others.items) }
+    ensures seen { IfOk result (λ h. HasSeen shared.now h.seat h.grid) }
+    ensures count { IfOk result (λ h. length h.others.items + 1 ≡ length done.items) }
+{
+    let mut left = done;
+    let first = left.pop().unwrap()?;
+    let mut team = Harvest {
+        seat: first.seat,
+        grid: first.grid,
+        first: first.won,
+        others: Vec::new(alloc),
+    };
+    while let Some(part) = left.pop() {
+        team = unite(shared, team, part?)?;
+    }
+    Ok(team)
+}
+
+// What several workers leave, and one that was parted off from them.
+fn unite<G: Gate>(shared: &Shared<'_, G>, rest: Harvest, part: Part) -> Result<Harvest, NoMemory>
+    requires shared { IsShared shared.now }
+    requires first { HasSeen shared.now rest.seat rest.grid }
+    requires second { HasSeen shared.now part.seat part.grid }
+    ensures grew { IfOk result (λ h. (old kept given : SeatValue) (start : TileGrid) →
+        IsSeatOf shared.now.table.now old → IsParted old kept given →
+        PartedGrowth shared.now.sys.now kept start
+        rest.seat rest.grid rest.first rest.others.items →
+        PartedGrowth shared.now.sys.now given start part.seat part.grid part.won [] →
+        PartedGrowth shared.now.sys.now old start h.seat h.grid h.first h.others.items) }
+    ensures seen { IfOk result (λ h. HasSeen shared.now h.seat h.grid) }
+    ensures count { IfOk result (λ h.
+        length h.others.items ≡ length rest.others.items + 1) }
+{
+    let Harvest {
+        seat: kept,
+        mut grid,
+        first,
+        mut others,
+    } = rest;
+    others.insert(0, part.won)?;
+    let _kept = kept.owned();
+    let _given = part.seat.owned();
+    let _grid = grid.area();
+    let _other = part.grid.area();
+    let seat = shared.table.join(kept, part.seat);
+    grid.merge(&part.grid);
+    Ok(Harvest {
+        seat,
+        grid,
+        first,
+        others,
+    })
+}

@@ -1,0 +1,19 @@
+// What all workers of a growth share.
+use crate::team::Team;
+use site_table::SiteTable;
+use tile_io::Gate;
+use tile_system::System;
+use type_index::TypeIndex;
+
+// A system and a table of it, an index of the system's types, the gate that each worker passes, the
+// choice by which all choose, and of how many workers each is one.
+#[derive(Drop)]
+pub(crate) struct Shared<'a, G: Gate> {
+    pub sys: &'a System,
+    pub table: &'a SiteTable,
+    pub types: &'a TypeIndex,
+    pub gate: &'a G,
+    pub choice: u64,
+    pub workers: u32,
+    pub team: Team,
+}
