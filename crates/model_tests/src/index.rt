@@ -15,18 +15,18 @@ use tile_system::{
 };
 use type_index::{FacingCache, Found, TypeIndex};
 
-const SIDE: u32 = 4;
+pub(crate) const SIDE: u32 = 4;
 
-const NAMES: [&[u8]; 6] = [b"S", b"A", b"B", b"C", b"D", b"E"];
+pub(crate) const NAMES: [&[u8]; 6] = [b"S", b"A", b"B", b"C", b"D", b"E"];
 
 // Numbers one after another, by a linear rule modulo 2^32.
 #[derive(Drop)]
-struct Numbers {
-    state: u32,
+pub(crate) struct Numbers {
+    pub(crate) state: u32,
 }
 
 impl Numbers {
-    fn below(&mut self, bound: u32) -> u32
+    pub(crate) fn below(&mut self, bound: u32) -> u32
         requires { 0 < bound }
         ensures { result < bound }
     {
@@ -45,7 +45,7 @@ impl Numbers {
         }
     }
 
-    fn spot(&mut self) -> Spot {
+    pub(crate) fn spot(&mut self) -> Spot {
         let x = self.below(SIDE) as i32;
         let y = self.below(SIDE) as i32;
         (x, y, self.below(NAMES.len() as u32))
@@ -81,7 +81,7 @@ fn random_system(alloc: Global, numbers: &mut Numbers) -> Result<System, BuildSt
 }
 
 // An assembly of at most eight tiles, held or not.
-fn random_grid(alloc: Global, sys: &System, numbers: &mut Numbers) -> Result<Grid, NoMemory>
+pub(crate) fn random_grid(alloc: Global, sys: &System, numbers: &mut Numbers) -> Result<Grid, NoMemory>
     ensures { IfOk result (λ grid. (grid.area ≡ sys.now.area) × Fits sys.now grid.tiles) }
 {
     let mut spots = [(0, 0, 0); 8];
@@ -178,7 +178,7 @@ fn has_same_others(
 
 // Whether the index finds at each site of the box, and as the least open one, what the plain calls
 // find.
-fn are_same(alloc: Global, sys: &System, grid: &Grid) -> Result<bool, NoMemory>
+pub(crate) fn are_same(alloc: Global, sys: &System, grid: &Grid) -> Result<bool, NoMemory>
     requires { Fits sys.now grid.now.tiles }
 {
     let index = TypeIndex::build(alloc, sys)?;

@@ -12,6 +12,8 @@ mod index;
 #[cfg(test)]
 mod orders;
 #[cfg(test)]
+mod pairs;
+#[cfg(test)]
 mod places;
 #[cfg(test)]
 mod stops;
