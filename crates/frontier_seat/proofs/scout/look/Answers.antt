@@ -1,6 +1,7 @@
 use Rattle.frontier_seat.proofs.Looked.{looked_at_some, still_beside}
 use Rattle.std.proofs.Common.{subst}
 use Rattle.atam.specs.declared.area.BoxArea.{BoxArea}
+use Rattle.atam.proofs.Boxes.{near_inside}
 use Rattle.frontier_seat.specs.Inner.Listings.{ListsAround}
 use Rattle.frontier_seat.proofs.scout.look.Goals as goal
 
@@ -13,3 +14,6 @@ returns-clause-looks g c =
 pub list_around-requires-clause-beside : goal.list_around-requires-clause-beside
 list_around-requires-clause-beside g c =
     still_beside c.args.sys.now c.args.growing.now c.claim.new.self c.args.spot.site c.beside_at-beside.result c.claim.ensures.claim c.beside_at-beside.ensures
+
+pub list_around-requires-clause-near : goal.list_around-requires-clause-near
+list_around-requires-clause-near g c = near_inside c.args.sys.now.area c.args.spot.site c.area-area.ensures.valid.box c.requires.spot.inside
