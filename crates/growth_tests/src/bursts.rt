@@ -1,18 +1,16 @@
-// Bursts of one scout, and a box with work for two workers.
+// Bursts of one scout.
 ghost use Rattle.std.specs.Prelude.{◌≡◌, ◌<◌};
 ghost use Rattle.site_table.specs.Seats.{IsSeatOf};
 
-use assembly::{Grid, put_seeds};
 use frontier_seat::{Burst, First, Scout};
-use grow_workers::grow;
 use site_table::SiteTable;
 use std::alloc::Global;
 use std::marker::Brand;
 use std::sync::ledger::{Blank, Ledger};
 use std::test::Fail;
-use tile_io::{OpenGate, Steps};
+use tile_io::Steps;
 use tile_system::{NoMemory, Placed, System};
-use worked_systems::{SMALL_COUNTER, WIDE, system};
+use worked_systems::{SMALL_COUNTER, seeds_of, system};
 
 // How bursts of at most so many claims end, one after another on a new table, and how many sites
 // are seen then: each step is a claim, and each claim is a site.
@@ -24,8 +22,7 @@ fn bursts_counted<L: Ledger>(
 ) -> Result<[(Burst, u32); 2], NoMemory>
     requires blank { (blank.name ≡ L.name) × (blank.parts ≡ L.parts) × (0 < blank.parts) }
 {
-    let mut seen = Grid::make(alloc, sys.area())?;
-    put_seeds(sys, &mut seen);
+    let seen = seeds_of(alloc, sys)?;
     let (table, seat) = SiteTable::make(alloc, sys)?;
     let Ok(mut scout) = Scout::make(alloc, sys, seat, seen) else {
         return Err(NoMemory);
@@ -45,25 +42,12 @@ fn bursts(alloc: Global, sys: &System, most: [u32; 2]) -> Result<[(Burst, u32); 
 #[test]
 fn bursts_end_at_their_claims(rt: HostRuntime) -> Result<(), Fail> {
     let sys = system(rt.alloc(), SMALL_COUNTER)?;
-    assert_eq!(rt;
-        bursts(rt.alloc(), &sys, [5, 100])?,
-        [(Burst::Spent, 6), (Burst::Quiet, 16)]
-    );
-    assert_eq!(rt;
-        bursts(rt.alloc(), &sys, [15, 0])?,
-        [(Burst::Quiet, 16), (Burst::Quiet, 16)]
-    );
-    assert_eq!(rt;
-        bursts(rt.alloc(), &sys, [0, 14])?,
-        [(Burst::Spent, 1), (Burst::Spent, 15)]
-    );
-    Ok(())
-}
-
-#[test]
-fn two_workers_fill_a_wide_box(rt: HostRuntime) -> Result<(), Fail> {
-    let sys = system(rt.alloc(), WIDE)?;
-    let grown = grow(&rt, rt.alloc(), &sys, 2, 0, &OpenGate)?;
-    assert_eq!(rt; grown.grid().count(), 16384);
+    for (most, ends) in [
+        ([5, 100], [(Burst::Spent, 6), (Burst::Quiet, 16)]),
+        ([15, 0], [(Burst::Quiet, 16), (Burst::Quiet, 16)]),
+        ([0, 14], [(Burst::Spent, 1), (Burst::Spent, 15)]),
+    ] {
+        assert!(rt; bursts(rt.alloc(), &sys, most)? == ends);
+    }
     Ok(())
 }

@@ -1,17 +1,9 @@
-//! Tests of the crates of growth, on the worked systems.
+//! Tests of scouts' bursts, of choices, and of whole growths by several workers.
 #![tactic(auto)]
 
 #[cfg(test)]
 mod bursts;
 #[cfg(test)]
 mod choosing;
-#[cfg(test)]
-mod edges;
-#[cfg(test)]
-mod orders;
-#[cfg(test)]
-mod scouts;
-#[cfg(test)]
-mod table;
 #[cfg(test)]
 mod workers;

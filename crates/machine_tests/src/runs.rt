@@ -1,54 +1,126 @@
 // The runs of machines.
+ghost use Rattle.std.specs.Prelude.{IfSome};
 ghost use Rattle.machine_text.specs.Machines.{IsConfigOf};
 
-use crate::machines::{BIT_FLIPPER, IDLE, LEFT_RUNNER, STAYER, changed, machine};
+use crate::machines::machine;
 use machine_text::{Config, Machine, run_machine};
 use std::alloc::{AllocError, Global};
 use std::test::Fail;
+use worked_systems::{BIT_FLIPPER, IDLE, LEFT_RUNNER, STAYER};
 
-// The symbols of a configuration, cell by cell.
-pub fn symbols(alloc: Global, machine: &Machine, config: &Config) -> Result<Vec<u32>, AllocError>
+// The symbols of a configuration, cell by cell, and the cell and state of its head.
+pub type Shown = (&'static [u32], Option<(u32, u32)>);
+
+// Whether the configuration has these symbols, cell by cell.
+fn has_symbols(machine: &Machine, config: &Config, symbols: &[u32]) -> bool
     requires { IsConfigOf machine.now config.now }
 {
-    let mut symbols = Vec::new(alloc);
     for cell in 0..machine.cells() {
-        symbols.push(config.symbol(cell))?;
+        if symbols.get(cell as usize) != Some(&config.symbol(cell)) {
+            return false;
+        }
     }
-    Ok(symbols)
+    symbols.len() == machine.cells() as usize
+}
+
+// Whether this is the configuration that is wanted.
+pub fn is_shown(machine: &Machine, found: &Option<Config>, wanted: Option<Shown>) -> bool
+    requires { IfSome found.now (IsConfigOf machine.now) }
+{
+    match (found, wanted) {
+        (Some(config), Some((symbols, head))) => {
+            config.head() == head && has_symbols(machine, config, symbols)
+        }
+        (None, None) => true,
+        _ => false,
+    }
+}
+
+// A machine, a number of steps, and what they lead to.
+struct Run {
+    machine: &'static str,
+    steps: u32,
+    wanted: Option<Shown>,
+}
+
+const RUNS: [Run; 13] = [
+    Run {
+        machine: BIT_FLIPPER,
+        steps: 0,
+        wanted: Some((&[1, 0, 1], Some((0, 0)))),
+    },
+    Run {
+        machine: BIT_FLIPPER,
+        steps: 1,
+        wanted: Some((&[0, 0, 1], Some((1, 0)))),
+    },
+    Run {
+        machine: BIT_FLIPPER,
+        steps: 2,
+        wanted: Some((&[0, 1, 1], Some((2, 0)))),
+    },
+    Run {
+        machine: BIT_FLIPPER,
+        steps: 3,
+        wanted: Some((&[0, 1, 0], None)),
+    },
+    Run {
+        machine: BIT_FLIPPER,
+        steps: 4,
+        wanted: None,
+    },
+    Run {
+        machine: BIT_FLIPPER,
+        steps: 1023,
+        wanted: None,
+    },
+    Run {
+        machine: IDLE,
+        steps: 0,
+        wanted: Some((&[0, 0], Some((0, 0)))),
+    },
+    Run {
+        machine: IDLE,
+        steps: 1,
+        wanted: None,
+    },
+    Run {
+        machine: LEFT_RUNNER,
+        steps: 1,
+        wanted: Some((&[1, 0], None)),
+    },
+    Run {
+        machine: LEFT_RUNNER,
+        steps: 2,
+        wanted: None,
+    },
+    Run {
+        machine: STAYER,
+        steps: 1,
+        wanted: Some((&[1], Some((0, 1)))),
+    },
+    Run {
+        machine: STAYER,
+        steps: 2,
+        wanted: Some((&[0], None)),
+    },
+    Run {
+        machine: STAYER,
+        steps: 3,
+        wanted: None,
+    },
+];
+
+fn leads_so(alloc: Global, run: &Run) -> Result<bool, Fail> {
+    let machine = machine(alloc, run.machine)?;
+    let found = run_machine(alloc, &machine, run.steps.min(1023))?;
+    Ok(is_shown(&machine, &found, run.wanted))
 }
 
 #[test]
 fn runs_step_by_step(rt: HostRuntime) -> Result<(), Fail> {
-    let alloc = rt.alloc();
-    for (lines, steps, wanted) in [
-        (
-            &BIT_FLIPPER[..],
-            0u32,
-            Some((&[1u32, 0, 1][..], Some((0u32, 0u32)))),
-        ),
-        (&BIT_FLIPPER[..], 1, Some((&[0, 0, 1][..], Some((1, 0))))),
-        (&BIT_FLIPPER[..], 2, Some((&[0, 1, 1][..], Some((2, 0))))),
-        (&BIT_FLIPPER[..], 3, Some((&[0, 1, 0][..], None))),
-        (&BIT_FLIPPER[..], 4, None),
-        (&BIT_FLIPPER[..], 1023, None),
-        (&IDLE[..], 0, Some((&[0, 0][..], Some((0, 0))))),
-        (&IDLE[..], 1, None),
-        (&LEFT_RUNNER[..], 1, Some((&[1, 0][..], None))),
-        (&LEFT_RUNNER[..], 2, None),
-        (&STAYER[..], 1, Some((&[1][..], Some((0, 1))))),
-        (&STAYER[..], 2, Some((&[0][..], None))),
-        (&STAYER[..], 3, None),
-    ] {
-        let text = changed(alloc, lines, 0, b"")?;
-        let machine = machine(alloc, &text)?;
-        assert!(rt; steps < 1024);
-        match (run_machine(alloc, &machine, steps)?, wanted) {
-            (Some(config), Some((wanted, head))) => {
-                assert_eq!(rt; symbols(alloc, &machine, &config)?.as_slice(), wanted);
-                assert_eq!(rt; config.head(), head);
-            }
-            (found, wanted) => assert!(rt; found.is_none() && wanted.is_none()),
-        }
+    for (number, run) in RUNS.iter().enumerate() {
+        assert!(rt; leads_so(rt.alloc(), run)?, "{number}");
     }
     Ok(())
 }

@@ -31,27 +31,30 @@ fn glue_on<'a>(system: &'a System, tile: &[u8], side: Side) -> Option<&'a [u8]> 
     Some(system.glue_name(glue))
 }
 
+// Whether each glue is on its sides.
+fn has_glues(system: &System) -> bool {
+    let (a, b) = (Some(b"a".as_slice()), Some(b"b".as_slice()));
+    glue_on(system, b"S", Side::East) == a
+        && glue_on(system, b"B", Side::West) == a
+        && glue_on(system, b"B", Side::East) == b
+        && glue_on(system, b"C", Side::North) == None
+}
+
+// Whether names are found, each in its own list.
+fn has_names(system: &System) -> bool {
+    system.find_type(b"S") == Some(system.seed().tile)
+        && system.find_type(b"C") == Some(TypeId(2))
+        && system.find_type(b"a") == None
+        && system.find_glue(b"b") == Some(GlueId(1))
+        && system.find_glue(b"c") == None
+}
+
 #[test]
 fn builds_a_chain(rt: HostRuntime) -> Result<(), Fail> {
     let system = chain(rt.alloc())?;
-    assert_eq!(rt;
-        (system.tau(), system.glue_count(), system.type_count()),
-        (2, 2, 3)
-    );
-    assert_eq!(rt; (system.area(), system.seed().site), (ROW, START));
-    assert_eq!(rt; system.find_type(b"S"), Some(system.seed().tile));
-    assert_eq!(rt;
-        (system.find_type(b"C"), system.find_type(b"a")),
-        (Some(TypeId(2)), None)
-    );
-    assert_eq!(rt;
-        (system.find_glue(b"b"), system.find_glue(b"c")),
-        (Some(GlueId(1)), None)
-    );
-    let none: Option<&[u8]> = None;
-    assert_eq!(rt; glue_on(&system, b"S", Side::East), Some(&b"a"[..]));
-    assert_eq!(rt; glue_on(&system, b"B", Side::West), Some(&b"a"[..]));
-    assert_eq!(rt; glue_on(&system, b"B", Side::East), Some(&b"b"[..]));
-    assert_eq!(rt; glue_on(&system, b"C", Side::North), none);
+    assert!(rt; system.tau() == 2 && system.glue_count() == 2 && system.type_count() == 3);
+    assert!(rt; system.area() == ROW && system.seed().site == START);
+    assert!(rt; has_names(&system));
+    assert!(rt; has_glues(&system));
     Ok(())
 }

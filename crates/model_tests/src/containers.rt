@@ -37,6 +37,17 @@ fn number(site: Site) -> Option<usize> {
     }
 }
 
+// Whether each place is in the grid, and its site has its number.
+fn has_places(grid: &Grid) -> bool {
+    for (x, y, tile, index) in PLACES {
+        let site = Site { x, y };
+        if grid.at(site) != Some(TypeId(tile)) || number(site) != Some(index) {
+            return false;
+        }
+    }
+    true
+}
+
 #[test]
 fn grids_and_sequences_hold_places(rt: HostRuntime) -> Result<(), Fail> {
     let mut grid = Grid::make(rt.alloc(), AREA)?;
@@ -45,25 +56,18 @@ fn grids_and_sequences_hold_places(rt: HostRuntime) -> Result<(), Fail> {
         put_free(&mut grid, place(x, y, tile));
         sequence.push(place(x, y, tile))?;
     }
-    assert_eq!(rt; (grid.area(), grid.count(), sequence.len()), (AREA, 3, 3));
+    assert!(rt; grid.area() == AREA && grid.count() == 3 && sequence.len() == 3);
     let copy = grid.copy()?;
     grid.clear();
-    assert_eq!(rt; (grid.count(), grid.at(Site { x: 0, y: 1 })), (0, None));
+    assert!(rt; grid.count() == 0 && grid.at(Site { x: 0, y: 1 }) == None);
     grid.merge(&copy);
-    assert_eq!(rt; grid.count(), 3);
-    for (x, y, tile, index) in PLACES {
-        assert_eq!(rt; grid.at(Site { x, y }), Some(TypeId(tile)));
-        assert_eq!(rt; number(Site { x, y }), Some(index));
-    }
+    assert!(rt; grid.count() == 3 && has_places(&grid));
     assert!(rt;
         sequence
             .copy()?
             .starts_with(&[place(-1, -2, 0), place(3, 4, 16383), place(0, 1, 7)])
     );
-    assert_eq!(rt;
-        (grid.at(Site { x: 4, y: 1 }), grid.at(Site { x: 1, y: 0 })),
-        (None, None)
-    );
+    assert!(rt; grid.at(Site { x: 4, y: 1 }) == None && grid.at(Site { x: 1, y: 0 }) == None);
     Ok(())
 }
 
@@ -87,7 +91,7 @@ fn sequences_hold_far_places(rt: HostRuntime) -> Result<(), Fail> {
     }
     let copy = sequence.copy()?;
     sequence.push(place(7, 7, 7))?;
-    assert_eq!(rt; (copy.len(), sequence.len()), (8, 9));
+    assert!(rt; copy.len() == 8 && sequence.len() == 9);
     assert!(rt; copy.starts_with(&places) && sequence.starts_with(&places));
     assert!(rt; !copy.starts_with(&[place(0, -1, 1)]));
     Ok(())

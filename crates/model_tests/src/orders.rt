@@ -1,13 +1,13 @@
 // Two rows of three tiles, replayed and judged.
 ghost use Rattle.std.specs.Prelude.{◌<◌, ◌^◌, length};
 
-use crate::places::{Spot, grid_of, lists, sequence_of};
 use assembly::Grid;
 use replay_order::{Legality, ReplayStop, check_legal, replay, replay_by};
 use std::alloc::Global;
 use std::test::Fail;
+use std::thread::Threads;
 use tile_system::{NoMemory, Site, System};
-use worked_systems::{MISMATCH, system};
+use worked_systems::{MISMATCH, Spot, grid_of, lists, sequence_of, system};
 
 // The places in their canonical order. The tile of type 4 is held by two sides of strength 1, and
 // mismatches on a third.
@@ -38,24 +38,39 @@ fn replays_in_canonical_order(rt: HostRuntime) -> Result<(), Fail> {
     Ok(())
 }
 
+const STUCK: ReplayStop = ReplayStop::Stuck {
+    left: 2,
+    least: Site { x: 2, y: 0 },
+};
+
+// Places that are no producible assembly, and how their replay stops.
+const STOPS: [(&[Spot], ReplayStop); 2] = [
+    (&[(0, 0, 0), (2, 0, 2), (2, 1, 5)], STUCK),
+    (&[(1, 0, 1)], ReplayStop::NoSeedThere),
+];
+
+// Whether the replay of these places stops so, by any number of workers.
+fn stops_so<R: Threads + Sync>(
+    rt: &R,
+    alloc: Global,
+    sys: &System,
+    spots: &[Spot],
+    stop: ReplayStop,
+) -> Result<bool, NoMemory> {
+    let grid = grid_of(alloc, sys, spots)?;
+    for workers in [1, 2, 3, 4, 16] {
+        if replay_by(rt, alloc, sys, &grid, workers).err() != Some(stop) {
+            return Ok(false);
+        }
+    }
+    Ok(replay(alloc, sys, &grid).err() == Some(stop))
+}
+
 #[test]
 fn stops_without_a_seed_and_where_tiles_are_left(rt: HostRuntime) -> Result<(), Fail> {
     let sys = system(rt.alloc(), MISMATCH)?;
-    let stuck = ReplayStop::Stuck {
-        left: 2,
-        least: Site { x: 2, y: 0 },
-    };
-    let grids: [(&[Spot], ReplayStop); 2] = [
-        (&[(0, 0, 0), (2, 0, 2), (2, 1, 5)], stuck),
-        (&[(1, 0, 1)], ReplayStop::NoSeedThere),
-    ];
-    for (spots, stop) in grids {
-        let grid = grid_of(rt.alloc(), &sys, spots)?;
-        assert_eq!(rt; replay(rt.alloc(), &sys, &grid).err(), Some(stop));
-        for workers in [1, 2, 3, 4, 16] {
-            let found = replay_by(&rt, rt.alloc(), &sys, &grid, workers);
-            assert_eq!(rt; found.err(), Some(stop));
-        }
+    for (spots, stop) in STOPS {
+        assert!(rt; stops_so(&rt, rt.alloc(), &sys, spots, stop)?);
     }
     Ok(())
 }
@@ -70,28 +85,31 @@ fn judgement(alloc: Global, sys: &System, spots: &[Spot]) -> Result<(Legality, u
     Ok((legality, scratch.count()))
 }
 
+// Places, the judgement, and how many tiles stand in the grid then.
+const CASES: [(&[Spot], Legality, u32); 5] = [
+    (&PLACES, Legality::Legal, 6),
+    (&[(0, 0, 0), (1, 0, 1)], Legality::Legal, 2),
+    (&[(1, 0, 1)], Legality::WrongSeed, 0),
+    (
+        &[(0, 0, 0), (1, 0, 1), (1, 0, 4)],
+        Legality::SiteTaken { index: 2 },
+        2,
+    ),
+    (
+        &[(0, 0, 0), (1, 0, 1), (1, 1, 4)],
+        Legality::TooWeak { index: 2, pull: 1 },
+        2,
+    ),
+];
+
 #[test]
 fn judges_legality(rt: HostRuntime) -> Result<(), Fail> {
     let sys = system(rt.alloc(), MISMATCH)?;
-    let cases: [(&[Spot], Legality, u32); 5] = [
-        (&PLACES, Legality::Legal, 6),
-        (&[(0, 0, 0), (1, 0, 1)], Legality::Legal, 2),
-        (&[(1, 0, 1)], Legality::WrongSeed, 0),
-        (
-            &[(0, 0, 0), (1, 0, 1), (1, 0, 4)],
-            Legality::SiteTaken { index: 2 },
-            2,
-        ),
-        (
-            &[(0, 0, 0), (1, 0, 1), (1, 1, 4)],
-            Legality::TooWeak { index: 2, pull: 1 },
-            2,
-        ),
-    ];
-    for (spots, legality, count) in cases {
+    for (spots, legality, count) in CASES {
         let few = spots.len() < 10;
         assert!(rt; few);
-        assert_eq!(rt; judgement(rt.alloc(), &sys, spots), Ok((legality, count)));
+        let judged = judgement(rt.alloc(), &sys, spots)?;
+        assert!(rt; judged == (legality, count));
     }
     Ok(())
 }

@@ -16,10 +16,12 @@ fn builder_stops_in_words(rt: HostRuntime) -> Result<(), Fail> {
         (BuildStop::NoSeed, "no seed"),
         (BuildStop::SeedOutside, "seed outside"),
         (BuildStop::NoMemory, "no memory"),
+        (BuildStop::DoubleSite, "double site"),
+        (BuildStop::DoublePair, "double pair"),
     ];
     for (stop, text) in words {
         let printed = format!(in rt.alloc(); "{stop}")?;
-        assert_eq!(rt; printed.as_str(), text);
+        assert!(rt; printed.as_str() == text);
     }
     Ok(())
 }
@@ -34,7 +36,7 @@ fn replay_stops_in_words(rt: HostRuntime) -> Result<(), Fail> {
     ];
     for (stop, text) in words {
         let printed = format!(in rt.alloc(); "{stop}")?;
-        assert_eq!(rt; printed.as_str(), text);
+        assert!(rt; printed.as_str() == text);
     }
     Ok(())
 }

@@ -4,7 +4,6 @@ ghost use Rattle.atam.specs.Assembly.{Fits};
 ghost use Rattle.atam.specs.Growth.{IsLegal};
 ghost use Rattle.local_check.specs.Judgement.{IsVerdict};
 
-use crate::places::{Spot, lists, sequence_of};
 use assembly::{Grid, Sequence};
 use local_check::{Verdict, inputs, inputs_by, judge};
 use replay_order::{Legality, check_legal};
@@ -13,7 +12,7 @@ use std::test::Fail;
 use std::thread::Threads;
 use tile_system::{NoMemory, Site, System, TypeId};
 use unique_law::{law_extends, law_part, law_same_verdict};
-use worked_systems::{CHAIN, MISMATCH, RIVALS, SQUARE, system};
+use worked_systems::{CHAIN, MISMATCH, RIVALS, SQUARE, Spot, lists, sequence_of, system};
 
 const S: Spot = (0, 0, 0);
 
@@ -50,9 +49,7 @@ fn verdict_on(alloc: Global, sys: &System, order: &Sequence) -> Result<Verdict, 
     requires legal { IsLegal sys.now order.now }
     ensures { IfOk result (IsVerdict sys.now order.now) }
 {
-    let mut grid = Grid::make(alloc, sys.area())?;
-    let _legal = check_legal(sys, order, &mut grid);
-    let sides = inputs(alloc, sys, order, &grid)?;
+    let sides = inputs(alloc, sys, order)?;
     Ok(judge(sys, order, &sides))
 }
 
@@ -96,35 +93,55 @@ fn verdict_of<R: Threads + Sync>(
     Ok(Some(verdict_by(rt, alloc, sys, &order, workers)?))
 }
 
+const CLIPPED: Verdict = Verdict::NotTerminal {
+    site: Site { x: 2, y: 0 },
+    tile: TypeId(2),
+};
+
+const RIVAL: Verdict = Verdict::Rival {
+    site: Site { x: 1, y: 0 },
+    tile: TypeId(2),
+};
+
+const HELD_TWICE: Verdict = Verdict::NotExact {
+    site: Site { x: 1, y: 1 },
+    sum: 2,
+};
+
+// Systems, legal sequences, and the verdict.
+const CASES: [(&str, &[Spot], Verdict); 5] = [
+    (CHAIN, &[S, B, D], Verdict::Yes),
+    (CHAIN, &[S, B], CLIPPED),
+    (RIVALS, &[S, B], RIVAL),
+    (SQUARE, &[S, B, (0, 1, 2), (1, 1, 3)], HELD_TWICE),
+    (MISMATCH, &BY_ROWS, Verdict::Yes),
+];
+
+// Whether any number of workers come to this verdict.
+fn is_judged_so<R: Threads + Sync>(
+    rt: &R,
+    alloc: Global,
+    text: &str,
+    spots: &[Spot],
+    verdict: Verdict,
+) -> Result<bool, Fail>
+    requires { length spots.now < 2 ^ 32 }
+{
+    let sys = system(alloc, text)?;
+    for workers in [1, 3, 16] {
+        if verdict_of(rt, alloc, &sys, spots, workers)? != Some(verdict) {
+            return Ok(false);
+        }
+    }
+    Ok(true)
+}
+
 #[test]
 fn judges_sequences(rt: HostRuntime) -> Result<(), Fail> {
-    let clipped = Verdict::NotTerminal {
-        site: Site { x: 2, y: 0 },
-        tile: TypeId(2),
-    };
-    let rival = Verdict::Rival {
-        site: Site { x: 1, y: 0 },
-        tile: TypeId(2),
-    };
-    let held_twice = Verdict::NotExact {
-        site: Site { x: 1, y: 1 },
-        sum: 2,
-    };
-    let cases: [(&str, &[Spot], Verdict); 5] = [
-        (CHAIN, &[S, B, D], Verdict::Yes),
-        (CHAIN, &[S, B], clipped),
-        (RIVALS, &[S, B], rival),
-        (SQUARE, &[S, B, (0, 1, 2), (1, 1, 3)], held_twice),
-        (MISMATCH, &BY_ROWS, Verdict::Yes),
-    ];
-    for (text, spots, verdict) in cases {
-        let sys = system(rt.alloc(), text)?;
+    for (text, spots, verdict) in CASES {
         let few = spots.len() < 10;
         assert!(rt; few);
-        for workers in [1, 3, 16] {
-            let found = verdict_of(&rt, rt.alloc(), &sys, spots, workers);
-            assert_eq!(rt; found, Ok(Some(verdict)));
-        }
+        assert!(rt; is_judged_so(&rt, rt.alloc(), text, spots, verdict)?);
     }
     Ok(())
 }
@@ -155,15 +172,17 @@ fn grown(
     }
 }
 
+// Orders, beginnings, and what they grow into by these orders.
+const EXTENDED: [(&[Spot; 6], &[Spot], [Spot; 6]); 3] = [
+    (&BY_ROWS, &[S, L], [S, L, B, D, T, R]),
+    (&MISMATCH_FIRST, &[S, L], [S, L, B, D, R, T]),
+    (&BY_ROWS, &MISMATCH_FIRST, MISMATCH_FIRST),
+];
+
 #[test]
 fn beginnings_grow_into_the_assembly(rt: HostRuntime) -> Result<(), Fail> {
     let sys = system(rt.alloc(), MISMATCH)?;
-    let cases: [(&[Spot; 6], &[Spot], [Spot; 6]); 3] = [
-        (&BY_ROWS, &[S, L], [S, L, B, D, T, R]),
-        (&MISMATCH_FIRST, &[S, L], [S, L, B, D, R, T]),
-        (&BY_ROWS, &MISMATCH_FIRST, MISMATCH_FIRST),
-    ];
-    for (order, beginning, wanted) in cases {
+    for (order, beginning, wanted) in EXTENDED {
         let few = beginning.len() < 10;
         assert!(rt; few);
         let found = grown(rt.alloc(), &sys, order, beginning)?;

@@ -1,12 +1,13 @@
 // Worked examples, case by case.
-use crate::run::{Case, run_cases};
+use program_runs::{Case, first_unlike};
 use std::test::Fail;
 use tilebench::Status;
 use worked_systems::{
-    CHAIN, FLIPPER, FULL, LIMITS, MISMATCH, NULL_GLUES, RIVALS, SINGLE, SMALL_COUNTER, SQUARE,
+    BIT_FLIPPER, CHAIN, FLIPPER, FULL, LIMITS, MISMATCH, NULL_GLUES, RACE, RIVALS, SINGLE,
+    SMALL_COUNTER, SQUARE,
 };
 
-const GROWN: [Case; 11] = [
+const GROWN: [Case; 12] = [
     Case {
         words: &["race"],
         system: CHAIN,
@@ -47,6 +48,15 @@ const GROWN: [Case; 11] = [
         status: Status::No,
         out: "place 0 0 S\nplace 1 0 E\nplace 0 1 N\nplace 1 1 C\nclosed terminal\n\
              unique no 1 1 1 2\n",
+        err: "",
+    },
+    Case {
+        words: &["grow"],
+        system: RACE,
+        behind: "",
+        status: Status::No,
+        out: "place 0 0 S\nplace 1 0 A\nplace 0 1 B\nplace 1 1 X\nplace 0 2 C\nplace 1 2 D\n\
+             closed terminal\nunique no 2 1 1 Y\n",
         err: "",
     },
     Case {
@@ -216,7 +226,34 @@ const REPLAYED: [Case; 4] = [
     },
 ];
 
-const SCHEDULED: [Case; 3] = [
+const SCHEDULED: [Case; 4] = [
+    // A scout that gives away one number after another, until it has one left.
+    Case {
+        words: &["schedule"],
+        system: RIVALS,
+        behind: "split 0\nsplit 0\nsplit 0\nsplit 0\nsplit 0\nsplit 0\nsplit 0\nsplit 0\n\
+             split 0\nsplit 0\nsplit 0\nsplit 0\nsplit 0\nsplit 0\nsplit 0\nsplit 0\n\
+             split 0\nsplit 0\nsplit 0\nsplit 0\nsplit 0\nsplit 0\nsplit 0\nsplit 0\n\
+             split 0\nsplit 0\nsplit 0\nsplit 0\nsplit 0\nsplit 0\nsplit 0\nsplit 0\n\
+             split 0\nsplit 0\nsplit 0\nsplit 0\nsplit 0\nsplit 0\nsplit 0\nsplit 0\n\
+             split 0\nsplit 0\nsplit 0\nsplit 0\nsplit 0\nsplit 0\nsplit 0\nsplit 0\n\
+             split 0\nsplit 0\nsplit 0\nsplit 0\nsplit 0\nsplit 0\nsplit 0\nsplit 0\n\
+             split 0\nsplit 0\nsplit 0\nsplit 0\nsplit 0\nsplit 0\nsplit 0\nsplit 0\n\
+             claim 1 1 0 A\nclaim 2 1 0 B\nclaim 0 0 0 S\nlook 0 1 0\nclaim 0 0 0 S\n\
+             claim 0 -1 0 A\njoin 0 1\njoin 1 0\nlook 4294967295 0 0\n",
+        status: Status::No,
+        out: "split 63\nsplit 62\nsplit 61\nsplit 60\nsplit 59\nsplit 58\nsplit 57\nsplit 56\n\
+             split 55\nsplit 54\nsplit 53\nsplit 52\nsplit 51\nsplit 50\nsplit 49\nsplit 48\n\
+             split 47\nsplit 46\nsplit 45\nsplit 44\nsplit 43\nsplit 42\nsplit 41\nsplit 40\n\
+             split 39\nsplit 38\nsplit 37\nsplit 36\nsplit 35\nsplit 34\nsplit 33\nsplit 32\n\
+             split 31\nsplit 30\nsplit 29\nsplit 28\nsplit 27\nsplit 26\nsplit 25\nsplit 24\n\
+             split 23\nsplit 22\nsplit 21\nsplit 20\nsplit 19\nsplit 18\nsplit 17\nsplit 16\n\
+             split 15\nsplit 14\nsplit 13\nsplit 12\nsplit 11\nsplit 10\nsplit 9\nsplit 8\n\
+             split 7\nsplit 6\nsplit 5\nsplit 4\nsplit 3\nsplit 2\nsplit 1\nrefused 4\nwon\n\
+             held A\nrefused 2 0\nsaw A\nheld S\nrefused 3\njoined 0\nrefused 1\nrefused 1\n\
+             place 0 0 S\nplace 1 0 A\n",
+        err: "",
+    },
     Case {
         words: &["schedule"],
         system: CHAIN,
@@ -267,8 +304,7 @@ const FORMATTED: [Case; 2] = [
 const COMPILED: [Case; 8] = [
     Case {
         words: &["turing"],
-        system: "machine 1\nstate F\nsymbol 0\nsymbol 1\nrule F 0 F 1 R\nrule F 1 F 0 R\ncells 3\n\
-             rows 5\nhead 0\ntape 1 0 1\nend\n",
+        system: BIT_FLIPPER,
         behind: "",
         status: Status::Done,
         out: FLIPPER,
@@ -360,7 +396,15 @@ const TOLD: [Case; 3] = [
     },
 ];
 
-const REFUSED_TEXTS: [Case; 9] = [
+const REFUSED_TEXTS: [Case; 10] = [
+    Case {
+        words: &["grow"],
+        system: SINGLE,
+        behind: "tau 1\n",
+        status: Status::Text,
+        out: "",
+        err: "refused text line 7 AfterEnd\n",
+    },
     Case {
         words: &["replay"],
         system: CHAIN,
@@ -590,16 +634,22 @@ const REFUSED_WORDS: [Case; 19] = [
     },
 ];
 
+const TABLES: [&[Case]; 9] = [
+    &GROWN,
+    &CHECKED,
+    &REPLAYED,
+    &SCHEDULED,
+    &FORMATTED,
+    &COMPILED,
+    &TOLD,
+    &REFUSED_TEXTS,
+    &REFUSED_WORDS,
+];
+
 #[test]
 fn answers_each_case(rt: HostRuntime) -> Result<(), Fail> {
-    run_cases(&rt, rt.alloc(), &GROWN)?;
-    run_cases(&rt, rt.alloc(), &CHECKED)?;
-    run_cases(&rt, rt.alloc(), &REPLAYED)?;
-    run_cases(&rt, rt.alloc(), &SCHEDULED)?;
-    run_cases(&rt, rt.alloc(), &FORMATTED)?;
-    run_cases(&rt, rt.alloc(), &COMPILED)?;
-    run_cases(&rt, rt.alloc(), &TOLD)?;
-    run_cases(&rt, rt.alloc(), &REFUSED_TEXTS)?;
-    run_cases(&rt, rt.alloc(), &REFUSED_WORDS)?;
+    for cases in TABLES {
+        assert_eq!(rt; first_unlike(&rt, rt.alloc(), cases)?, None);
+    }
     Ok(())
 }

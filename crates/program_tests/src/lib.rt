@@ -8,12 +8,6 @@ mod changed_lines;
 #[cfg(test)]
 mod faults;
 #[cfg(test)]
-mod growths;
-#[cfg(test)]
-mod hostile;
-#[cfg(test)]
 mod limits;
 #[cfg(test)]
-mod run;
-#[cfg(test)]
-mod workers;
+mod second_version;

@@ -1,87 +1,95 @@
 // Texts at the limits.
-use crate::run::answered;
+use program_runs::{Failures, answered, run, run_at};
+use std::alloc::{AllocError, Global};
 use std::test::Fail;
-use tile_io::{MemorySink, MemorySource, OpenGate};
-use tilebench::{Status, tilebench};
-use worked_systems::CHAIN;
+use std::thread::Threads;
+use tile_io::OpenGate;
+use tilebench::Status;
+use worked_systems::{CHAIN, changed_line, scattered_seeds};
 
-// Each front of the chain's text lacks its end, at the line where it is cut.
-#[test]
-fn refuses_each_front_of_a_text(rt: HostRuntime) -> Result<(), Fail> {
+// The length of the first front of the chain's text that is refused otherwise than for the want of
+// its end, at the line where it is cut.
+fn first_unlike_front<R: Threads + Sync>(
+    rt: &R,
+    alloc: Global,
+) -> Result<Option<usize>, AllocError> {
     let mut line = 1u32;
     for (length, byte) in CHAIN.as_bytes().iter().enumerate() {
-        let alloc = rt.alloc();
         let front = CHAIN.get(..length).unwrap_or("");
-        let cause = if length == 0 { "NoHeader" } else { "NoEnd" };
-        let err = format!(in alloc; "refused text line {line} {cause}\n")?;
-        let ran = answered(&rt, alloc, &["grow"], front)?;
-        assert_eq!(rt; ran.status, Status::Text, "{length}");
-        assert_eq!(rt; ran.err.as_slice(), err.as_bytes(), "{length}");
+        if !lacks_its_end(rt, alloc, front, line)? {
+            return Ok(Some(length));
+        }
         if *byte == b'\n' {
             line = line.saturating_add(1);
         }
     }
+    Ok(None)
+}
+
+fn lacks_its_end<R: Threads + Sync>(
+    rt: &R,
+    alloc: Global,
+    front: &str,
+    line: u32,
+) -> Result<bool, AllocError> {
+    let cause = if front.is_empty() {
+        "NoHeader"
+    } else {
+        "NoEnd"
+    };
+    let err = format!(in alloc; "refused text line {line} {cause}\n")?;
+    let ran = answered(rt, alloc, &["grow"], front)?;
+    Ok(ran.is(Status::Text, "", err.as_str()))
+}
+
+#[test]
+fn refuses_each_front_of_a_text(rt: HostRuntime) -> Result<(), Fail> {
+    assert_eq!(rt; first_unlike_front(&rt, rt.alloc())?, None);
     Ok(())
 }
 
-// A remark of as many bytes as a line may have.
-#[test]
-fn takes_a_long_remark(rt: HostRuntime) -> Result<(), Fail> {
-    let alloc = rt.alloc();
-    let mut text = String::new(alloc);
-    for _ in 0..256 {
-        text.push_str("#")?;
+// A text of so many items, each with a name of its own.
+fn items(alloc: Global, item: &str, rest: &str, count: u32) -> Result<String, AllocError> {
+    let mut text = String::from_str(alloc, "tiles 1\ntau 1\n")?;
+    for number in 0..count {
+        let line = format!(in alloc; "{item} n{number} {rest}\n")?;
+        text.push_str(line.as_str())?;
     }
-    text.push_str("\n")?;
-    text.push_str(CHAIN)?;
-    let ran = answered(&rt, alloc, &["grow"], text.as_str())?;
-    assert_eq!(rt; ran.status, Status::Done);
-    Ok(())
+    Ok(text)
+}
+
+fn is_refused<R: Threads + Sync>(
+    rt: &R,
+    alloc: Global,
+    text: &[u8],
+    err: &str,
+) -> Result<bool, AllocError> {
+    let ran = run(rt, alloc, &["grow"], text, Failures::NONE)?;
+    Ok(ran.is(Status::Text, "", err))
 }
 
 // One item more than its limit allows.
 #[test]
 fn refuses_too_many_items(rt: HostRuntime) -> Result<(), Fail> {
-    for (item, rest, count, err) in [
-        ("glue", "1", 8193, "refused text line 8195 TooMany\n"),
-        (
-            "tile",
-            "- - - -",
-            16385,
-            "refused text line 16387 TooMany\n",
-        ),
-    ] {
-        let alloc = rt.alloc();
-        let mut text = String::from_str(alloc, "tiles 1\ntau 1\n")?;
-        for number in 0..count {
-            let line = format!(in alloc; "{item} n{number} {rest}\n")?;
-            text.push_str(line.as_str())?;
-        }
-        let ran = answered(&rt, alloc, &["grow"], text.as_str())?;
-        assert_eq!(rt; ran.status, Status::Text, "{item}");
-        assert_eq!(rt; ran.err.as_slice(), err.as_bytes());
-    }
-    Ok(())
-}
-
-// A scout that gives away one number after another, until it has one left.
-#[test]
-fn splits_to_the_last_number(rt: HostRuntime) -> Result<(), Fail> {
     let alloc = rt.alloc();
-    let mut text = String::from_str(alloc, CHAIN)?;
-    let mut wanted = String::new(alloc);
-    for given in 0..64u32 {
-        text.push_str("split 0\n")?;
-        let line = match 63 - given {
-            0 => String::from_str(alloc, "refused 4\n")?,
-            number => format!(in alloc; "split {number}\n")?,
-        };
-        wanted.push_str(line.as_str())?;
-    }
-    wanted.push_str("place 0 0 S\n")?;
-    let ran = answered(&rt, alloc, &["schedule"], text.as_str())?;
-    assert_eq!(rt; ran.status, Status::No);
-    assert_eq!(rt; ran.out.as_slice(), wanted.as_bytes());
+    let glues = items(alloc, "glue", "1", 8193)?;
+    assert!(rt;
+        is_refused(
+            &rt,
+            alloc,
+            glues.as_bytes(),
+            "refused text line 8195 TooMany\n"
+        )?
+    );
+    let types = items(alloc, "tile", "- - - -", 16385)?;
+    assert!(rt;
+        is_refused(
+            &rt,
+            alloc,
+            types.as_bytes(),
+            "refused text line 16387 TooMany\n"
+        )?
+    );
     Ok(())
 }
 
@@ -89,21 +97,78 @@ fn splits_to_the_last_number(rt: HostRuntime) -> Result<(), Fail> {
 #[test]
 fn refuses_a_long_input(rt: HostRuntime) -> Result<(), Fail> {
     let alloc = rt.alloc();
-    let none: Vec<u32> = Vec::new(alloc);
-    let mut source = MemorySource::make(vec![in alloc; b'\n'; 67108865]?, 65536, none);
-    let mut out = MemorySink::make(alloc, 64, 64, Vec::new(alloc))?;
-    let mut err = MemorySink::make(alloc, 64, 64, Vec::new(alloc))?;
-    let words = [String::from_str(alloc, "grow")?];
-    let ran = tilebench(
-        &rt,
-        alloc,
-        &words,
-        &mut source,
-        &mut out,
-        &mut err,
-        &OpenGate,
+    let input = vec![in alloc; b'\n'; 67108865]?;
+    let failures = Failures {
+        most: 65536,
+        ..Failures::NONE
+    };
+    let ran = run_at(&rt, alloc, &["grow"], input, failures, &OpenGate)?;
+    assert!(rt; ran.is(Status::Text, "", "refused text line 0 TooLong\n"));
+    Ok(())
+}
+
+// A text with so many pairs of 363 glues, each with its own two.
+fn paired(alloc: Global, count: u32) -> Result<String, AllocError> {
+    let mut text = String::from_str(alloc, "tiles 2\ntau 1\n")?;
+    for glue in 0..363u32 {
+        text.push_str(format!(in alloc; "glue g{glue} 1\n")?.as_str())?;
+    }
+    push_pairs(alloc, &mut text, count)?;
+    text.push_str("tile S - - - -\nbox 0 0 0 0\nseed 0 0 S\nend\n")?;
+    Ok(text)
+}
+
+// Each glue with those before it.
+fn push_pairs(alloc: Global, text: &mut String, count: u32) -> Result<(), AllocError> {
+    let (mut one, mut other) = (1u32, 0u32);
+    for _pair in 0..count {
+        text.push_str(format!(in alloc; "pair g{one} g{other} 1\n")?.as_str())?;
+        other = other.saturating_add(1);
+        if other == one {
+            one = one.saturating_add(1);
+            other = 0;
+        }
+    }
+    Ok(())
+}
+
+// Whether the text is printed as it is.
+fn is_printed<R: Threads + Sync>(rt: &R, alloc: Global, text: &str) -> Result<bool, AllocError> {
+    let ran = answered(rt, alloc, &["format"], text)?;
+    Ok(ran.is(Status::Done, text, ""))
+}
+
+// As many pairs as there may be, and one more.
+#[test]
+fn takes_no_more_pairs_than_there_may_be(rt: HostRuntime) -> Result<(), Fail> {
+    let alloc = rt.alloc();
+    assert!(rt; is_printed(&rt, alloc, paired(alloc, 65536)?.as_str())?);
+    let text = paired(alloc, 65537)?;
+    assert!(rt;
+        is_refused(
+            &rt,
+            alloc,
+            text.as_bytes(),
+            "refused text line 65902 TooMany\n"
+        )?
     );
-    assert_eq!(rt; ran.status, Status::Text);
-    assert_eq!(rt; err.bytes(), &b"refused text line 0 TooLong\n"[..]);
+    Ok(())
+}
+
+// As many seeds as there may be, and one more.
+#[test]
+fn takes_no_more_seeds_than_there_may_be(rt: HostRuntime) -> Result<(), Fail> {
+    let alloc = rt.alloc();
+    let text = scattered_seeds(alloc, 4096)?;
+    assert!(rt; is_printed(&rt, alloc, text.as_str())?);
+    let more = changed_line(alloc, text.as_str(), 4102, "seed 1 1 T\nend")?;
+    assert!(rt;
+        is_refused(
+            &rt,
+            alloc,
+            more.as_bytes(),
+            "refused text line 4102 TooMany\n"
+        )?
+    );
     Ok(())
 }

@@ -1,7 +1,21 @@
-//! The worked systems of the tests, as texts.
+//! What the tests of several crates share: the worked systems and machines, as texts, and a gate.
 #![tactic(auto)]
 
+mod gate;
+mod machines;
+mod places;
+mod seeds;
+mod texts;
+
+pub use gate::CountingGate;
+pub use machines::{
+    BIT_FLIPPER, CLIPPED_FLIPPER, FLIPPED, FLIPPER, IDLE, LEFT_RUNNER, RUN_LEFT, STAYER,
+    widest_machine,
+};
+pub use places::{Spot, fitting_place, grid_of, lists, put_fitting, sequence_of};
+pub use seeds::seeds_of;
 use std::alloc::Global;
+pub use texts::{changed_line, filled_box, scattered_seeds};
 use tile_io::{MOST_INPUT, Mark, TextStop};
 use tile_system::System;
 use tile_text::read_system;
@@ -18,6 +32,22 @@ pub const CHAIN: &str =
 pub const RIVALS: &str =
     "tiles 1\ntau 1\nglue a 1\ntile S - a - -\ntile A - - - a\ntile B - - - a\n\
     box 0 0 1 0\nseed 0 0 S\nend\n";
+
+/// Three types for one site.
+pub const THREE_RIVALS: &str =
+    "tiles 1\ntau 1\nglue a 1\ntile S - a - -\ntile A - - - a\ntile B - - - a\ntile C - - - a\n\
+    box 0 0 1 0\nseed 0 0 S\nend\n";
+
+/// A short path and a long one around a square to one site, with a type for each.
+pub const RACE: &str =
+    "tiles 1\ntau 1\nglue a 1\nglue b 1\nglue c 1\nglue e 1\nglue f 1\nglue g 1\n\
+    tile S b a - -\ntile A c - - a\ntile B e - b -\ntile C - f e -\ntile D - - g f\n\
+    tile X - - c -\ntile Y g - - -\nbox 0 0 1 2\nseed 0 0 S\nend\n";
+
+/// One tile, whose four sides can be changed to bear glues of other types.
+pub const EDGES: &str =
+    "tiles 1\ntau 1\nglue n 1\nglue e 1\nglue s 1\nglue w 1\ntile O - - - -\ntile N - - n -\n\
+    tile E - - - e\ntile S s - - -\ntile W - w - -\nbox 0 0 0 0\nseed 0 0 O\nend\n";
 
 /// A square that has one order of growth for each corner.
 pub const SQUARE: &str = "tiles 1\ntau 1\nglue a 1\nglue b 1\nglue c 1\nglue d 1\ntile S b a - -\n\
@@ -53,6 +83,13 @@ pub const SMALL_COUNTER: &str =
     tile cw:0 w0 k t0 -\ntile cw:1 w1 k t1 -\ntile cm:0 v0 k v0 k\ntile cm:1 v1 k v1 k\n\
     tile ce:0 e0 - x0 k\ntile ce:1 e1 - x1 k\nbox 0 0 1 7\nseed 0 0 t:0\nend\n";
 
+/// What grows from the counter of two bits, in canonical order.
+pub const COUNTED: &str =
+    "place 0 0 t:0\nplace 1 0 t:1\nplace 1 1 ie:0\nplace 0 1 iw:00\nplace 0 2 cw:0\n\
+    place 1 2 ce:1\nplace 1 3 ie:1\nplace 0 3 iw:01\nplace 0 4 cw:1\nplace 1 4 ce:0\n\
+    place 1 5 ie:0\nplace 0 5 iw:10\nplace 0 6 cw:1\nplace 1 6 ce:1\nplace 1 7 ie:1\n\
+    place 0 7 iw:11\n";
+
 /// The strongest glue at the highest temperature.
 pub const LIMITS: &str =
     "tiles 1\ntau 1000\nglue a 250\ntile S - a - -\ntile A - - - a\nbox 0 0 1 0\n\
@@ -63,15 +100,20 @@ pub const NULL_GLUES: &str =
     "tiles 1\ntau 1\nglue z 0\ntile S - z - -\ntile A - - - z\ntile B - - - -\n\
     box 0 0 1 0\nseed 0 0 S\nend\n";
 
-/// A machine that flips three bits.
-pub const FLIPPER: &str =
-    "tiles 1\ntau 2\nglue s:0 1\nglue s:1 1\nglue h:F:0 2\nglue h:F:1 2\nglue r 1\n\
-    glue l 1\nglue R:F 1\nglue L:F 1\nglue c:1 2\nglue c:2 2\ntile t:0 h:F:1 c:1 - -\n\
-    tile t:1 s:0 c:2 - c:1\ntile t:2 s:1 - - c:2\ntile a:F:0 s:1 R:F h:F:0 l\n\
-    tile a:F:1 s:0 R:F h:F:1 l\ntile R:F:0 h:F:0 r s:0 R:F\ntile R:F:1 h:F:1 r s:1 R:F\n\
-    tile L:F:0 h:F:0 L:F s:0 l\ntile L:F:1 h:F:1 L:F s:1 l\ntile r:0 s:0 r s:0 r\n\
-    tile r:1 s:1 r s:1 r\ntile l:0 s:0 l s:0 l\ntile l:1 s:1 l s:1 l\nbox 0 0 2 4\n\
-    seed 0 0 t:0\nend\n";
+/// Two seed tiles, and one between them that both hold.
+pub const TWO_SEEDS: &str =
+    "tiles 2\ntau 2\nglue a 1\nglue b 1\ntile S - a - -\ntile T - - - b\ntile M - b - a\n\
+    box 0 0 2 0\nseed 0 0 S\nseed 2 0 T\nend\n";
+
+/// A pair of unlike glues that bind, where equal ones do not.
+pub const PAIRED: &str =
+    "tiles 2\ntau 1\nglue a 0\nglue b 0\npair a b 1\ntile S - a - -\ntile A - - - a\n\
+    tile B - - - b\nbox 0 0 1 0\nseed 0 0 S\nend\n";
+
+/// The same where equal ones bind too.
+pub const PAIRED_RIVALS: &str =
+    "tiles 2\ntau 1\nglue a 1\nglue b 0\npair a b 1\ntile S - a - -\ntile A - - - a\n\
+    tile B - - - b\nbox 0 0 1 0\nseed 0 0 S\nend\n";
 
 /// The system of a text.
 pub fn system(alloc: Global, text: &str) -> Result<System, TextStop> {

@@ -1,0 +1,111 @@
+// The canonical order of grown assemblies by several workers.
+ghost use Rattle.std.specs.Prelude.{◌≡◌, IfOk};
+ghost use Rattle.atam.specs.Assembly.{Fits};
+
+use assembly::{Grid, Sequence};
+use frontier_seat::{RngChooser, fill_least_first};
+use grow_workers::grow_in_order;
+use rand_pcg::Lcg64Xsh32;
+use replay_order::{ReplayStop, replay, replay_by};
+use site_table::Grown;
+use std::alloc::Global;
+use std::test::Fail;
+use std::thread::Threads;
+use tile_system::{NoMemory, Placed, System};
+use worked_systems::{
+    CHAIN, CountingGate, FLIPPER, FULL, LIMITS, MISMATCH, NULL_GLUES, RIVALS, SIERPINSKI, SINGLE,
+    SMALL_COUNTER, SQUARE, WIDE, system,
+};
+
+// A box whose seed is in its middle.
+const MIDDLE: &str = "tiles 1\ntau 1\nglue a 1\ntile T a a a a\nbox 0 0 7 7\nseed 3 4 T\nend\n";
+
+// A path whose last tile is below the one that holds it.
+const HOOK: &str =
+    "tiles 1\ntau 1\nglue a 1\nglue b 1\nglue c 1\nglue d 1\nglue e 1\nglue f 1\nglue g 1\n\
+    tile S - a - -\ntile A - b - a\ntile B c - - b\ntile C d - c -\ntile D - - d e\n\
+    tile E - e - f\ntile F - f g -\ntile G g - - -\nbox 0 0 2 2\nseed 0 0 S\nend\n";
+
+const TEXTS: [&str; 14] = [
+    SINGLE,
+    CHAIN,
+    RIVALS,
+    SQUARE,
+    SIERPINSKI,
+    FULL,
+    WIDE,
+    MISMATCH,
+    SMALL_COUNTER,
+    LIMITS,
+    NULL_GLUES,
+    FLIPPER,
+    MIDDLE,
+    HOOK,
+];
+
+// Whether two sequences have the same places.
+fn are_same(one: &Sequence, other: &Sequence) -> bool {
+    if one.len() != other.len() {
+        return false;
+    }
+    for index in 0..one.len() {
+        if one.get(index) != other.get(index) {
+            return false;
+        }
+    }
+    true
+}
+
+// What a system grows into, its canonical order, and whether the one worker came to the gate once.
+fn grown_in_order(alloc: Global, sys: &System) -> Result<(Grown, Sequence, bool), NoMemory>
+    ensures area { IfOk result (λ r. r.0.grid.area ≡ sys.now.area) }
+    ensures fits { IfOk result (λ r. Fits sys.now r.0.grid.tiles) }
+{
+    let gate = CountingGate::make();
+    let (grown, order) = grow_in_order(alloc, sys, &gate)?;
+    let _area = grown.grid().area();
+    Ok((grown, order, gate.saw_each_once(1)))
+}
+
+// Whether so many workers find this order of the grid.
+fn is_found<R: Threads + Sync>(
+    rt: &R,
+    alloc: Global,
+    sys: &System,
+    grid: &Grid,
+    order: &Sequence,
+) -> Result<bool, ReplayStop>
+    requires area { grid.now.area ≡ sys.now.area }
+    requires fits { Fits sys.now grid.now.tiles }
+{
+    for workers in [1, 2, 3, 4, 16] {
+        let found = replay_by(rt, alloc, sys, grid, workers)?;
+        if !are_same(&found, order) {
+            return Ok(false);
+        }
+    }
+    Ok(are_same(&replay(alloc, sys, grid)?, order))
+}
+
+// Whether any number of workers find the order in which the system grows by one, with a table and
+// without.
+fn orders_agree<R: Threads + Sync>(
+    rt: &R,
+    alloc: Global,
+    sys: &System,
+) -> Result<bool, ReplayStop> {
+    let (grown, order, came) = grown_in_order(alloc, sys)?;
+    let mut chooser = RngChooser::make(Lcg64Xsh32::new(0, 0));
+    let (filled, alone) = fill_least_first(alloc, sys, &mut chooser)?;
+    let is_same = are_same(&alone, &order) && filled.count() == grown.grid().count();
+    Ok(came && is_same && is_found(rt, alloc, sys, grown.grid(), &order)?)
+}
+
+#[test]
+fn any_workers_tell_the_canonical_order(rt: HostRuntime) -> Result<(), Fail> {
+    for text in TEXTS {
+        let sys = system(rt.alloc(), text)?;
+        assert!(rt; orders_agree(&rt, rt.alloc(), &sys)?);
+    }
+    Ok(())
+}

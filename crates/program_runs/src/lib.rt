@@ -1,0 +1,8 @@
+//! Runs of the top call over memory, for the tests of the program.
+#![tactic(auto)]
+
+mod cases;
+mod run;
+
+pub use cases::{Case, Change, behind, first_unlike, first_unlike_change};
+pub use run::{Failures, Outcome, answered, run, run_at};

@@ -1,0 +1,163 @@
+// What several workers do, and that they come.
+use program_runs::{Failures, Outcome, answered, run_at};
+use site_table::Grown;
+use std::alloc::{AllocError, Global};
+use std::sync::atomic::{AtomicU64, Ordering};
+use std::test::Fail;
+use std::thread::Threads;
+use tile_io::Gate;
+use tilebench::Status;
+use worked_systems::{COUNTED, CountingGate, RIVALS, SMALL_COUNTER};
+
+// Whether the small counter grows into its places by so many workers, at each of three choices.
+fn grows_at_any_choice<R: Threads + Sync>(
+    rt: &R,
+    alloc: Global,
+    workers: &str,
+) -> Result<bool, AllocError> {
+    let mut out = String::from_str(alloc, COUNTED)?;
+    out.push_str("closed terminal\nunique yes\n")?;
+    for choice in ["0", "1", "18446744073709551615"] {
+        let words = ["grow", "--workers", workers, "--choice", choice];
+        let ran = answered(rt, alloc, &words, SMALL_COUNTER)?;
+        if !ran.is(Status::Done, out.as_str(), "") {
+            return Ok(false);
+        }
+    }
+    Ok(true)
+}
+
+// A yes has the same bytes by any number of workers, at every choice.
+#[test]
+fn prints_the_same_by_any_workers(rt: HostRuntime) -> Result<(), Fail> {
+    for workers in ["1", "2", "16"] {
+        assert!(rt; grows_at_any_choice(&rt, rt.alloc(), workers)?);
+    }
+    Ok(())
+}
+
+// The lines of four workers' wins, by the counts of their numbers.
+fn told_wins(alloc: Global, grown: &Grown) -> Result<String, AllocError> {
+    let wins = [grown.won(0), grown.won(63), grown.won(62), grown.won(61)];
+    let mut text = String::new(alloc);
+    for (worker, won) in wins.iter().enumerate() {
+        let line = format!(in alloc; "won {worker} {won}\n")?;
+        text.push_str(line.as_str())?;
+    }
+    text.push_str("total 15\n")?;
+    Ok(text)
+}
+
+#[test]
+fn prints_what_each_worker_won(rt: HostRuntime) -> Result<(), Fail> {
+    let alloc = rt.alloc();
+    let ran = answered(&rt, alloc, &["race", "--workers", "4"], SMALL_COUNTER)?;
+    let Some(grown) = &ran.grown else {
+        return Err("no growth").map_err(Fail::from);
+    };
+    assert_eq!(rt; grown.grid().count(), 16);
+    let wins = grown.won(0) + grown.won(63) + grown.won(62) + grown.won(61);
+    assert_eq!(rt; wins, 15);
+    let text = told_wins(alloc, grown)?;
+    assert!(rt; ran.is(Status::Done, text.as_str(), ""));
+    Ok(())
+}
+
+// A run with a gate.
+fn gated<R: Threads + Sync, G: Gate>(
+    rt: &R,
+    alloc: Global,
+    words: &[&str],
+    system: &str,
+    gate: &G,
+) -> Result<Outcome, AllocError> {
+    let input = system.as_bytes().to_vec(alloc)?;
+    run_at(rt, alloc, words, input, Failures::NONE, gate)
+}
+
+// Whether each worker comes to the gate once, with a number of its own, and no other.
+fn each_comes_once<R: Threads + Sync>(
+    rt: &R,
+    alloc: Global,
+    words: &[&str],
+    system: &str,
+    workers: u32,
+) -> Result<bool, AllocError> {
+    let gate = CountingGate::make();
+    let ran = gated(rt, alloc, words, system, &gate)?;
+    Ok(ran.err.len() == 0 && ran.out.len() > 0 && gate.saw_each_once(workers))
+}
+
+// Words, what they are run on, and how many workers are to come.
+const CALLS: [(&[&str], &str, u32); 12] = [
+    (&["grow"], SMALL_COUNTER, 1),
+    (&["grow", "--choice", "7"], SMALL_COUNTER, 1),
+    (&["grow", "--workers", "2"], SMALL_COUNTER, 2),
+    (&["grow", "--workers", "4"], RIVALS, 4),
+    (
+        &["grow", "--workers", "16", "--choice", "7"],
+        SMALL_COUNTER,
+        16,
+    ),
+    (&["race"], SMALL_COUNTER, 1),
+    (&["race", "--workers", "4"], SMALL_COUNTER, 4),
+    (&["report"], SMALL_COUNTER, 1),
+    (&["report", "--workers", "3"], SMALL_COUNTER, 3),
+    (&["load", "0"], "", 4),
+    (&["load", "15871"], "", 4),
+    (&["check"], SMALL_COUNTER, 0),
+];
+
+#[test]
+fn each_worker_comes_once(rt: HostRuntime) -> Result<(), Fail> {
+    for (words, system, workers) in CALLS {
+        assert!(rt; each_comes_once(&rt, rt.alloc(), words, system, workers)?);
+    }
+    Ok(())
+}
+
+// A worker waits for the other for so many loads at most.
+const MOST_LOADS: u64 = 1_000_000_000;
+
+// Holds workers 0 and 1 until both have come.
+#[derive(Drop)]
+struct MeetingGate {
+    first: AtomicU64,
+    second: AtomicU64,
+    missed: AtomicU64,
+}
+
+// Marks an arrival, and waits for the other.
+fn meet(mine: &AtomicU64, other: &AtomicU64, missed: &AtomicU64) {
+    mine.store(1, Ordering::SeqCst);
+    for _ in 0..MOST_LOADS {
+        if other.load(Ordering::SeqCst) == 1 {
+            return;
+        }
+    }
+    missed.store(1, Ordering::SeqCst);
+}
+
+impl Gate for MeetingGate {
+    fn arrive(&self, worker: u32) {
+        match worker {
+            0 => meet(&self.first, &self.second, &self.missed),
+            1 => meet(&self.second, &self.first, &self.missed),
+            _ => (),
+        }
+    }
+}
+
+#[test]
+fn workers_run_side_by_side(rt: HostRuntime) -> Result<(), Fail> {
+    let gate = MeetingGate {
+        first: AtomicU64::new(0),
+        second: AtomicU64::new(0),
+        missed: AtomicU64::new(0),
+    };
+    let words = ["grow", "--workers", "2"];
+    let ran = gated(&rt, rt.alloc(), &words, SMALL_COUNTER, &gate)?;
+    assert_eq!(rt; ran.status, Status::Done);
+    assert_eq!(rt; gate.missed.load(Ordering::SeqCst), 0);
+    Ok(())
+}
