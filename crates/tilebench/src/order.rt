@@ -3,39 +3,43 @@ ghost use Rattle.std.specs.Prelude.{◌≡◌, ◌≤◌, Ok, IfOk, IfErr, IfSom
 ghost use Rattle.atam.specs.Assembly.{Fits};
 ghost use Rattle.atam.specs.Canonical.{IsCanonical};
 ghost use Rattle.atam.specs.Growth.{IsProducible};
+ghost use Rattle.type_index.specs.Indexes.{IsIndexOf};
 ghost use Rattle.grow_workers.specs.Workers.{IsGrowth};
 ghost use Rattle.replay_order.specs.ReplayAnswers.{IsWholeOrder};
 
 use assembly::{Grid, Sequence};
-use grow_workers::{grow, grow_in_order};
+use grow_workers::{grow_by_index, grow_in_order_by_index};
 use replay_order::{ReplayStop, replay, replay_by};
 use site_table::Grown;
 use std::alloc::Global;
 use std::thread::Threads;
 use tile_io::Gate;
 use tile_system::{NoMemory, System};
+use type_index::TypeIndex;
 
 /// Grows a system, and tells its canonical order too where growth went in it, as by one worker
-/// with the choice 0. Where no order is wanted none is kept.
+/// with the choice 0. Where no order is wanted none is kept. The index of the types is lent.
 pub fn grow_ordered<R: Threads + Sync, G: Gate>(
     rt: &R,
     alloc: Global,
     sys: &System,
+    types: &TypeIndex,
     workers: u32,
     choice: u64,
     wants_order: bool,
     gate: &G,
 ) -> Result<(Grown, Option<Sequence>), NoMemory>
+    requires index { IsIndexOf sys.now types.now }
     requires some { 1 ≤ workers }
     requires few { workers ≤ 16 }
     ensures grew { IfOk result (λ r. IsGrowth sys.now workers r.0) }
     ensures order { IfOk result (λ r. IfSome r.1 (IsCanonical sys.now r.0.grid.tiles)) }
 {
     if wants_order && workers == 1 && choice == 0 {
-        let (grown, order) = grow_in_order(alloc, sys, gate)?;
+        let (grown, order) = grow_in_order_by_index(alloc, sys, types, gate)?;
         return Ok((grown, Some(order)));
     }
-    let grown = grow(rt, alloc, sys, workers, choice, gate)?;
+    let grown = grow_by_index(rt, alloc, sys, types, workers, choice, gate)?;
     Ok((grown, None))
 }
 

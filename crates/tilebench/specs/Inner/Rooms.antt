@@ -2,6 +2,7 @@
 use Rattle.std.specs.Prelude.{◌≡◌, ℕ, List, [], ◌∷◌, string_bytes, All, IfSome}
 use Rattle.atam.specs.declared.place.Place.{Place}
 use Rattle.atam.specs.TileSystem.{TileSystem, IsType}
+use Rattle.atam.specs.Growth.{IsLeastOpenOutside}
 use Rattle.grow_core.specs.declared.event.Event.{Event}
 use Rattle.seq_text.specs.SeenLines.{HasLine}
 use Rattle.seq_text.specs.VerdictLines.{NamesTypes}
@@ -11,6 +12,7 @@ use Rattle.tilebench.specs.declared.commands.check.Judgement.TheVariants.{Legal,
 use Rattle.tilebench.specs.declared.commands.grow.Growth.{Growth}
 use Rattle.tilebench.specs.declared.judged.Judged.{Judged}
 use Rattle.replay_order.specs.ReplayAnswers.{IsWholeOrder}
+use Rattle.local_check.specs.declared.verdict.Verdict.{Verdict}
 use Rattle.local_check.specs.Judgement.{IsVerdict}
 use Rattle.tilebench.specs.declared.commands.replay.Reordering.{Reordering}
 use Rattle.tilebench.specs.declared.commands.replay.Reordering.TheVariants.{Whole}
@@ -28,10 +30,15 @@ pub record HasTypes (sys : TileSystem) (outcome : Outcome) : Type 0 where
   pub outside : IfSome outcome.outside (λ found. IsType sys found.1)
   pub verdict : NamesTypes sys outcome.verdict
 
--- the whole order of these tiles, and the verdict on it
+-- the verdict on some whole order of these tiles
+abbrev pub IsVerdictOn : TileSystem → List Place → Verdict → Type 0
+IsVerdictOn sys tiles verdict = (order : List Place) × IsWholeOrder sys tiles order × IsVerdict sys order verdict
+
+-- the whole order of these tiles, the verdict on it, and what is open outside the box
 pub record IsJudged (sys : TileSystem) (tiles : List Place) (judged : Judged) : Type 0 where
   pub ordered : IsWholeOrder sys tiles judged.order
   pub verdict : IsVerdict sys judged.order judged.verdict
+  pub outside : IsLeastOpenOutside sys tiles judged.outside
 
 -- the outcome of a growth
 abbrev pub outcome_of : Growth → Outcome

@@ -1,7 +1,6 @@
 // `grow`: what a system grows into within its box.
-ghost use Rattle.std.specs.Prelude.{◌≡◌, true, IfOk};
-ghost use Rattle.atam.specs.Assembly.{Fits};
-ghost use Rattle.atam.specs.Growth.{IsClosedInBox, IsProducible, IsLeastOpenOutside};
+ghost use Rattle.std.specs.Prelude.{◌≡◌, true};
+ghost use Rattle.atam.specs.Growth.{IsClosedInBox, IsProducible};
 ghost use Rattle.local_check.specs.declared.verdict.Verdict.{Verdict};
 ghost use Rattle.tilebench.specs.Commands.Grow.{IsGrowthText, growth_text, is_unique};
 ghost use Rattle.tilebench.specs.Inner.Rooms.{GrowsTo, HasTypes, IsJudged, outcome_of};
@@ -15,7 +14,6 @@ use site_table::Grown;
 use std::alloc::Global;
 use tile_io::{Failed, Sink};
 use tile_system::{NoMemory, Site, System, TypeId};
-use type_index::TypeIndex;
 
 /// The command.
 #[derive(Clone, Copy)]
@@ -34,13 +32,13 @@ impl GrowthRoom for Grow {
 
     fn answer(
         &self,
-        alloc: Global,
+        _alloc: Global,
         sys: System,
         _workers: u32,
         grown: &Grown,
         judged: Option<Judged>,
     ) -> Result<Growth, NoMemory> {
-        growth_of(alloc, sys, grown.grid(), judged.unwrap())
+        Ok(growth_of(sys, grown.grid(), judged.unwrap()))
     }
 }
 
@@ -80,38 +78,23 @@ pub fn is_unique(verdict: Verdict) -> bool
 }
 
 /// What a system grew into, by the grid of a full growth and the verdict on it.
-pub fn growth_of(
-    alloc: Global,
-    sys: System,
-    grid: &Grid,
-    judged: Judged,
-) -> Result<Growth, NoMemory>
+pub fn growth_of(sys: System, grid: &Grid, judged: Judged) -> Growth
     requires area { grid.now.area ≡ sys.area }
     requires producible { IsProducible sys grid.now.tiles }
     requires closed { IsClosedInBox sys grid.now.tiles }
     requires judged { IsJudged sys grid.now.tiles judged }
-    ensures { IfOk result (GrowsTo sys grid.now.tiles) }
+    ensures { GrowsTo sys grid.now.tiles result }
 {
     let _box = grid.area();
-    let outside = open_outside(alloc, &sys, grid)?;
-    let Judged { order, verdict } = judged;
-    Ok(Growth {
+    let Judged {
+        order,
+        verdict,
+        outside,
+    } = judged;
+    Growth {
         sys,
         order,
         outside,
         verdict,
-    })
-}
-
-// The least open site outside the box.
-fn open_outside(
-    alloc: Global,
-    sys: &System,
-    grid: &Grid,
-) -> Result<Option<(Site, TypeId)>, NoMemory>
-    requires { Fits sys.now grid.now.tiles }
-    ensures { IfOk result (IsLeastOpenOutside sys.now grid.now.tiles) }
-{
-    let index = TypeIndex::build(alloc, sys)?;
-    Ok(index.least_open_outside(sys, grid))
+    }
 }

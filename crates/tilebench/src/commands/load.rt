@@ -14,7 +14,7 @@ use crate::judged::judge_grid;
 use crate::room::Reply;
 use crate::stop::Stop;
 use counter_compile::{CounterStop, compile_counter};
-use grow_workers::grow;
+use grow_workers::grow_by_index;
 use itoa::Buffer;
 use seq_text::{print_closed, print_verdict};
 use site_table::Grown;
@@ -22,6 +22,7 @@ use std::alloc::Global;
 use std::thread::Threads;
 use tile_io::{Failed, Gate, Sink, print_line};
 use tile_system::{NoMemory, System};
+use type_index::TypeIndex;
 
 const WORKERS: u32 = 4;
 
@@ -42,9 +43,10 @@ pub fn answer<R: Threads + Sync, G: Gate>(
 {
     let counter = counter_of(number);
     let sys = system_of(alloc, counter)?;
-    let grown = grow(rt, alloc, &sys, WORKERS, number, gate)?;
-    let judged = judge_grid(rt, alloc, &sys, grown.grid(), None, WORKERS)?;
-    let growth = growth_of(alloc, sys, grown.grid(), judged)?;
+    let types = TypeIndex::build(alloc, &sys)?;
+    let grown = grow_by_index(rt, alloc, &sys, &types, WORKERS, number, gate)?;
+    let judged = judge_grid(rt, alloc, &sys, &types, grown.grid(), None, WORKERS)?;
+    let growth = growth_of(sys, grown.grid(), judged);
     let loaded = Loaded {
         number,
         counter,

@@ -38,7 +38,7 @@ impl GrowthRoom for Report {
         judged: Option<Judged>,
     ) -> Result<Reported, NoMemory> {
         let wins = wins_of(alloc, workers, grown)?;
-        let growth = growth_of(alloc, sys, grown.grid(), judged.unwrap())?;
+        let growth = growth_of(sys, grown.grid(), judged.unwrap());
         report_of(alloc, &growth, grown.grid().count(), &wins)
     }
 }

@@ -2,9 +2,6 @@ use Rattle.std.proofs.Common.{◌∙◌, refl}
 use Rattle.tilebench.proofs.Growths.{open_type, producible_fits, verdict_types}
 use Rattle.tilebench.proofs.commands.grow.growth_of.Goals as goal
 
-pub open_outside-requires : goal.open_outside-requires
-open_outside-requires c = producible_fits c.args.sys c.area-box.result c.args.grid.now.tiles (c.area-box.ensures.area ∙ c.requires.area) c.area-box.ensures.inside c.requires.producible
-
 pub returns : goal.returns
 returns c =
     let sys = c.args.sys in
@@ -21,14 +18,14 @@ returns c =
             closed = c.requires.closed;
           };
           canonical = ordered.canonical;
-          least = c.in_ok-outside.ensures;
+          least = c.requires.judged.outside;
           judged = c.requires.judged.verdict;
         };
         ordered = ordered;
       };
       types = record {
         order = ordered.fits.types;
-        outside = open_type sys tiles c.in_ok-outside.outside c.in_ok-outside.ensures;
+        outside = open_type sys tiles c.args.judged.outside c.requires.judged.outside;
         verdict = verdict_types sys c.args.judged.order c.args.judged.verdict c.requires.judged.verdict;
       };
     }

@@ -10,8 +10,8 @@ pub returns : goal.returns
 returns c =
     let sys = c.args.sys in
     let table = c.args.grown.now in
-    let growth = c.in_ok-growth.growth in
-    let grows = subst (λ (grid : TileGrid). GrowsTo sys grid.tiles growth) c.grid.ensures c.in_ok-growth.ensures in
+    let growth = c.growth_of-growth.result in
+    let grows = subst (λ (grid : TileGrid). GrowsTo sys grid.tiles growth) c.grid.ensures c.growth_of-growth.ensures in
     let count : c.count.result ≡ length table.grid.tiles = c.count.ensures ∙ ap (λ (grid : TileGrid). length grid.tiles) c.grid-2.ensures in
     IfOk-weaker c.report_of.result _ _ (λ reported reports.
     let told = subst (λ (wins : List Win). Reports growth c.count.result wins reported) c.deref.ensures.value reports in
