@@ -4,6 +4,7 @@ pub mod Dues
 pub mod Lowerings
 pub mod ReadySites
 pub mod Standing
+pub mod SeedsFrom
 pub mod RowBelow
 pub mod Begun
 pub mod SpanRoom

@@ -27,7 +27,7 @@ use Rattle.assembly.proofs.Cells.{site_at-injective}
 use Rattle.replay_order.specs.ReplayAnswers.{HoldsSeeds, IsWholeOrder}
 use Rattle.assembly.specs.Grids.{TileGrid}
 use Rattle.replay_order.specs.Inner.Replays.{Waiting}
-use Rattle.replay_order.specs.Inner.Spans.{standing, IsSiteBetween, GoesOn, IsPartOfOrder, IsSpanListed, HasSeedsBelow, IsSpanFull, FollowsIfFull, IsListedBehind, CanList}
+use Rattle.replay_order.specs.Inner.Spans.{standing, IsSiteBetween, GoesOn, IsPartOfOrder, IsSpanListed, IsSpanFull, FollowsIfFull, IsListedBehind, CanList}
 use Rattle.replay_order.proofs.Begun.{seeds_part}
 use Rattle.replay_order.proofs.Standing.{standing_from, standing_begun, standing_tile, standing_distinct, standing_part}
 
@@ -387,10 +387,6 @@ module _ (sys : TileSystem) (tiles : List Place) (distinct : HasDistinctSites ti
         fits = Fits-part sys order tiles order_part fits;
         producible = (producible_exactly sys tiles order distinct fits.types seeds_distinct order_canonical).1 all_listed;
       }
-
--- seeds that are below the one number are below a greater one
-pub seeds_below : (sys : TileSystem) (low high : ℕ) → low ≤ high → HasSeedsBelow sys low → HasSeedsBelow sys high
-seeds_below sys low high more seeds p contains = wider sys.area 0 low 0 high p.site (omega arith) more (seeds p contains)
 
 module _ (sys : TileSystem) (grid : TileGrid) (can : CanList sys grid) where
   -- what was listed of two spans, one behind the other, is that of both

@@ -1,20 +1,20 @@
 // The canonical order of an assembly whose rows are ordered apart from each other.
-ghost use Rattle.std.specs.Prelude.{◌≡◌, ◌≢◌, ◌↔◌, ◌<◌, ◌≤◌, ◌+◌, ℕ, IsOk, length, IfOk, IfSome};
-ghost use Rattle.atam.specs.TileSystem.{TileSystem, IsValid};
+ghost use Rattle.std.specs.Prelude.{◌≡◌, ◌≢◌, ◌↔◌, ◌<◌, ◌≤◌, ◌+◌, ◌*◌, ℕ, IsOk, length, IfOk, IfSome};
+ghost use Rattle.atam.specs.TileSystem.{TileSystem};
 ghost use Rattle.atam.specs.Assembly.{Fits};
 ghost use Rattle.atam.specs.Growth.{IsProducible};
 ghost use Rattle.atam.specs.Sites.{height_of, width_of};
 ghost use Rattle.assembly.specs.Cells.{cell_count};
 ghost use Rattle.assembly.specs.Grids.{TileGrid};
 ghost use Rattle.fan_out.specs.Portions.{InARow};
-ghost use Rattle.replay_order.specs.Inner.Spans.{HasSeedsBelow, IsListedBehind, CanList};
-ghost use Rattle.replay_order.specs.Inner.Rows.{first_site, begun_by, ListsRows};
+ghost use Rattle.replay_order.specs.Inner.Spans.{IsListedBehind, CanList};
+ghost use Rattle.replay_order.specs.Inner.Rows.{begun_by, ListsRows};
 ghost use Rattle.replay_order.specs.ReplayAnswers.{HoldsSeeds, LacksSeed, IsReplayAnswer, IsWholeOrder};
 
 use crate::bonds::Bonds;
 use crate::canonical::{holds_seeds, list_span, replay};
 use crate::stop::ReplayStop;
-use assembly::{Grid, PlaceLog, Sequence, site_index};
+use assembly::{Grid, PlaceLog, Sequence};
 use fan_out::{Portion, share_numbers};
 use std::alloc::Global;
 use std::thread::Threads;
@@ -64,19 +64,17 @@ fn order_by_rows<R: Threads + Sync>(
     ensures { IfOk result (λ found. IfSome found (IsWholeOrder sys.now grid.now.tiles)) }
 {
     let rows = grid.area().height() as usize;
-    let above = above_seeds(sys);
     let parts = share_numbers(
         rt,
         alloc,
         rows,
         workers,
         &move |rows: Portion| -> Result<Sequence, NoMemory>
-            requires { CanList sys.now grid.now × HasSeedsBelow sys.now above
-                × (above ≤ cell_count sys.now.area)
+            requires { CanList sys.now grid.now
                 × (rows.start ≤ rows.end) × (rows.end ≤ height_of sys.now.area) }
-            ensures { ListsRows sys.entry.now grid.entry.now above
+            ensures { ListsRows sys.entry.now grid.entry.now
                 rows.worker rows.start rows.end result }
-        { list_rows(alloc, sys, grid, above, rows) },
+        { list_rows(alloc, sys, grid, rows) },
     )?;
     let order = unite(parts)?;
     if order.len() < grid.count() as usize {
@@ -85,53 +83,20 @@ fn order_by_rows<R: Threads + Sync>(
     Ok(Some(order))
 }
 
-// The number behind the last site of the last row that has a seed.
-fn above_seeds(sys: &System) -> usize
-    ensures valid { IsValid sys.now }
-    ensures within { result ≤ cell_count sys.now.area }
-    ensures seeds { HasSeedsBelow sys.now result }
-{
-    let area = sys.area();
-    let width = area.width() as usize;
-    let mut rows = 0;
-    for seed in sys.seeds() {
-        rows = rows.max(site_index(&area, seed.site) / width + 1);
-    }
-    rows * width
-}
-
 // What the canonical order has of the tiles in the rows of one worker, if that is all of them: behind
 // the seeds, where it is the first worker.
-fn list_rows(
-    alloc: Global,
-    sys: &System,
-    grid: &Grid,
-    above: usize,
-    rows: Portion,
-) -> Result<Sequence, NoMemory>
+fn list_rows(alloc: Global, sys: &System, grid: &Grid, rows: Portion) -> Result<Sequence, NoMemory>
     requires can { CanList sys.now grid.now }
-    requires seeds { HasSeedsBelow sys.now above }
-    requires above { above ≤ cell_count sys.now.area }
     requires rows { (rows.start ≤ rows.end) × (rows.end ≤ height_of sys.now.area) }
-    ensures { ListsRows sys.now grid.now above rows.worker rows.start rows.end result }
+    ensures { ListsRows sys.now grid.now rows.worker rows.start rows.end result }
 {
-    let first = first_site(sys, above, rows.start);
-    let end = first_site(sys, above, rows.end);
+    let width = sys.area().width() as usize;
+    let first = rows.start * width;
+    let end = rows.end * width;
     let bonds = Bonds::make(alloc, sys)?;
     let mut log = log_of(alloc, sys, rows.worker, end - first)?;
     let _waiting = list_span(alloc, &bonds, grid, &mut log, first, end)?;
     Ok(log.into_sequence())
-}
-
-// Where a row begins, but for those that have seeds: they are all of them in the span of the first.
-fn first_site(sys: &System, above: usize, row: usize) -> usize
-    requires { row ≤ height_of sys.now.area }
-    ensures { result ≡ first_site above (width_of sys.now.area) row }
-{
-    if row == 0 {
-        return 0;
-    }
-    above.max(row * sys.area().width() as usize)
 }
 
 // What a worker begins with, and room for so many places more: the first one has the seeds, and room
@@ -152,10 +117,9 @@ fn log_of(alloc: Global, sys: &System, worker: u32, count: usize) -> Result<Plac
 // What all workers have listed, one behind the other.
 fn unite(mut parts: Vec<Result<Sequence, NoMemory>>) -> Result<Sequence, NoMemory>
     requires { 0 < length parts.items }
-    ensures { IfOk result (λ order. (sys : TileSystem) (grid : TileGrid) (above end : ℕ) →
-        CanList sys grid → InARow (ListsRows sys grid above) 0 0 end parts.items →
-        IsListedBehind sys grid.tiles 0 (first_site above (width_of sys.area) end)
-        sys.seeds order) }
+    ensures { IfOk result (λ order. (sys : TileSystem) (grid : TileGrid) (end : ℕ) →
+        CanList sys grid → InARow (ListsRows sys grid) 0 0 end parts.items →
+        IsListedBehind sys grid.tiles 0 (end * width_of sys.area) sys.seeds order) }
 {
     let mut order = parts.remove(0)?;
     for part in parts {

@@ -1,5 +1,5 @@
 // The canonical order of an assembly.
-ghost use Rattle.std.specs.Prelude.{◌≡◌, ◌≢◌, ◌↔◌, ◌⊎◌, ◌≤◌, ◌+◌, ◌-◌, IsOk, [], length, Some, IfOk};
+ghost use Rattle.std.specs.Prelude.{◌≡◌, ◌≢◌, ◌↔◌, ◌≤◌, ◌+◌, ◌-◌, IsOk, [], length, Some, IfOk};
 ghost use Rattle.std.specs.Bool.{OnTrue, OnFalse};
 ghost use Rattle.atam.specs.Placements.{HasDistinctSites, tile_at};
 ghost use Rattle.atam.specs.TileSystem.{IsValid};
@@ -7,7 +7,7 @@ ghost use Rattle.atam.specs.Assembly.{Fits};
 ghost use Rattle.atam.specs.Growth.{IsProducible};
 ghost use Rattle.assembly.specs.Cells.{cell_count};
 ghost use Rattle.replay_order.specs.Inner.Replays.{AreLacks, AreReadySites};
-ghost use Rattle.replay_order.specs.Inner.Spans.{standing, HasSeedsBelow, IsSpanListed};
+ghost use Rattle.replay_order.specs.Inner.Spans.{standing, HaveStood, IsSpanListed};
 ghost use Rattle.replay_order.specs.ReplayAnswers.{HoldsSeeds, LacksSeed, IsReplayAnswer};
 
 use crate::bonds::Bonds;
@@ -60,8 +60,7 @@ pub(crate) fn holds_seeds(sys: &System, grid: &Grid) -> bool
 }
 
 // Lists what the canonical order has of the sites with numbers from one to before another, where
-// each tile before them stands, and hands out what these sites lack then. The seeds stand, too; they
-// are at sites before the span, or it begins with the first site.
+// the seeds and each tile before these sites stand, and hands out what the sites lack then.
 pub(crate) fn list_span(
     alloc: Global,
     bonds: &Bonds,
@@ -75,7 +74,6 @@ pub(crate) fn list_span(
     requires distinct { HasDistinctSites grid.now.tiles }
     requires seeded { HoldsSeeds bonds.now grid.now.tiles }
     requires span { (first ≤ end) × (end ≤ cell_count bonds.now.area) }
-    requires seeds { (first ≡ 0) ⊎ HasSeedsBelow bonds.now first }
     requires room { length log.old.places + (end - first) ≤ log.old.room }
     ensures { IfOk result
         (IsSpanListed bonds.now grid.now.tiles first end log.old.places log.new.places) }
@@ -83,17 +81,14 @@ pub(crate) fn list_span(
     let sys = bonds.system();
     let area = grid.area();
     let mut waiting = WaitingSites::make(alloc, area, sys.tau(), sys.seeds(), first, end)?;
-    if first == 0 {
-        stand_seeds(bonds, grid, &mut waiting);
-    } else {
-        stand_row_below(bonds, grid, &mut waiting, first);
-    }
+    stand_seeds(bonds, grid, &mut waiting, first);
+    stand_row_below(bonds, grid, &mut waiting, first);
     list_ready(bonds, grid, log, &mut waiting);
     Ok(waiting)
 }
 
-// The seeds stand.
-fn stand_seeds(bonds: &Bonds, grid: &Grid, waiting: &mut WaitingSites)
+// The seeds at sites with numbers from the first one on stand. The others do with the tiles below.
+fn stand_seeds(bonds: &Bonds, grid: &Grid, waiting: &mut WaitingSites, first: usize)
     requires valid { IsValid bonds.now }
     requires area { grid.now.area ≡ bonds.now.area }
     requires fits { Fits bonds.now grid.now.tiles }
@@ -101,12 +96,14 @@ fn stand_seeds(bonds: &Bonds, grid: &Grid, waiting: &mut WaitingSites)
     requires lacks { AreLacks bonds.now grid.now.tiles [] waiting.old }
     requires ready { AreReadySites bonds.now grid.now.tiles [] waiting.old }
     ensures span { (waiting.new.first ≡ waiting.old.first) × (waiting.new.end ≡ waiting.old.end) }
-    ensures lacks { AreLacks bonds.now grid.now.tiles bonds.now.seeds waiting.new }
-    ensures ready { AreReadySites bonds.now grid.now.tiles bonds.now.seeds waiting.new }
+    ensures stood { HaveStood bonds.now grid.now.tiles first bonds.now.seeds 0 waiting.new }
 {
     let area = grid.area();
     for seed in bonds.system().seeds() {
         let number = site_index(&area, seed.site);
+        if number < first {
+            continue;
+        }
         waiting.lower_beside(bonds, grid, *seed, number);
     }
 }
@@ -120,9 +117,7 @@ fn stand_row_below(bonds: &Bonds, grid: &Grid, waiting: &mut WaitingSites, first
     requires seeded { HoldsSeeds bonds.now grid.now.tiles }
     requires first { first ≡ waiting.old.first }
     requires within { first ≤ cell_count bonds.now.area }
-    requires seeds { HasSeedsBelow bonds.now first }
-    requires lacks { AreLacks bonds.now grid.now.tiles [] waiting.old }
-    requires ready { AreReadySites bonds.now grid.now.tiles [] waiting.old }
+    requires stood { HaveStood bonds.now grid.now.tiles first bonds.now.seeds 0 waiting.old }
     ensures span { (waiting.new.first ≡ waiting.old.first) × (waiting.new.end ≡ waiting.old.end) }
     ensures lacks { AreLacks bonds.now grid.now.tiles
         (standing bonds.now grid.now.tiles first) waiting.new }

@@ -12,7 +12,7 @@ use Rattle.atam.specs.Canonical.{IsReady}
 use Rattle.assembly.specs.Cells.{site_at}
 use Rattle.assembly.specs.Grids.{TileGrid}
 use Rattle.replay_order.specs.ReplayAnswers.{HoldsSeeds}
-use Rattle.replay_order.specs.Inner.Replays.{Waiting, AreLacks}
+use Rattle.replay_order.specs.Inner.Replays.{Waiting, AreLacks, AreReadySites}
 
 -- the tile at a site, unless some place of the beginning is there
 abbrev pub place_unless : Option TypeId → Option TypeId → Site → List Place
@@ -28,6 +28,19 @@ listed_below area tiles begun (suc n) = listed_below area tiles begun n ++ place
 -- the seeds, and the other tiles below
 abbrev pub standing : TileSystem → List Place → ℕ → List Place
 standing sys tiles n = listed_below sys.area tiles sys.seeds n
+
+-- those of these seeds that are at sites with numbers from the first one on
+pub record AreSeedsFrom (area : BoxArea) (first : ℕ) (seeds begun : List Place) : Type 0 where
+  pub part : IsPartOf begun seeds
+  pub from : (p : Place) → Contains begun p → (number : ℕ) × (first ≤ number) × (site_at area number ≡ p.site)
+  pub whole : (p : Place) (number : ℕ) → Contains seeds p → site_at area number ≡ p.site → first ≤ number → Contains begun p
+
+-- these seeds stand, and the tiles at sites with numbers below n, and each tile that waits lacks what they leave
+pub record HaveStood (sys : TileSystem) (tiles : List Place) (first : ℕ) (seeds : List Place) (n : ℕ) (waiting : Waiting) : Type 0 where
+  pub begun : List Place
+  pub seeds_from : AreSeedsFrom sys.area first seeds begun
+  pub lacks : AreLacks sys tiles (listed_below sys.area tiles begun n) waiting
+  pub ready : AreReadySites sys tiles (listed_below sys.area tiles begun n) waiting
 
 -- the site is one of those with numbers from the first to before the end
 pub record IsSiteBetween (area : BoxArea) (first end : ℕ) (m : Site) : Type 0 where
@@ -55,10 +68,6 @@ pub record IsSpanListed (sys : TileSystem) (tiles : List Place) (first end : ℕ
   pub lacks : AreLacks sys tiles (standing sys tiles first ++ part) waiting
   pub same_first : waiting.first ≡ first
   pub same_end : waiting.end ≡ end
-
--- all seeds are at sites with numbers below this
-abbrev pub HasSeedsBelow : TileSystem → ℕ → Type 0
-HasSeedsBelow sys n = (p : Place) → Contains sys.seeds p → IsSiteBetween sys.area 0 n p.site
 
 -- each tile of the span is listed
 abbrev pub IsSpanFull : TileSystem → List Place → ℕ → ℕ → List Place → Type 0

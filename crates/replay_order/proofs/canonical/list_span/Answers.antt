@@ -1,4 +1,4 @@
-use Rattle.std.proofs.Common.{◌≡◌, ◌<◌, ℕ, [], List, get_or, inl, inr, ◌∙◌, ap, sym, subst}
+use Rattle.std.proofs.Common.{◌≡◌, ◌<◌, ℕ, [], List, get_or, ◌∙◌, ap, sym, subst}
 use Rattle.atam.specs.declared.area.BoxArea.{BoxArea}
 use Rattle.atam.specs.declared.place.Place.{Place}
 use Rattle.atam.specs.TileSystem.{TileSystem, IsValid}
@@ -7,7 +7,6 @@ use Rattle.replay_order.specs.Inner.Replays.{Waiting, IsInSpan, due_at, AreLacks
 use Rattle.replay_order.specs.Inner.Spans.{standing}
 use Rattle.replay_order.proofs.ReadySites.{all_lack, none_ready}
 use Rattle.replay_order.proofs.canonical.list_span.Goals as goal
-use Rattle.replay_order.proofs.canonical.list_span.Goals.{then-first-eq0, else-first-eq0}
 
 -- each tile of the span lacks all at first
 lacks_first : (sys : TileSystem) (tiles seeds : List Place) (tau : ℕ) (area : BoxArea) (w : Waiting) → area ≡ sys.area → w.area ≡ area → seeds ≡ sys.seeds → tau ≡ sys.tau →
@@ -19,18 +18,8 @@ lacks_first sys tiles seeds tau area w same own same_seeds same_tau due others =
     (subst (λ t. Due sys.area sys.seeds t) same_tau (subst (λ l. Due sys.area l tau) same_seeds (subst (λ a. Due a seeds tau) same due)))
     (subst Others same others)
 
--- where the span begins with the first site, the seeds alone stand below it
-stands_first : (sys : TileSystem) (tiles : List Place) (first begin : ℕ) → first ≡ 0 → begin ≡ first → sys.seeds ≡ standing sys tiles begin
-stands_first sys tiles first begin is same = ap (standing sys tiles) (sym (same ∙ is))
-
 pub stand_seeds-requires-clause-lacks : goal.stand_seeds-requires-clause-lacks
 stand_seeds-requires-clause-lacks c =
-    let w = c.in_ok-waiting in
-    lacks_first c.args.bonds.now c.args.grid.now.tiles c.seeds.result.now c.tau.result c.area-area.result w.waiting (c.area-area.ensures.area ∙ c.requires.area) w.ensures.area
-    (c.seeds.ensures.seeds ∙ ap (λ s. s.seeds) c.system-sys.ensures) (c.tau.ensures.tau ∙ ap (λ s. s.tau) c.system-sys.ensures) w.ensures.lacks w.ensures.others
-
-pub stand_row_below-requires-clause-lacks : goal.stand_row_below-requires-clause-lacks
-stand_row_below-requires-clause-lacks c =
     let w = c.in_ok-waiting in
     lacks_first c.args.bonds.now c.args.grid.now.tiles c.seeds.result.now c.tau.result c.area-area.result w.waiting (c.area-area.ensures.area ∙ c.requires.area) w.ensures.area
     (c.seeds.ensures.seeds ∙ ap (λ s. s.seeds) c.system-sys.ensures) (c.tau.ensures.tau ∙ ap (λ s. s.tau) c.system-sys.ensures) w.ensures.lacks w.ensures.others
@@ -39,26 +28,22 @@ pub stand_seeds-requires-clause-ready : goal.stand_seeds-requires-clause-ready
 stand_seeds-requires-clause-ready c =
     none_ready c.args.bonds.now c.args.grid.now.tiles c.in_ok-waiting.waiting (subst IsValid c.system-sys.ensures c.tau.ensures.valid).some_tau c.in_ok-waiting.ensures.empty
 
-pub stand_row_below-requires-clause-ready : goal.stand_row_below-requires-clause-ready
-stand_row_below-requires-clause-ready c =
-    none_ready c.args.bonds.now c.args.grid.now.tiles c.in_ok-waiting.waiting (subst IsValid c.system-sys.ensures c.tau.ensures.valid).some_tau c.in_ok-waiting.ensures.empty
+-- by the number from which on the sites wait
+same_number : (n first made began : ℕ) → began ≡ made → made ≡ first → n ≡ began → n ≡ first
+same_number n first made began begins makes is = is ∙ begins ∙ makes
 
-pub stand_row_below-requires-clause-seeds : goal.stand_row_below-requires-clause-seeds
-stand_row_below-requires-clause-seeds c = elim c.requires.seeds [ inl none ↦ absurd (c.if-first-eq0.false none) | inr below ↦ below ]
+pub list_ready-requires-clause-lacks : goal.list_ready-requires-clause-lacks
+list_ready-requires-clause-lacks c =
+    let sys = c.args.bonds.now in
+    let tiles = c.args.grid.now.tiles in
+    let u = c.stand_row_below.new.waiting in
+    let same = same_number u.first c.args.first c.in_ok-waiting.waiting.first c.stand_seeds.new.waiting.first c.stand_seeds.ensures.span.0 c.in_ok-waiting.ensures.span.0 c.stand_row_below.ensures.span.0 in
+    subst (λ (n : ℕ). AreLacks sys tiles (standing sys tiles n) u) (sym same) c.stand_row_below.ensures.lacks
 
 pub list_ready-requires-clause-ready : goal.list_ready-requires-clause-ready
 list_ready-requires-clause-ready c =
     let sys = c.args.bonds.now in
     let tiles = c.args.grid.now.tiles in
-    let Ready : List Place → Waiting → Type 0 = λ l w. AreReadySites sys tiles l w in
-    let made = c.in_ok-waiting.ensures.span in
-    elim c.if-first-eq0.branch [
-      | then-first-eq0 w ↦
-          let u = w.stand_seeds.new.waiting in
-          let stands = stands_first sys tiles c.args.first u.first w.if-first-eq0.true (w.stand_seeds.ensures.span.0 ∙ made.0) in
-          subst (λ x. Ready (standing sys tiles x.first) x) (sym w.waiting-is) (subst (λ l. Ready l u) stands w.stand_seeds.ensures.ready)
-      | else-first-eq0 w ↦
-          let u = w.stand_row_below.new.waiting in
-          let same : c.args.first ≡ u.first = sym (w.stand_row_below.ensures.span.0 ∙ made.0) in
-          subst (λ x. Ready (standing sys tiles x.first) x) (sym w.waiting-is) (subst (λ n. Ready (standing sys tiles n) u) same w.stand_row_below.ensures.ready)
-    ]
+    let u = c.stand_row_below.new.waiting in
+    let same = same_number u.first c.args.first c.in_ok-waiting.waiting.first c.stand_seeds.new.waiting.first c.stand_seeds.ensures.span.0 c.in_ok-waiting.ensures.span.0 c.stand_row_below.ensures.span.0 in
+    subst (λ (n : ℕ). AreReadySites sys tiles (standing sys tiles n) u) (sym same) c.stand_row_below.ensures.ready

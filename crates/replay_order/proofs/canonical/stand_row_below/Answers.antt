@@ -1,4 +1,4 @@
-use Rattle.std.proofs.Common.{rules, ◌≡◌, ◌<◌, ◌-◌, ℕ, [], Option, List, refl, ap, sym, ◌∙◌, subst, arith}
+use Rattle.std.proofs.Common.{rules, ◌≡◌, ◌<◌, ◌-◌, ℕ, Option, List, refl, ap, sym, ◌∙◌, subst, arith}
 use Rattle.std.proofs.lemmas.Int.{ints}
 use Rattle.atam.specs.declared.area.BoxArea.{BoxArea}
 use Rattle.atam.specs.declared.place.TypeId.{TypeId}
@@ -6,10 +6,9 @@ use Rattle.atam.specs.declared.place.Place.{Place}
 use Rattle.atam.specs.Sites.{width_of}
 use Rattle.atam.specs.Placements.{tile_at}
 use Rattle.assembly.specs.Cells.{site_at}
-use Rattle.replay_order.specs.Inner.Replays.{AreLacks, AreReadySites}
-use Rattle.replay_order.specs.Inner.Spans.{listed_below}
-use Rattle.replay_order.proofs.ReadySites.{Fits-tile, lacks_alike, ready_alike}
-use Rattle.replay_order.proofs.RowBelow.{far_alike, seeds_alike, row_none, row_lacks, row_ready}
+use Rattle.replay_order.specs.Inner.Spans.{HaveStood}
+use Rattle.replay_order.proofs.ReadySites.{Fits-tile}
+use Rattle.replay_order.proofs.RowBelow.{stood_far, stood_none, stood_tile, stood_lacks, stood_ready}
 use Rattle.replay_order.proofs.canonical.stand_row_below.Goals as goal
 
 pub loop-number-init : goal.loop-number-init
@@ -17,14 +16,15 @@ loop-number-init c =
     let sys = c.args.bonds.now in
     let tiles = c.args.grid.now.tiles in
     let waiting = c.args.waiting.now in
-    let wide : 0 < width_of sys.area = omega (arith, ints, c.requires.valid.box.corners.columns) in
+    let valid = c.requires.valid in
+    let wide : 0 < width_of sys.area = omega (arith, ints, valid.box.corners.columns) in
     let wide_as : c.width-width.result ≡ width_of sys.area = c.width-width.ensures ∙ ap width_of (c.area-area.ensures.area ∙ c.requires.area) in
-    let alike = far_alike sys tiles waiting (c.args.first - c.min.result) wide (λ k lower. omega (arith, lower, c.min.ensures, c.requires.first, wide_as)) in
     record {
       same_first = refl;
       same_end = refl;
-      lacks = lacks_alike sys tiles [] _ waiting alike c.requires.lacks;
-      ready = ready_alike sys tiles [] _ waiting alike c.requires.ready;
+      stood =
+          stood_far sys tiles c.args.first valid.distinct_seeds valid.seed_sites c.requires.seeded waiting (c.args.first - c.min.result) wide
+          (λ k lower. omega (arith, lower, c.min.ensures, c.requires.first, wide_as)) c.requires.stood;
       row = search rules;
     }
 
@@ -36,13 +36,15 @@ pub loop-number-preserved-in_default : goal.loop-number-preserved-in_default
 loop-number-preserved-in_default c =
     let sys = c.args.bonds.now in
     let tiles = c.args.grid.now.tiles in
+    let valid = c.requires.valid in
     let n = c.loop-number.number in
     let at = at_own tiles c.tile.result c.args.grid.now.area sys.area n c.requires.area c.tile.ensures in
     record {
       same_first = c.loop-number.invariant.same_first;
       same_end = c.loop-number.invariant.same_end;
-      lacks = row_none sys tiles n c.tile.result at (λ l. AreLacks sys tiles l c.loop-number.waiting) c.in_default.is c.loop-number.invariant.lacks;
-      ready = row_none sys tiles n c.tile.result at (λ l. AreReadySites sys tiles l c.loop-number.waiting) c.in_default.is c.loop-number.invariant.ready;
+      stood =
+          stood_none sys tiles c.args.first valid.distinct_seeds valid.seed_sites c.requires.seeded n c.loop-number-test.true c.tile.result at
+          c.loop-number.waiting c.in_default.is c.loop-number.invariant.stood;
       row = c.loop-number.invariant.row;
     }
 
@@ -54,6 +56,7 @@ pub loop-number-preserved : goal.loop-number-preserved
 loop-number-preserved c =
     let sys = c.args.bonds.now in
     let tiles = c.args.grid.now.tiles in
+    let valid = c.requires.valid in
     let n = c.loop-number.number in
     let old = c.loop-number.waiting in
     let new = c.lower_beside.new.self in
@@ -61,29 +64,32 @@ loop-number-preserved c =
     let at = at_own tiles c.tile.result c.args.grid.now.area sys.area n c.requires.area c.tile.ensures in
     let here : p.site ≡ site_at sys.area n = c.site-site.ensures.site ∙ ap (λ a. site_at a n) (c.area-area.ensures.area ∙ c.requires.area) in
     let earlier : n < old.first = omega (arith, c.loop-number-test.true, c.requires.first, c.loop-number.invariant.same_first) in
-    let lacks = c.loop-number.invariant.lacks in
     record {
       same_first = c.lower_beside.ensures.same_first ∙ c.loop-number.invariant.same_first;
       same_end = c.lower_beside.ensures.same_end ∙ c.loop-number.invariant.same_end;
-      lacks = row_lacks sys tiles n c.tile.result at old new p c.in-Some.is here earlier old.area lacks.area c.lower_beside.ensures lacks;
-      ready = row_ready sys tiles n c.tile.result at old new p c.in-Some.is here earlier old.area lacks.area c.lower_beside.ensures lacks c.loop-number.invariant.ready;
+      stood =
+          stood_tile sys tiles c.args.first valid.distinct_seeds valid.seed_sites c.requires.seeded n c.loop-number-test.true c.tile.result at
+          old new p c.in-Some.is here earlier old.area c.loop-number.invariant.stood.lacks.area c.lower_beside.ensures c.loop-number.invariant.stood;
       row = c.site-site.ensures.row;
     }
 
+-- what has stood below the first number, once all have been gone through
 pub returns-clause-lacks : goal.returns-clause-lacks
 returns-clause-lacks c =
     let sys = c.args.bonds.now in
     let tiles = c.args.grid.now.tiles in
+    let valid = c.requires.valid in
     let waiting = c.loop-number.waiting in
     let end : c.loop-number.number ≡ c.args.first = omega (arith, c.loop-number-test.false, c.loop-number.auto.number-end) in
-    let lacks = subst (λ n. AreLacks sys tiles (listed_below sys.area tiles [] n) waiting) end c.loop-number.invariant.lacks in
-    lacks_alike sys tiles _ _ waiting (seeds_alike sys tiles c.args.first c.requires.seeded c.requires.seeds waiting) lacks
+    let stood = subst (λ (n : ℕ). HaveStood sys tiles c.args.first sys.seeds n waiting) end c.loop-number.invariant.stood in
+    stood_lacks sys tiles c.args.first valid.distinct_seeds valid.seed_sites c.requires.seeded waiting stood
 
 pub returns-clause-ready : goal.returns-clause-ready
 returns-clause-ready c =
     let sys = c.args.bonds.now in
     let tiles = c.args.grid.now.tiles in
+    let valid = c.requires.valid in
     let waiting = c.loop-number.waiting in
     let end : c.loop-number.number ≡ c.args.first = omega (arith, c.loop-number-test.false, c.loop-number.auto.number-end) in
-    let ready = subst (λ n. AreReadySites sys tiles (listed_below sys.area tiles [] n) waiting) end c.loop-number.invariant.ready in
-    ready_alike sys tiles _ _ waiting (seeds_alike sys tiles c.args.first c.requires.seeded c.requires.seeds waiting) ready
+    let stood = subst (λ (n : ℕ). HaveStood sys tiles c.args.first sys.seeds n waiting) end c.loop-number.invariant.stood in
+    stood_ready sys tiles c.args.first valid.distinct_seeds valid.seed_sites c.requires.seeded waiting stood
