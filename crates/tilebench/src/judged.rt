@@ -8,12 +8,13 @@ ghost use Rattle.type_index.specs.Indexes.{IsIndexOf};
 ghost use Rattle.grow_workers.specs.Workers.{IsGrowth};
 ghost use Rattle.tilebench.specs.Inner.Rooms.{IsJudged, IsVerdictOn};
 
-use crate::order::order_of;
+use crate::order::{grow_ordered, order_of};
 use assembly::{Grid, Sequence};
 use local_check::{Verdict, inputs_by_index, judge};
 use site_table::Grown;
 use std::alloc::Global;
 use std::thread::Threads;
+use tile_io::Gate;
 use tile_system::{NoMemory, Site, System, TypeId};
 use type_index::TypeIndex;
 
@@ -25,9 +26,57 @@ pub struct Judged {
     pub outside: Option<(Site, TypeId)>,
 }
 
-/// The verdict on a full growth, whose canonical order may be known, by so many workers, with an
-/// index of the types that is lent.
-pub fn judge_grid<R: Threads + Sync>(
+/// Grows a system with so many workers, and judges what has grown if that is wanted, with one index
+/// of the types for both.
+pub fn grow_judged<R: Threads + Sync, G: Gate>(
+    rt: &R,
+    alloc: Global,
+    sys: &System,
+    workers: u32,
+    choice: u64,
+    wanted: bool,
+    gate: &G,
+) -> Result<(Grown, Option<Judged>), NoMemory>
+    requires some { 1 ≤ workers }
+    requires few { workers ≤ 16 }
+    ensures grew { IfOk result (λ r. IsGrowth sys.now workers r.0) }
+    ensures wanted { IfOk result (λ r. IsTrue wanted → IsSome r.1) }
+    ensures judged { IfOk result (λ r. IfSome r.1 (IsJudged sys.now r.0.grid.tiles)) }
+{
+    let types = TypeIndex::build(alloc, sys)?;
+    let (grown, order) = grow_ordered(rt, alloc, sys, &types, workers, choice, wanted, gate)?;
+    let judged = judge_if(rt, alloc, sys, &types, &grown, order, workers, wanted)?;
+    Ok((grown, judged))
+}
+
+// The verdict on what has grown, if it is wanted.
+fn judge_if<R: Threads + Sync>(
+    rt: &R,
+    alloc: Global,
+    sys: &System,
+    types: &TypeIndex,
+    grown: &Grown,
+    known: Option<Sequence>,
+    workers: u32,
+    wanted: bool,
+) -> Result<Option<Judged>, NoMemory>
+    requires index { IsIndexOf sys.now types.now }
+    requires grew { IsGrowth sys.now workers grown.now }
+    requires known { IfSome known (IsCanonical sys.now grown.now.grid.tiles) }
+    requires some { 1 ≤ workers }
+    requires few { workers ≤ 16 }
+    ensures wanted { IfOk result (λ judged. IsTrue wanted → IsSome judged) }
+    ensures judged { IfOk result (λ judged. IfSome judged (IsJudged sys.now grown.now.grid.tiles)) }
+{
+    if !wanted {
+        return Ok(None);
+    }
+    let judged = judge_grid(rt, alloc, sys, types, grown.grid(), known, workers)?;
+    Ok(Some(judged))
+}
+
+// The verdict on a full growth, whose canonical order may be known, by so many workers.
+fn judge_grid<R: Threads + Sync>(
     rt: &R,
     alloc: Global,
     sys: &System,
@@ -55,32 +104,6 @@ pub fn judge_grid<R: Threads + Sync>(
         verdict,
         outside,
     })
-}
-
-/// The verdict on what has grown, if it is wanted.
-pub fn judge_if<R: Threads + Sync>(
-    rt: &R,
-    alloc: Global,
-    sys: &System,
-    types: &TypeIndex,
-    grown: &Grown,
-    known: Option<Sequence>,
-    workers: u32,
-    wanted: bool,
-) -> Result<Option<Judged>, NoMemory>
-    requires index { IsIndexOf sys.now types.now }
-    requires grew { IsGrowth sys.now workers grown.now }
-    requires known { IfSome known (IsCanonical sys.now grown.now.grid.tiles) }
-    requires some { 1 ≤ workers }
-    requires few { workers ≤ 16 }
-    ensures wanted { IfOk result (λ judged. IsTrue wanted → IsSome judged) }
-    ensures judged { IfOk result (λ judged. IfSome judged (IsJudged sys.now grown.now.grid.tiles)) }
-{
-    if !wanted {
-        return Ok(None);
-    }
-    let judged = judge_grid(rt, alloc, sys, types, grown.grid(), known, workers)?;
-    Ok(Some(judged))
 }
 
 // The least open site outside the box of a full growth. A verdict for which the plane was looked

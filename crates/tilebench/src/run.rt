@@ -7,8 +7,7 @@ ghost use Rattle.tilebench.specs.Inner.Runs.{EndsCommand};
 ghost use Rattle.tilebench.specs.Inputs.{AnswersInput, FailsInput, FailsWithin, HoldsInput, IsReadable, alone};
 
 use crate::input::read_alone;
-use crate::judged::judge_if;
-use crate::order::grow_ordered;
+use crate::judged::grow_judged;
 use crate::room::{GrowthRoom, Room};
 use crate::status::Ran;
 use crate::stop::Stop;
@@ -17,7 +16,6 @@ use site_table::Grown;
 use std::alloc::Global;
 use std::thread::Threads;
 use tile_io::{Gate, Sink, Source, read_whole};
-use type_index::TypeIndex;
 
 /// Reads the input, and writes the command's answer to it, or the refusal.
 pub fn run<C: Room, S: Source, K: Sink, E: Sink>(
@@ -136,10 +134,8 @@ fn growth_answer<R: Threads + Sync, C: GrowthRoom, G: Gate>(
         (FailsWithin alone input.now) result }
 {
     let sys = read_alone(alloc, input)?;
-    let types = TypeIndex::build(alloc, &sys)?;
     let wanted = room.wants_verdict();
-    let (grown, order) = grow_ordered(rt, alloc, &sys, &types, workers, choice, wanted, gate)?;
-    let judged = judge_if(rt, alloc, &sys, &types, &grown, order, workers, wanted)?;
+    let (grown, judged) = grow_judged(rt, alloc, &sys, workers, choice, wanted, gate)?;
     let reply = room.answer(alloc, sys, workers, &grown, judged)?;
     Ok((reply, Some(grown)))
 }

@@ -10,11 +10,10 @@ ghost use Rattle.tilebench.specs.Inner.Gives.{GivesUnread};
 ghost use Rattle.tilebench.specs.Inner.Rooms.{HasTypes, outcome_of};
 
 use crate::commands::grow::{Growth, growth_of, is_unique};
-use crate::judged::judge_grid;
+use crate::judged::grow_judged;
 use crate::room::Reply;
 use crate::stop::Stop;
 use counter_compile::{CounterStop, compile_counter};
-use grow_workers::grow_by_index;
 use itoa::Buffer;
 use seq_text::{print_closed, print_verdict};
 use site_table::Grown;
@@ -22,7 +21,6 @@ use std::alloc::Global;
 use std::thread::Threads;
 use tile_io::{Failed, Gate, Sink, print_line};
 use tile_system::{NoMemory, System};
-use type_index::TypeIndex;
 
 const WORKERS: u32 = 4;
 
@@ -43,10 +41,8 @@ pub fn answer<R: Threads + Sync, G: Gate>(
 {
     let counter = counter_of(number);
     let sys = system_of(alloc, counter)?;
-    let types = TypeIndex::build(alloc, &sys)?;
-    let grown = grow_by_index(rt, alloc, &sys, &types, WORKERS, number, gate)?;
-    let judged = judge_grid(rt, alloc, &sys, &types, grown.grid(), None, WORKERS)?;
-    let growth = growth_of(sys, grown.grid(), judged);
+    let (grown, judged) = grow_judged(rt, alloc, &sys, WORKERS, number, true, gate)?;
+    let growth = growth_of(sys, grown.grid(), judged.unwrap());
     let loaded = Loaded {
         number,
         counter,

@@ -5,3 +5,7 @@ use Rattle.tilebench.proofs.judged.judge_grid.Goals as goal
 pub order_of-requires-clause-fits : goal.order_of-requires-clause-fits
 order_of-requires-clause-fits g c κs within =
     producible_fits c.args.sys.now c.area-box.result c.args.grid.now.tiles (c.area-box.ensures.area ∙ c.requires.area) c.area-box.ensures.inside c.requires.producible
+
+pub open_outside-outside-requires-clause-fits : goal.open_outside-outside-requires-clause-fits
+open_outside-outside-requires-clause-fits g c =
+    producible_fits c.args.sys.now c.area-box.result c.args.grid.now.tiles (c.area-box.ensures.area ∙ c.requires.area) c.area-box.ensures.inside c.requires.producible

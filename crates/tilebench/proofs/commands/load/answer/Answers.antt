@@ -18,9 +18,9 @@ returns-clause-answer g c =
     let sys = c.in_ok-sys.sys in
     let table = c.in_ok-grown.grown in
     let growth = c.growth_of-growth.result in
-    let grows = subst (λ (grid : TileGrid). GrowsTo sys grid.tiles growth) c.grid-2.ensures c.growth_of-growth.ensures in
+    let grows = subst (λ (grid : TileGrid). GrowsTo sys grid.tiles growth) c.grid.ensures c.growth_of-growth.ensures in
     record {
       answer = load_told c.args.number counter.result.bits counter.result.start c.count.result sys table growth counter.ensures.bits counter.ensures.start c.in_ok-sys.ensures
-          c.in_ok-grown.ensures grows (c.count.ensures ∙ ap (λ (grid : TileGrid). length grid.tiles) c.grid-3.ensures);
+          c.in_ok-grown.ensures.grew grows (c.count.ensures ∙ ap (λ (grid : TileGrid). length grid.tiles) c.grid-2.ensures);
       prints = grows.types;
     }
