@@ -1,0 +1,209 @@
+"""What the documents say that code can tell: each check answers a list of what differs."""
+import fnmatch
+import functools
+import glob
+import os
+import re
+import subprocess
+
+TOP = os.path.dirname(os.path.dirname(os.path.realpath(__file__)))
+CODE = re.compile(r"`([^`]+)`")
+BLOCK = re.compile(r"(impl|trait)\b(.*)")
+FUNCTION = re.compile(r"( *)(pub(?:\(crate\))? )?(?:const )?fn (\w+)")
+WORDS = {"README.md": 900, "docs/PROVED.md": 4500}
+
+
+def read(path):
+    with open(f"{TOP}/{path}", encoding="utf-8") as it:
+        return it.read()
+
+
+def crates():
+    """The crates in their order, each with what it stands on."""
+    return {name: rest.split() for name, _, rest in (line.partition(":") for line in read("crates.txt").split("\n") if line)}
+
+
+def rows(text):
+    """The rows of all tables of a document, as lists of cells."""
+    for line in text.split("\n"):
+        cells = [cell.strip() for cell in line.removeprefix("|").split("|")]
+        if len(cells) > 1 and not set("".join(cells)) <= set("-: "):
+            yield cells
+
+
+@functools.lru_cache(None)
+def contracts(crate):
+    """The public functions of a crate, with those of its traits: the text of each signature and contract."""
+    found = {}
+    for path in sorted(glob.glob(f"{TOP}/crates/{crate}/src/**/*.rt", recursive=True)):
+        owner, is_open, trait, name = "", False, None, None
+        with open(path, encoding="utf-8") as it:
+            lines = it.read().split("\n")
+        for line in lines:
+            block = BLOCK.match(line.removeprefix("pub "))
+            if block:
+                rest = re.sub(r"^<[^{]*?> ", "", block[2])
+                owner = re.findall(r"[A-Z]\w+", rest.split(" for ")[-1])[0]
+                is_open = block[1] == "trait" or " for " in rest
+                trait = re.findall(r"[A-Z]\w+", rest.split(" for ")[0])[0] if block[1] == "impl" and " for " in rest else None
+            elif line.startswith("}"):
+                owner, is_open = "", False
+            function = FUNCTION.match(line)
+            if function and bool(function[1]) == bool(owner):
+                is_public = function[2] == "pub " or owner and is_open
+                name = (f"{owner}::" if owner else "") + function[3] if is_public else None
+                if name:
+                    found[name] = found.get(name, f"impl {trait}::{function[3]}\n" if owner and trait else "")
+            if name:
+                found[name] += line + "\n"
+                if re.match(r"\s*\{\}?\s*$", line) or "ensures" not in found[name] and line.endswith(("{", ";")):
+                    name = None
+    return found
+
+
+def named(crate, names):
+    """The functions of a crate that a cell names, and what it names in vain."""
+    found, missing, owner = [], [], ""
+    for name in names:
+        owner = name.split("::")[0] if "::" in name else owner
+        here = fnmatch.filter(contracts(crate), name) if "::" in name or name[0] != "*" else []
+        here = [it for it in here if ("::" in it) == ("::" in name)]
+        if not here and owner and "::" not in name:
+            here = fnmatch.filter(contracts(crate), f"{owner}::{name}")
+        found += here
+        missing += [] if here else [name]
+    return found, missing
+
+
+@functools.lru_cache(None)
+def of_traits():
+    """The contracts of all functions of traits, which hold for those that carry them out."""
+    return {name: text for crate in crates() for name, text in contracts(crate).items() if "::" in name}
+
+
+def has(contract, clause):
+    """Whether a contract has a clause of this name, or cites this definition."""
+    if contract.startswith("impl ") and "ensures" not in contract:
+        contract = of_traits().get(contract.split()[1], "")
+    words = set(re.findall(r"[\w']+", contract.split("ensures", 1)[-1])) if "ensures" in contract else set()
+    return clause in contract if " " in clause else bool(fnmatch.filter(words, clause))
+
+
+def promises():
+    """The tables of PROVED.md: each function that a row names is there, with a clause that the row names."""
+    told, crate, laws = [], None, set()
+    for cells in rows(read("docs/PROVED.md").split("## Crate by crate")[1]):
+        heads = re.findall(r"\*\*(?:[^*]|\*(?!\*))+\*\*", cells[0])
+        if heads:
+            crate = [it for head in heads for it in CODE.findall(head)]
+            told += [f"PROVED.md: no crate {it}" for it in crate if it not in crates()]
+            continue
+        if len(cells) < 3 or not crate:
+            continue
+        clauses, done = CODE.findall(cells[2]), False
+        for it in crate:
+            found, missing = named(it, CODE.findall(cells[0]))
+            if not found and len(crate) > 1:
+                continue
+            done = True
+            laws |= {(it, name) for name in found}
+            told += [f"PROVED.md: {it} has no public function {name}" for name in missing]
+            if clauses:
+                told += [f"PROVED.md: {it}::{name} has none of {cells[2]}" for name in found
+                         if not any(has(contracts(it)[name], clause) for clause in clauses)]
+                told += [f"PROVED.md: no clause {clause} in the row {cells[0]} of {it}" for clause in clauses
+                         if not any(has(contracts(it)[name], clause) for name in found)]
+        if not done:
+            told.append(f"PROVED.md: nothing in {crate} is called {cells[0]}")
+    told += [f"PROVED.md: {crate}::{name} is in no row" for crate in crates() for name in contracts(crate)
+             if name.startswith("law_") and (crate, name) not in laws]
+    specs = "".join(read(os.path.relpath(it, TOP)) for it in glob.glob(f"{TOP}/crates/*/specs/**/*.antt", recursive=True))
+    for cells in rows(read("docs/PROVED.md").split("## The answers")[1].split("## Crate by crate")[0]):
+        told += [f"PROVED.md: there is no definition {it}" for it in CODE.findall(cells[-1] or cells[-2])
+                 if not re.search(rf"^\s*(?:(?:pub|abbrev|unfoldable|record|data) )+{it}\b", specs, re.M)]
+    top = contracts("tilebench")["tilebench"]
+    for cells in rows(read("docs/PROVED.md").split("## The answers")[0]):
+        told += [f"PROVED.md: the top call has no clause {it}" for it in CODE.findall(cells[1])
+                 if "---" not in cells[0] and not cells[0][0].isdigit() and not has(top, it)]
+    return told
+
+
+def layers():
+    """The table and the picture of ARCHITECTURE.md against crates.txt."""
+    text, order, told = read("docs/ARCHITECTURE.md"), crates(), []
+    table = {CODE.findall(cells[0])[0]: cells for cells in rows(text.split("## Crates")[1].split("\n## ")[0]) if CODE.match(cells[0])}
+    if list(table) != list(order):
+        told.append(f"ARCHITECTURE.md: the rows are {list(table)}, crates.txt has {list(order)}")
+    for name, cells in table.items():
+        if CODE.findall(cells[2]) != order.get(name):
+            told.append(f"ARCHITECTURE.md: {name} stands on {order.get(name)}")
+    picture = text.split("```")[1].split("\n")
+    line_of = {name: number for number, line in enumerate(picture) for name in re.findall(r"\w+", line) if name in order}
+    tests = [name for name in order if "worked_systems" in order[name]] + ["worked_systems"]
+    told += [f"ARCHITECTURE.md: the picture lacks {name}" for name in order if name not in line_of and name not in tests]
+    told += [f"ARCHITECTURE.md: {name} is drawn below {below}, on which it stands" for name, number in line_of.items()
+             for below in order[name] if line_of.get(below, number) < number]
+    return told
+
+
+def limits():
+    """The tables of limits in MODEL.md: each number of a limit in crates/NAME/src/limits.rt stands in it."""
+    told, table = [], read("docs/MODEL.md").split("## Limits")[1].replace(",", "")
+    of = {cells[0]: re.findall(r"-?\d+", cells[1]) for cells in rows(table)}
+    rows_of = {"MOST_GLUES": "glues", "MOST_PAIRS": "pairs of unlike glues", "MOST_TYPES": "tile types", "MOST_SEEDS": "seeds", "MOST_STRENGTH": "strength", "MOST_TAU": "temperature",
+               "LONGEST_NAME": "names", "LONGEST_SIDE": "box", "LEAST_CORNER": "box", "GREATEST_CORNER": "box", "MOST_INPUT": "input", "LONGEST_LINE": "input"}
+    machine = {"MOST_STATES", "MOST_SYMBOLS", "LONGEST_SHORT_NAME", "MOST_CELLS", "MOST_ROWS"}
+    for crate, find in (("atam", rows_of.get), ("tile_io", rows_of.get), ("machine_text", lambda name: "machine" if name in machine else None),
+                        ("counter_compile", lambda name: "counter")):
+        paths = glob.glob(f"{TOP}/crates/{crate}/src/limits.rt") or glob.glob(f"{TOP}/crates/{crate}/src/*.rt")
+        for path in paths:
+            for name, value in re.findall(r"^pub const (\w+): [iu]\w+ = (-?[\d_]+);", read(os.path.relpath(path, TOP)), re.M):
+                row = find(name)
+                if row and value.replace("_", "") not in of.get(row, []):
+                    told.append(f"MODEL.md: {name} of {crate} is {value}, the row '{row}' has {of.get(row)}")
+    return told
+
+
+def commands():
+    """The commands of the program: each has a row in README.md, a room in PROVED.md, a part in FORMATS.md and the manual page."""
+    source = read("crates/command_line/specs/Commands.antt")
+    names = re.findall(r'^command_word name\.\w+ = codes "([a-z]+)"', source, re.M)
+    readme = {it.split()[0] for cells in rows(read("README.md")) for it in CODE.findall(cells[0])}
+    told = [f"README.md: no row for {it}" for it in names if it not in readme]
+    told += [f"README.md: no command {it}" for it in readme if names and it not in names]
+    for path in ("docs/PROVED.md", "docs/FORMATS.md", "docs/tilebench.1", "editors/tilebench.bash"):
+        told += [f"{path}: nothing of {it}" for it in names if not re.search(rf"\b{it}\b", read(path))]
+    return told or ([] if names else ["no command was found in crates/command_line/specs/Commands.antt"])
+
+
+def lengths():
+    """Documents that have a number of words."""
+    return [f"{path} has {len(read(path).split())} words, more than {most}" for path, most in WORDS.items() if len(read(path).split()) > most]
+
+
+def links():
+    """What the documents link to is there: files, and headings within documents."""
+    told = []
+    for path in ["README.md", "CONTRIBUTING.md"] + sorted(os.path.relpath(it, TOP) for it in glob.glob(f"{TOP}/docs/*.md")):
+        for place in re.findall(r"\]\(([^)\s]+)\)", read(path)):
+            file, _, part = place.partition("#")
+            if "://" in file:
+                continue
+            to = os.path.normpath(os.path.join(os.path.dirname(path), file)) if file else path
+            if not os.path.exists(f"{TOP}/{to}"):
+                told.append(f"{path}: there is no {place}")
+            elif part and to.endswith(".md"):
+                heads = {re.sub(r"[^\w\- ]", "", head.lower()).replace(" ", "-") for head in re.findall(r"^#+ (.*)$", read(to), re.M)}
+                heads |= set(re.findall(r'<a (?:id|name)="([^"]+)"', read(to)))
+                if part not in heads:
+                    told.append(f"{path}: {to} has no heading #{part}")
+    return told
+
+
+def headline():
+    """HEADLINE.md is what tools/headline makes."""
+    made = subprocess.run([f"{TOP}/tools/headline"], check=True, stdout=subprocess.PIPE).stdout.decode()
+    return [] if made == read("docs/HEADLINE.md") else ["HEADLINE.md is old: tools/headline --write"]
+
+
+CHECKS = {"clauses of PROVED.md": promises, "crates of ARCHITECTURE.md": layers, "limits of MODEL.md": limits, "commands": commands, "lengths": lengths, "links": links, "HEADLINE.md": headline}
