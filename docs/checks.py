@@ -200,10 +200,27 @@ def links():
     return told
 
 
+def names():
+    """What the documents name of the code is there: definitions, types and functions, and files."""
+    kinds = ("src/**/*.rt", "specs/**/*.antt", "proofs/**/*.antt", "must-fail/*.edit")
+    paths = [path for kind in kinds for path in glob.glob(f"{TOP}/crates/*/{kind}", recursive=True)]
+    words = set(re.findall(r"[^\W\d]\w*", "".join(read(os.path.relpath(it, TOP)) for it in paths)))
+    words |= set(crates()) | {"Wait"}
+    told = []
+    for path in ("docs/MODEL.md", "docs/ARCHITECTURE.md", "docs/DECISIONS.md", "docs/PROVED.md", "docs/FORMATS.md"):
+        for name in CODE.findall(re.sub(r"^```.*?^```", "", read(path), flags=re.M | re.S)):
+            if re.fullmatch(r"[\w./-]+\.(?:rt|antt|py|md)|(?:crates|tools|docs|viewer|editors|bench)/[\w./-]+", name):
+                known = "NAME" in name or os.path.exists(f"{TOP}/{name}") or any(it.endswith(f"/{name}") for it in paths)
+                told += [] if known else [f"{path}: there is no file {name}"]
+            elif re.fullmatch(r"(?:[A-Z]\w*[a-z]\w*|\w+_\w+)(?:::\w+)*(?:\(\))?", name):
+                told += [f"{path}: nothing is called {name}" for it in re.findall(r"\w+", name) if it not in words]
+    return told
+
+
 def headline():
     """HEADLINE.md is what tools/headline makes."""
     made = subprocess.run([f"{TOP}/tools/headline"], check=True, stdout=subprocess.PIPE).stdout.decode()
     return [] if made == read("docs/HEADLINE.md") else ["HEADLINE.md is old: tools/headline --write"]
 
 
-CHECKS = {"clauses of PROVED.md": promises, "crates of ARCHITECTURE.md": layers, "limits of MODEL.md": limits, "commands": commands, "lengths": lengths, "links": links, "HEADLINE.md": headline}
+CHECKS = {"clauses of PROVED.md": promises, "crates of ARCHITECTURE.md": layers, "limits of MODEL.md": limits, "commands": commands, "lengths": lengths, "links": links, "names": names, "HEADLINE.md": headline}
