@@ -91,12 +91,15 @@ def has(contract, clause):
 
 def promises():
     """The tables of PROVED.md: each function that a row names is there, with a clause that the row names."""
-    told, crate, laws = [], None, set()
+    told, crate, before, laws = [], None, [], set()
     for cells in rows(read("docs/PROVED.md").split("## Crate by crate")[1]):
         heads = re.findall(r"\*\*(?:[^*]|\*(?!\*))+\*\*", cells[0])
         if heads:
             crate = [it for head in heads for it in CODE.findall(head)]
             told += [f"PROVED.md: no crate {it}" for it in crate if it not in crates()]
+            told += [f"PROVED.md: {it} stands on {below}, which has no rows before it" for it in crate for below in crates().get(it, [])
+                     if below in crates() and below not in before]
+            before += crate
             continue
         if len(cells) < 3 or not crate:
             continue
