@@ -179,6 +179,23 @@ def commands():
     return told or ([] if names else ["no command was found in crates/command_line/specs/Commands.antt"])
 
 
+def answers():
+    """The names of refusals, the keywords of texts and the numbers of limits in FORMATS.md, and tools/explain's causes."""
+    formats, explain = read("docs/FORMATS.md"), read("tools/explain")
+    specs = [("tile_io", "Causes"), ("command_line", "Commands"), ("tilebench", "Refusals")]
+    found = [it for crate, file in specs for it in re.findall(r'^\w+_(?:stop_)?name [\w.]+ = codes "([A-Z]\w+)"', read(f"crates/{crate}/specs/{file}.antt"), re.M)]
+    told = [f"{path}: nothing of {it}" for it in found if it != "NoMemory" for path, text in (("docs/FORMATS.md", formats), ("tools/explain", explain)) if it not in text]
+    for crate, file in (("tile_text", "SystemText"), ("seq_text", "GrowthText"), ("seq_text", "ScheduleText"), ("machine_text", "MachineText")):
+        for word, number in re.findall(r'codes "([a-z]+)"\)? \(?(?:exactly )?(\d+)', read(f"crates/{crate}/specs/{file}.antt")):
+            here = [cells for cells in rows(formats) if any(it.split()[0] == word for it in CODE.findall(cells[0]))]
+            if not any(cells[1] == number or len(CODE.findall(cells[0])[0].split()) == int(number) for cells in here):
+                told.append(f"docs/FORMATS.md: the line `{word}` has {number} words")
+    for name in ("MOST_GLUES", "MOST_TYPES", "MOST_PAIRS", "MOST_SEEDS"):
+        most = int(re.search(rf"const {name}: u32 = ([\d_]+);", read("crates/atam/src/limits.rt"))[1])
+        told += [f"docs/FORMATS.md: {name} is {most}" for it in (str(most), str(most + 1)) if it not in formats]
+    return told or ([] if len(found) > 10 else ["few refusals were found in the crates"])
+
+
 def lengths():
     """Documents that have a number of words."""
     return [f"{path} has {len(read(path).split())} words, more than {most}" for path, most in WORDS.items() if len(read(path).split()) > most]
@@ -226,4 +243,4 @@ def headline():
     return [] if made == read("docs/HEADLINE.md") else ["HEADLINE.md is old: tools/headline --write"]
 
 
-CHECKS = {"clauses of PROVED.md": promises, "crates of ARCHITECTURE.md": layers, "limits of MODEL.md": limits, "commands": commands, "lengths": lengths, "links": links, "names": names, "HEADLINE.md": headline}
+CHECKS = {"clauses of PROVED.md": promises, "crates of ARCHITECTURE.md": layers, "limits of MODEL.md": limits, "commands": commands, "answers of FORMATS.md": answers, "lengths": lengths, "links": links, "names": names, "HEADLINE.md": headline}
