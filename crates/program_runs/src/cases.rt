@@ -1,5 +1,5 @@
 // Tables of runs.
-use crate::run::{Outcome, answered};
+use crate::running::{Outcome, answered};
 use std::alloc::{AllocError, Global};
 use std::thread::Threads;
 use tilebench::Status;

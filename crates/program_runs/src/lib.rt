@@ -2,7 +2,7 @@
 #![tactic(auto)]
 
 mod cases;
-mod run;
+mod running;
 
 pub use cases::{Case, Change, behind, first_unlike, first_unlike_change};
-pub use run::{Failures, Outcome, answered, run, run_at};
+pub use running::{Failures, Outcome, answered, run, run_at};
