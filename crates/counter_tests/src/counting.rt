@@ -73,11 +73,13 @@ fn show(alloc: Global, start: u64, places: &str, values: &[Option<u64>]) -> Resu
 fn rows_show(grid: &Grid, values: &[Option<u64>]) -> bool
     requires { (start : ℕ) × IsOfCounter 2 start grid.now }
 {
-    let area = grid.area();
-    for (y, value) in values.iter().enumerate() {
-        if y as u32 >= area.height() || row_value(2, grid, y as u32) != *value {
+    let height = grid.area().height();
+    let mut y = 0;
+    for value in values {
+        if y >= height || row_value(2, grid, y) != *value {
             return false;
         }
+        y += 1;
     }
     true
 }

@@ -71,12 +71,8 @@ fn any_workers_grow_the_counter(rt: HostRuntime) -> Result<(), Fail> {
 fn are_wins(grown: &Grown, wins: &[u32], workers: usize) -> bool {
     let mut total = 1u32;
     for (worker, won) in wins.iter().enumerate() {
-        let number = if worker == 0 {
-            0
-        } else {
-            64 - worker.min(64) as u32
-        };
-        if grown.won(number) != *won {
+        let number = (64 - worker % 64) % 64;
+        if grown.won(number as u32) != *won {
             return false;
         }
         total = total.saturating_add(*won);
