@@ -53,6 +53,9 @@ const FROM_NOUGHT: [Option<u64>; 8] = [
     Some(0),
 ];
 
+// What the first three places show.
+const FRONT: [Option<u64>; 8] = [Some(0), None, None, None, None, None, None, None];
+
 const FROM_THREE: [Option<u64>; 2] = [Some(3), Some(0)];
 
 // What grows from the counter of two bits from 3.
@@ -69,17 +72,15 @@ fn show(alloc: Global, start: u64, places: &str, values: &[Option<u64>]) -> Resu
     Ok(rows_show(&grid, values))
 }
 
-// Whether the first rows show these numbers.
+// Whether the rows of the box show these numbers.
 fn rows_show(grid: &Grid, values: &[Option<u64>]) -> bool
     requires { (start : ℕ) × IsOfCounter 2 start grid.now }
 {
-    let height = grid.area().height();
-    let mut y = 0;
-    for value in values {
-        if y >= height || row_value(2, grid, y) != *value {
+    let area = grid.area();
+    for y in 0..area.height() {
+        if values.get(y as usize) != Some(&row_value(2, grid, y)) {
             return false;
         }
-        y += 1;
     }
     true
 }
@@ -89,6 +90,6 @@ fn rows_show_numbers(rt: HostRuntime) -> Result<(), Fail> {
     assert!(rt; show(rt.alloc(), 0, COUNTED, &FROM_NOUGHT)?);
     assert!(rt; show(rt.alloc(), 3, LAST_COUNTED, &FROM_THREE)?);
     let front = COUNTED.get(..43).unwrap_or("");
-    assert!(rt; show(rt.alloc(), 0, front, &[Some(0), None])?);
+    assert!(rt; show(rt.alloc(), 0, front, &FRONT)?);
     Ok(())
 }

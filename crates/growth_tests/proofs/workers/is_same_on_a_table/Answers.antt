@@ -1,5 +1,4 @@
 use Rattle.std.proofs.Common.{subst, sym, arith}
-use Rattle.atam.proofs.Tiles.{SamePlacements-trans, same_back}
 use Rattle.grow_workers.specs.Workers.{OwnsAtLeast}
 use Rattle.grow_workers.proofs.Numbering.{owns_many}
 use Rattle.growth_tests.proofs.workers.is_same_on_a_table.Goals as goal
@@ -8,7 +7,3 @@ pub grow_on-requires-clause-numbers : goal.grow_on-requires-clause-numbers
 grow_on-requires-clause-numbers g c κs within =
     let few = c.requires.few in
     subst (OwnsAtLeast c.args.workers) (sym c.in_ok-table.ensures.scout.owned) (owns_many c.args.workers (omega (arith, few)))
-
-pub grow_on-requires-clause-seen : goal.grow_on-requires-clause-seen
-grow_on-requires-clause-seen g c κs within =
-    SamePlacements-trans _ _ _ (same_back _ _ c.in_ok-table.ensures.scout.seen) c.in_ok-seeds.ensures.seeds
