@@ -56,7 +56,8 @@ fn prints_what_each_worker_won(rt: HostRuntime) -> Result<(), Fail> {
         return Err("no growth").map_err(Fail::from);
     };
     assert_eq!(rt; grown.grid().count(), 16);
-    let wins = grown.won(0) + grown.won(63) + grown.won(62) + grown.won(61);
+    let first = grown.won(0) as u64 + grown.won(63) as u64;
+    let wins = first + grown.won(62) as u64 + grown.won(61) as u64;
     assert_eq!(rt; wins, 15);
     let text = told_wins(alloc, grown)?;
     assert!(rt; ran.is(Status::Done, text.as_str(), ""));
