@@ -235,7 +235,8 @@ impl MeetingLists {
             at: meeting.tile as usize,
             strength: u32::from(meeting.strength),
             most,
-            way: Way::Meetings(meeting.next),
+            next: meeting.next,
+            way: Way::Meetings,
         }
     }
 }
