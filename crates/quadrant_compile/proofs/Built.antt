@@ -1,0 +1,285 @@
+-- A weave in the making has what the lines give, and is sound.
+use Rattle.std.proofs.Common.{◌≡◌, ◌≢◌, ◌<◌, ◌≤◌, ◌+◌, ◌==◌, ℕ, true, false, List, [], ◌∷◌, ◌++◌, length, get_or, Option, Some, None, refl, sym, ◌∙◌, ap, subst, inl, inr, arith, length-append, append-nil}
+use Rattle.std.specs.Prelude.{IsTrue, AllPairs, filter_map, bytes_eq, option_map, find}
+use Rattle.std.specs.List.{cons_option}
+use Rattle.std.specs.Option.{unwrap_or, option_to_list}
+use Rattle.std.specs.List.{list_any}
+use Rattle.std.proofs.lemmas.Bool.{cases_Bool, eqb-true}
+use Rattle.std.proofs.lemmas.List.{flat_map_more}
+use Rattle.std.proofs.lemmas.List.Elements.{All-push, All-append, filter_map-append}
+use Rattle.std.proofs.lemmas.List.Quantifiers.{all_pairs_push}
+use Rattle.std.proofs.lemmas.Slice.Eq.{bytes_eq-Decides}
+use Rattle.std.proofs.lemmas.Option.{none-some}
+use Rattle.tile_io.specs.declared.mark.Mark.{Mark}
+use Rattle.tile_io.specs.Checks.{last_of}
+use Rattle.tile_io.specs.Formats.{Reads}
+use Rattle.tile_io.proofs.Checking.{last_push}
+use Rattle.tile_io.proofs.PassedFields.{and_both}
+use Rattle.machine_text.specs.Machines.{AreNames, is_short_name}
+use Rattle.machine_text.proofs.Finding.{each_fails, none_found}
+use Rattle.quadrant_compile.specs.declared.rule.Rule.{Rule}
+use Rattle.quadrant_compile.specs.declared.line_kind.LineKind.{LineKind}
+use Rattle.quadrant_compile.specs.declared.line_kind.LineKind.TheVariants as kinds
+use Rattle.quadrant_compile.specs.Weaves.{Weave, IsWeave, IsRuleOver, is_for, answer_among}
+use Rattle.quadrant_compile.specs.WeaveText.{WeaveItem, weave_of, number_given, symbol_name_of, rule_of, width_of, height_of, bottom_of, left_of, is_end_line, quadrant_format, quadrant_table}
+use Rattle.quadrant_compile.specs.WeaveText.WeaveItem.{Header, SymbolLine, RuleLine, SizeLine, BottomLine, LeftLine, EndLine}
+use Rattle.quadrant_compile.specs.Inner.Keywords.{kind_of, may_stand_after, is_last}
+use Rattle.quadrant_compile.specs.Inner.SoFar.{with_item, IsDraft, HasAlphabet, HasAll, HasCome, IsFit, HoldsLines}
+use Rattle.quadrant_compile.proofs.RuleTables.{is_own}
+
+-- One line more.
+one_or_none : {X : Type 0} (o : Option X) → cons_option o [] ≡ option_to_list o
+one_or_none None = refl
+one_or_none (Some x) = refl
+
+list_push : {X : Type 0} (of : WeaveItem → Option X) (items : List WeaveItem) (item : WeaveItem) → filter_map of (items ++ item ∷ []) ≡ filter_map of items ++ option_to_list (of item)
+list_push of items item = filter_map-append of items (item ∷ []) ∙ ap (λ l. filter_map of items ++ l) (one_or_none (of item))
+
+last_given : (given : List ℕ) (more : Option ℕ) → unwrap_or (last_of (given ++ option_to_list more)) 0 ≡ unwrap_or more (unwrap_or (last_of given) 0)
+last_given given None = ap (λ l. unwrap_or (last_of l) 0) (append-nil given)
+last_given given (Some n) = ap (λ o. unwrap_or o 0) (last_push given n)
+
+number_push : (of : WeaveItem → Option ℕ) (items : List WeaveItem) (item : WeaveItem) → number_given of (items ++ item ∷ []) ≡ unwrap_or (of item) (number_given of items)
+number_push of items item = ap (λ l. unwrap_or (last_of l) 0) (list_push of items item) ∙ last_given (filter_map of items) (of item)
+
+-- a weave with what a line gives
+abbrev with_given : Weave → WeaveItem → Weave
+with_given w item = record {
+  symbols = w.symbols ++ option_to_list (symbol_name_of item);
+  rules = w.rules ++ option_to_list (rule_of item);
+  width = unwrap_or (width_of item) w.width;
+  height = unwrap_or (height_of item) w.height;
+  bottom = w.bottom ++ bottom_of item;
+  left = w.left ++ left_of item;
+}
+
+given_push : (items : List WeaveItem) (item : WeaveItem) → weave_of (items ++ item ∷ []) ≡ with_given (weave_of items) item
+unfolding weave_of
+given_push items item = λ z. record {
+  symbols = list_push symbol_name_of items item z;
+  rules = list_push rule_of items item z;
+  width = number_push width_of items item z;
+  height = number_push height_of items item z;
+  bottom = sym (flat_map_more bottom_of [] items item) z;
+  left = sym (flat_map_more left_of [] items item) z;
+}
+
+with_is : (w : Weave) (item : WeaveItem) → with_given w item ≡ with_item w item
+with_is w Header = λ z. record w { symbols = append-nil w.symbols z; rules = append-nil w.rules z; bottom = append-nil w.bottom z; left = append-nil w.left z }
+with_is w (SymbolLine name) = λ z. record w { symbols = w.symbols ++ name ∷ []; rules = append-nil w.rules z; bottom = append-nil w.bottom z; left = append-nil w.left z }
+with_is w (RuleLine t) = λ z. record w { symbols = append-nil w.symbols z; rules = w.rules ++ t ∷ []; bottom = append-nil w.bottom z; left = append-nil w.left z }
+with_is w (SizeLine x y) = λ z. record w { symbols = append-nil w.symbols z; rules = append-nil w.rules z; width = x; height = y; bottom = append-nil w.bottom z; left = append-nil w.left z }
+with_is w (BottomLine symbols) = λ z. record w { symbols = append-nil w.symbols z; rules = append-nil w.rules z; bottom = w.bottom ++ symbols; left = append-nil w.left z }
+with_is w (LeftLine symbols) = λ z. record w { symbols = append-nil w.symbols z; rules = append-nil w.rules z; bottom = append-nil w.bottom z; left = w.left ++ symbols }
+with_is w EndLine = λ z. record w { symbols = append-nil w.symbols z; rules = append-nil w.rules z; bottom = append-nil w.bottom z; left = append-nil w.left z }
+
+weave_push : (items : List WeaveItem) (item : WeaveItem) → with_item (weave_of items) item ≡ weave_of (items ++ item ∷ [])
+weave_push items item = sym (given_push items item ∙ with_is (weave_of items) item)
+
+-- It stays sound.
+names_push : (names : List (List ℕ)) (name : List ℕ) → AreNames names → IsTrue (is_short_name name) → list_any (bytes_eq name) names ≡ false → AreNames (names ++ name ∷ [])
+names_push names name are short new = record {
+  short = All-push (λ n. IsTrue (is_short_name n)) names name are.short short;
+  distinct = all_pairs_push (λ a b. a ≢ b) names name are.distinct (λ k d within same.
+      let differ = each_fails (bytes_eq name) names new k d within in
+      let equal : bytes_eq name (get_or names k d) ≡ true = (bytes_eq-Decides name (get_or names k d)).1 (sym same) in
+      let clash : true ≡ false = sym equal ∙ differ in
+      cc clash);
+}
+
+no_rule : (found : Option Rule) → option_map (λ t. t.answer) found ≡ None → found ≡ None
+no_rule None none = refl
+no_rule (Some t) none = absurd (none-some t.answer (sym none))
+
+-- of two transitions, each is for the other's symbols, or none is
+is_for_turned : (t u : Rule) → is_for t.west t.south u ≡ false → is_for u.west u.south t ≡ false
+is_for_turned t u not = elim (cases_Bool (is_for u.west u.south t)) [
+  | inl is ↦
+      let both = and_both (t.west == u.west) (t.south == u.south) is in
+      let own = is_own u t.west t.south (sym (eqb-true t.west u.west both.0)) (sym (eqb-true t.south u.south both.1)) in
+      let clash : true ≡ false = sym own ∙ not in
+      absurd (cc clash)
+  | inr other ↦ other
+]
+
+rules_push : (rules : List Rule) (t : Rule) → AllPairs (λ u v. is_for u.west u.south v ≡ false) rules → answer_among rules t.west t.south ≡ None → AllPairs (λ u v. is_for u.west u.south v ≡ false) (rules ++ t ∷ [])
+rules_push rules t distinct fresh =
+    all_pairs_push (λ u v. is_for u.west u.south v ≡ false) rules t distinct (λ k d within.
+    is_for_turned t (get_or rules k d) (none_found (is_for t.west t.south) rules (no_rule (find (is_for t.west t.south) rules) fresh) k d within))
+
+draft_push : (w : Weave) (item : WeaveItem) → IsDraft w → IsFit w item → IsDraft (with_item w item)
+draft_push w Header draft fit = draft
+draft_push w EndLine draft fit = draft
+draft_push w (SymbolLine name) draft fit =
+    let more : length (w.symbols ++ name ∷ []) ≡ length w.symbols + 1 = length-append w.symbols (name ∷ []) in
+    record {
+      few = omega (arith, more, fit.0);
+      names = names_push w.symbols name draft.names fit.1 fit.2;
+      rules = λ k d within. let t = draft.rules k d within in record { west = omega (arith, more, t.west); south = omega (arith, more, t.south); east = omega (arith, more, t.east); north = omega (arith, more, t.north) };
+      distinct_rules = draft.distinct_rules;
+      column_count = draft.column_count;
+      row_count = draft.row_count;
+      bottom_symbols = λ k d within. let below = draft.bottom_symbols k d within in omega (arith, more, below);
+      left_symbols = λ k d within. let below = draft.left_symbols k d within in omega (arith, more, below);
+    }
+draft_push w (RuleLine t) draft fit = record {
+  few = draft.few;
+  names = draft.names;
+  rules = All-push (IsRuleOver (length w.symbols)) w.rules t draft.rules fit.0;
+  distinct_rules = rules_push w.rules t draft.distinct_rules fit.1;
+  column_count = draft.column_count;
+  row_count = draft.row_count;
+  bottom_symbols = draft.bottom_symbols;
+  left_symbols = draft.left_symbols;
+}
+draft_push w (SizeLine x y) draft fit = record {
+  few = draft.few;
+  names = draft.names;
+  rules = draft.rules;
+  distinct_rules = draft.distinct_rules;
+  column_count = fit.1;
+  row_count = fit.3;
+  bottom_symbols = draft.bottom_symbols;
+  left_symbols = draft.left_symbols;
+}
+draft_push w (BottomLine symbols) draft fit = record {
+  few = draft.few;
+  names = draft.names;
+  rules = draft.rules;
+  distinct_rules = draft.distinct_rules;
+  column_count = draft.column_count;
+  row_count = draft.row_count;
+  bottom_symbols = All-append (λ a. a < length w.symbols) w.bottom symbols draft.bottom_symbols fit.0;
+  left_symbols = draft.left_symbols;
+}
+draft_push w (LeftLine symbols) draft fit = record {
+  few = draft.few;
+  names = draft.names;
+  rules = draft.rules;
+  distinct_rules = draft.distinct_rules;
+  column_count = draft.column_count;
+  row_count = draft.row_count;
+  bottom_symbols = draft.bottom_symbols;
+  left_symbols = All-append (λ a. a < length w.symbols) w.left symbols draft.left_symbols fit.0;
+}
+
+-- Each line comes after those that it needs.
+more_symbols : (w : Weave) (name : List ℕ) → w.bottom ≡ [] → w.left ≡ [] → HasAlphabet (with_item w (SymbolLine name))
+more_symbols w name bottom left =
+    let more : length (w.symbols ++ name ∷ []) ≡ length w.symbols + 1 = length-append w.symbols (name ∷ []) in
+    record { some_symbol = omega (arith, more); no_bottom = bottom; no_left = left }
+
+with_size : (w : Weave) (x y : ℕ) → HasAlphabet w → 1 ≤ x → 1 ≤ y → HasAll (with_item w (SizeLine x y))
+with_size w x y has some_column some_row =
+    let bottom : length w.bottom ≡ 0 = ap length has.no_bottom in
+    let left : length w.left ≡ 0 = ap length has.no_left in
+    record { some_symbol = has.some_symbol; some_column = some_column; some_row = some_row; bottom_length = omega (arith, bottom); left_length = omega (arith, left) }
+
+with_bottom : (w : Weave) (symbols : List ℕ) → HasAll w → length w.bottom + length symbols ≤ w.width → HasAll (with_item w (BottomLine symbols))
+with_bottom w symbols has room =
+    let longer : length (w.bottom ++ symbols) ≡ length w.bottom + length symbols = length-append w.bottom symbols in
+    record { some_symbol = has.some_symbol; some_column = has.some_column; some_row = has.some_row; bottom_length = omega (arith, longer, room); left_length = has.left_length }
+
+with_left : (w : Weave) (symbols : List ℕ) → HasAll w → length w.left + length symbols ≤ w.height → HasAll (with_item w (LeftLine symbols))
+with_left w symbols has room =
+    let longer : length (w.left ++ symbols) ≡ length w.left + length symbols = length-append w.left symbols in
+    record { some_symbol = has.some_symbol; some_column = has.some_column; some_row = has.some_row; bottom_length = has.bottom_length; left_length = omega (arith, longer, room) }
+
+-- nothing follows the end line
+never_after_end : (item : WeaveItem) → may_stand_after (kind_of item) (Some kinds.End) ≡ true → ⊥
+never_after_end Header stands = cc stands
+never_after_end item stands = cc stands
+
+come_push : (w : Weave) (last : Option LineKind) (item : WeaveItem) → may_stand_after (kind_of item) last ≡ true → HasCome last w → IsFit w item → HasCome (Some (kind_of item)) (with_item w item)
+come_push w None Header stands come fit = come
+come_push w (Some kinds.Quadrant) (SymbolLine name) stands come fit = more_symbols w name come.0 come.1
+come_push w (Some kinds.Symbol) (SymbolLine name) stands come fit = more_symbols w name come.no_bottom come.no_left
+come_push w (Some kinds.Symbol) (RuleLine t) stands come fit = record { some_symbol = come.some_symbol; no_bottom = come.no_bottom; no_left = come.no_left }
+come_push w (Some kinds.Rule) (RuleLine t) stands come fit = record { some_symbol = come.some_symbol; no_bottom = come.no_bottom; no_left = come.no_left }
+come_push w (Some kinds.Symbol) (SizeLine x y) stands come fit = with_size w x y come fit.0 fit.2
+come_push w (Some kinds.Rule) (SizeLine x y) stands come fit = with_size w x y come fit.0 fit.2
+come_push w (Some kinds.Size) (BottomLine symbols) stands come fit = with_bottom w symbols come fit.1
+come_push w (Some kinds.Bottom) (BottomLine symbols) stands come fit = with_bottom w symbols come fit.1
+come_push w (Some kinds.Size) (LeftLine symbols) stands come fit = with_left w symbols come fit.1
+come_push w (Some kinds.Bottom) (LeftLine symbols) stands come fit = with_left w symbols come fit.1
+come_push w (Some kinds.Left) (LeftLine symbols) stands come fit = with_left w symbols come fit.1
+come_push w (Some kinds.Size) EndLine stands come fit = come
+come_push w (Some kinds.Bottom) EndLine stands come fit = come
+come_push w (Some kinds.Left) EndLine stands come fit = come
+come_push w (Some kinds.End) item stands come fit = absurd (never_after_end item stands)
+come_push w last item stands come fit = absurd (cc stands)
+
+-- what is held survives a line
+pub holds-push : (w : Weave) (last : Option LineKind) (items : List WeaveItem) (item : WeaveItem) → HoldsLines w last items → may_stand_after (kind_of item) last ≡ true → IsFit w item →
+    HoldsLines (with_item w item) (Some (kind_of item)) (items ++ item ∷ [])
+holds-push w last items item held stands fit = record {
+  weave = ap (λ v. with_item v item) held.weave ∙ weave_push items item;
+  kind = sym (ap (option_map kind_of) (last_push items item));
+  draft = draft_push w item held.draft fit;
+  come = come_push w last item stands held.come fit;
+}
+
+-- before the first line
+pub nothing_held : HoldsLines (weave_of []) None []
+unfolding weave_of
+nothing_held = record {
+  weave = refl;
+  kind = refl;
+  draft = record {
+    few = omega arith;
+    names = record { short = λ k d within. none_within within; distinct = λ i j d before within. none_within within };
+    rules = λ k d within. none_within within;
+    distinct_rules = λ i j d before within. none_within within;
+    column_count = omega arith;
+    row_count = omega arith;
+    bottom_symbols = λ k d within. none_within within;
+    left_symbols = λ k d within. none_within within;
+  };
+  come = (refl, refl);
+}
+  where
+    none_within : {P : Type 0} {n : ℕ} → n < 0 → P
+    none_within within = let never : ⊥ = omega (arith, within) in absurd never
+
+pub last_is : (item : WeaveItem) → is_end_line item ≡ is_last (kind_of item)
+last_is Header = refl
+last_is (SymbolLine name) = refl
+last_is (RuleLine t) = refl
+last_is (SizeLine x y) = refl
+last_is (BottomLine symbols) = refl
+last_is (LeftLine symbols) = refl
+last_is EndLine = refl
+
+-- after the end line there is a weave
+is_weave : (w : Weave) → IsDraft w → HasAll w → IsWeave w
+is_weave w draft has = record {
+  some_symbol = has.some_symbol;
+  symbol_count = draft.few;
+  symbol_names = draft.names;
+  rules = draft.rules;
+  distinct_rules = draft.distinct_rules;
+  some_column = has.some_column;
+  column_count = draft.column_count;
+  some_row = has.some_row;
+  row_count = draft.row_count;
+  bottom_length = has.bottom_length;
+  bottom_symbols = draft.bottom_symbols;
+  left_length = has.left_length;
+  left_symbols = draft.left_symbols;
+}
+
+ends_at_end : (item : WeaveItem) → is_end_line item ≡ true → kind_of item ≡ kinds.End
+ends_at_end EndLine ends = refl
+ends_at_end item ends = absurd (cc ends)
+
+-- what was read to the end line is a weave
+pub IsWeave-read : (w : Weave) (last : Option LineKind) (items : List WeaveItem) (text : List ℕ) (from to : Mark) → HoldsLines w last items → Reads quadrant_format text from items to → IsWeave w
+unfolding quadrant_table
+IsWeave-read w last items text from to held reads = elim reads [
+  | inl read ↦
+      let end : last ≡ Some kinds.End =
+      held.kind ∙ ap (λ l. option_map kind_of (last_of l)) read.whole ∙ ap (option_map kind_of) (last_push read.earlier read.last) ∙ ap (λ k. Some k) (ends_at_end read.last read.ends)
+      in
+      is_weave w held.draft (subst (λ k. HasCome k w) end held.come)
+  | inr read ↦ absurd (cc (read.complete))
+]

@@ -1,0 +1,74 @@
+-- What grows from a weave's system.
+use Rattle.std.proofs.Common.{◌≡◌, ◌<◌, ◌≤◌, ℕ, suc, pos, ◌+ℤ◌, ◌≤ℤ◌, List, Option, Some, slice_get, option_map, refl, sym, ◌∙◌, ap, subst, arith}
+use Rattle.std.proofs.lemmas.Int.{ints}
+use Rattle.atam.specs.declared.site.Site.{Site}
+use Rattle.atam.specs.declared.place.Place.{Place}
+use Rattle.atam.specs.Sites.{InBox}
+use Rattle.atam.specs.Placements.{tile_at}
+use Rattle.atam.specs.TileSystem.{IsValid}
+use Rattle.atam.specs.Growth.{IsLegal}
+use Rattle.design.specs.TileSets.{cell_site, type_id}
+use Rattle.design.specs.RowDesigns.{RowDesign, GrowsRowByRow, IsBoxOfRows}
+use Rattle.design.specs.Laws.{HasDeterministicGrowth}
+use Rattle.design.proofs.Rows.{places_are_cells, cells_are_filled, deterministic_rows}
+use Rattle.quadrant_compile.specs.declared.tile.Kind.TheVariants.{Corner}
+use Rattle.quadrant_compile.specs.declared.tile.Kind.{Kind}
+use Rattle.quadrant_compile.specs.Weaves.{Weave, IsWeave, IsRecurrence}
+use Rattle.quadrant_compile.specs.Tiles.{cell_for, kind_at}
+use Rattle.quadrant_compile.specs.Woven.{tiles_of, area_of, woven}
+use Rattle.quadrant_compile.specs.Laws.{IsInWeave, IsFullGrowth}
+use Rattle.quadrant_compile.proofs.Listed.{is_tile_set, kind_listed}
+use Rattle.quadrant_compile.proofs.Weaving.{weave_rows, are_grown, is_in, cell_there}
+use Rattle.quadrant_compile.proofs.Recurring.{east_once, north_once}
+
+right : (width : ℕ) → pos width +ℤ pos 1 ≡ pos (suc width)
+right width = omega (arith, ints)
+
+within : (j top : ℕ) → j ≤ top → pos j ≤ℤ pos top
+within j top below = omega (arith, ints, below)
+
+in_box : (w : Weave) (i j : ℕ) (m : Site) → m ≡ cell_site i j → i ≤ w.width → j ≤ w.height → InBox (area_of w) m
+in_box w i j m same column row = subst (InBox (area_of w)) (sym same) (record {
+  left = omega (arith, ints);
+  right = omega (arith, ints, column);
+  bottom = omega (arith, ints);
+  top = omega (arith, ints, row);
+})
+
+module _ (w : Weave) (is_weave : IsWeave w) where
+  abbrev rows : RowDesign Kind
+  rows = weave_rows w (kind_listed w is_weave) is_weave.some_column is_weave.some_row
+
+  box : IsBoxOfRows rows (area_of w)
+  box = record { left = refl; bottom = refl; right = right w.width }
+
+  grown : GrowsRowByRow (tiles_of w) rows Corner
+  grown = are_grown w (kind_listed w is_weave) is_weave.some_column is_weave.some_row
+
+  pub place_there : (s : List Place) → IsLegal (woven w) s → (i : ℕ) (p : Place) → slice_get s i ≡ Some p → IsInWeave w p
+  place_there s legal i p there =
+      let cell = places_are_cells (tiles_of w) (is_tile_set w is_weave) Corner (area_of w) rows grown s legal i p there in
+      record { column = cell.column; row = cell.row; kind = cell.kind; site = cell.site; there = cell.wanted; tile = cell.tile }
+
+  pub place_inside : (s : List Place) → IsLegal (woven w) s → (i : ℕ) (p : Place) → slice_get s i ≡ Some p → InBox (area_of w) p.site
+  place_inside s legal i p there =
+      let cell = place_there s legal i p there in
+      let is = is_in w (kind_listed w is_weave) is_weave.some_column is_weave.some_row cell.column cell.row cell.kind cell.there in
+      in_box w cell.column cell.row p.site cell.site is.column is.line
+
+  pub filled : (tiles : List Place) → IsFullGrowth w tiles → (i j : ℕ) → i ≤ w.width → j ≤ w.height → tile_at tiles (cell_site i j) ≡ option_map (type_id (tiles_of w)) (kind_at w i j)
+  filled tiles growth i j column row =
+      cells_are_filled (tiles_of w) (is_tile_set w is_weave) Corner (area_of w) rows grown box tiles growth.producible growth.distinct growth.closed i j (omega (arith, column)) (within j w.height row)
+
+  pub recurs : (tiles : List Place) (e n : ℕ → ℕ → Option ℕ) → IsRecurrence w e n → IsFullGrowth w tiles → (i j : ℕ) → i < w.width → j < w.height →
+      tile_at tiles (cell_site (suc i) (suc j)) ≡ option_map (type_id (tiles_of w)) (cell_for w (e i (suc j)) (n (suc i) j))
+  recurs tiles e n is growth i j column row =
+      let east_same = east_once w e n is i j in
+      let north_same = north_once w e n is j i in
+      filled tiles growth (suc i) (suc j) column row
+      ∙ ap (option_map (type_id (tiles_of w))) (cell_there w (kind_listed w is_weave) is_weave.some_column is_weave.some_row j i row column)
+      ∙ sym (λ z. option_map (type_id (tiles_of w)) (cell_for w (east_same z) (north_same z)))
+
+  pub deterministic : IsValid (woven w) → HasDeterministicGrowth (woven w)
+  deterministic valid =
+      deterministic_rows (tiles_of w) (is_tile_set w is_weave) Corner (area_of w) rows grown box valid (λ i j k wanted. within j w.height (is_in w (kind_listed w is_weave) is_weave.some_column is_weave.some_row i j k wanted).line)

@@ -1,0 +1,11 @@
+pub mod RuleTables
+pub mod Fits
+pub mod Built
+pub mod Ruling
+pub mod Listed
+pub mod Weaving
+pub mod Recurring
+pub mod Growing
+pub mod Named
+pub mod CellReading
+pub mod Joining

@@ -1,0 +1,15 @@
+use Rattle.std.proofs.Common.{sym, subst}
+use Rattle.std.specs.Prelude.{None, []}
+use Rattle.quadrant_compile.specs.Weaves.{Weave}
+use Rattle.quadrant_compile.specs.Inner.SoFar.{HoldsLines, weave_in}
+use Rattle.quadrant_compile.proofs.Built.{nothing_held, IsWeave-read}
+use Rattle.quadrant_compile.proofs.reader.read_quadrant.Goals as goal
+
+pub read_text-requires-clause-empty : goal.read_text-requires-clause-empty
+read_text-requires-clause-empty c = subst (λ (w : Weave). HoldsLines w None []) (sym c.in-Ok.ensures) nothing_held
+
+pub new-requires-2 : goal.new-requires-2
+new-requires-2 c =
+    let read = c.in_ok-to.ensures.read in
+    let reader = c.read_text.new.reader in
+    IsWeave-read (weave_in reader.parts) reader.last read.items c.args.text.now c.args.from c.in_ok-to.to read.held read.reads

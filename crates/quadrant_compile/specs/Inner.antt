@@ -1,0 +1,5 @@
+pub mod Keywords
+pub mod Tables
+pub mod SoFar
+pub mod Held
+pub mod Members

@@ -1,0 +1,51 @@
+-- The keywords of a quadrant text, as the code has them.
+use Rattle.std.specs.Prelude.{Bool, true, false, Option, Some, None}
+use Rattle.tile_io.specs.Checks.{Keyword}
+use Rattle.quadrant_compile.specs.declared.line_kind.LineKind.{LineKind}
+use Rattle.quadrant_compile.specs.declared.line_kind.LineKind.TheVariants as kinds
+use Rattle.quadrant_compile.specs.WeaveText.{WeaveItem, quadrant_row, symbol_row, rule_row, size_row, bottom_row, left_row, end_row}
+use Rattle.quadrant_compile.specs.WeaveText.WeaveItem.{Header, SymbolLine, RuleLine, SizeLine, BottomLine, LeftLine, EndLine}
+
+-- the row of a keyword in the table
+abbrev pub row_of : LineKind → Keyword WeaveItem
+row_of kinds.Quadrant = quadrant_row
+row_of kinds.Symbol = symbol_row
+row_of kinds.Rule = rule_row
+row_of kinds.Size = size_row
+row_of kinds.Bottom = bottom_row
+row_of kinds.Left = left_row
+row_of kinds.End = end_row
+
+-- the keyword of a line
+abbrev pub kind_of : WeaveItem → LineKind
+kind_of Header = kinds.Quadrant
+kind_of (SymbolLine name) = kinds.Symbol
+kind_of (RuleLine rule) = kinds.Rule
+kind_of (SizeLine width height) = kinds.Size
+kind_of (BottomLine symbols) = kinds.Bottom
+kind_of (LeftLine symbols) = kinds.Left
+kind_of EndLine = kinds.End
+
+-- whether a keyword may stand right after a line of another one, or first
+abbrev pub may_stand_after : LineKind → Option LineKind → Bool
+may_stand_after kinds.Quadrant None = true
+may_stand_after kinds.Symbol (Some kinds.Quadrant) = true
+may_stand_after kinds.Symbol (Some kinds.Symbol) = true
+may_stand_after kinds.Rule (Some kinds.Symbol) = true
+may_stand_after kinds.Rule (Some kinds.Rule) = true
+may_stand_after kinds.Size (Some kinds.Symbol) = true
+may_stand_after kinds.Size (Some kinds.Rule) = true
+may_stand_after kinds.Bottom (Some kinds.Size) = true
+may_stand_after kinds.Bottom (Some kinds.Bottom) = true
+may_stand_after kinds.Left (Some kinds.Size) = true
+may_stand_after kinds.Left (Some kinds.Bottom) = true
+may_stand_after kinds.Left (Some kinds.Left) = true
+may_stand_after kinds.End (Some kinds.Size) = true
+may_stand_after kinds.End (Some kinds.Bottom) = true
+may_stand_after kinds.End (Some kinds.Left) = true
+may_stand_after kind last = false
+
+-- whether a line of this keyword ends the text
+abbrev pub is_last : LineKind → Bool
+is_last kinds.End = true
+is_last kind = false

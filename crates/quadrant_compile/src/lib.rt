@@ -1,0 +1,29 @@
+//! Rules from two symbols to two, woven over columns and rows: their text, and the tile system that shows their recurrence.
+#![tactic(auto)]
+
+mod cells;
+mod compiler;
+mod laws;
+mod limits;
+mod line_kind;
+mod listing;
+mod name_list;
+mod names;
+mod parts;
+mod quadrant;
+mod reader;
+mod rule;
+mod rule_list;
+mod ruled;
+mod short_name;
+mod table;
+mod take;
+mod tile;
+
+pub use cells::cell_at;
+pub use compiler::compile_quadrant;
+pub use laws::{law_example, law_quadrant, law_quadrant_text, law_recurrence, law_valid};
+pub use limits::{LONGEST_SIDE, MOST_SYMBOLS};
+pub use quadrant::Quadrant;
+pub use reader::read_quadrant;
+pub use rule::{Answer, Rule};

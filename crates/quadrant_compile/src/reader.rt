@@ -1,0 +1,101 @@
+// A quadrant is read from its text.
+ghost use Rattle.std.specs.Prelude.{◌≡◌, ◌≤◌, length, IfOk};
+ghost use Rattle.tile_io.specs.NextLine.{IsMark};
+ghost use Rattle.tile_io.specs.Formats.{ReadsOrStops};
+ghost use Rattle.quadrant_compile.specs.Weaves.{IsWeave};
+ghost use Rattle.quadrant_compile.specs.WeaveText.{ReadsQuadrant, quadrant_format};
+
+use crate::limits::MOST_SYMBOLS;
+use crate::line_kind::LineKind;
+use crate::parts::QuadrantParts;
+use crate::quadrant::Quadrant;
+use crate::take::take_item;
+use std::alloc::Global;
+use tile_io::{LineReader, LineStop, LineWords, MOST_INPUT, Mark, TextStop, read_text};
+
+/// Reads a quadrant text, up to its end line, in time that grows with its length and the number of its symbols.
+pub fn read_quadrant(alloc: Global, text: &[u8], from: Mark) -> Result<(Quadrant, Mark), TextStop>
+    requires short { length text.now ≤ MOST_INPUT }
+    requires mark { IsMark text.now from }
+    ensures read { ReadsOrStops quadrant_format text.now from
+        (λ found. ReadsQuadrant text.now from found.0 found.1) result }
+    ensures valid { IfOk result (λ found. IsWeave found.0) }
+{
+    let Ok(parts) = QuadrantParts::new(alloc) else {
+        return Err(TextStop::NoMemory);
+    };
+    let mut reader = QuadrantReader {
+        alloc,
+        parts,
+        last: None,
+    };
+    let to = read_text(&mut reader, text, from)?;
+    let Ok(quadrant) = Quadrant::new(alloc, reader.parts) else {
+        return Err(TextStop::NoMemory);
+    };
+    Ok((quadrant, to))
+}
+
+// What was read so far: the parts of a quadrant, and the keyword of the last kept line.
+#[derive(Drop)]
+struct QuadrantReader {
+    alloc: Global,
+    parts: QuadrantParts,
+    last: Option<LineKind>,
+}
+
+#[tactic(auto, unfolding(crate::specs::WeaveText::quadrant_table))]
+impl LineReader for QuadrantReader {
+    ghost use Rattle.quadrant_compile.specs.WeaveText.{WeaveItem, quadrant_table};
+    ghost use Rattle.quadrant_compile.specs.Inner.Keywords.{row_of};
+    ghost use Rattle.quadrant_compile.specs.Inner.SoFar.{weave_in, HoldsLines};
+
+    type Kind = LineKind;
+
+    ghost Item = { WeaveItem };
+
+    ghost Context = { Unit {0} };
+
+    ghost context = { λ _. tt };
+
+    ghost table = { λ _. quadrant_table };
+
+    ghost row = { λ _. row_of };
+
+    ghost holds = { λ r. HoldsLines (weave_in r.parts) r.last };
+
+    fn has_header(&self) -> bool {
+        true
+    }
+
+    fn kind_of(&self, word: &[u8]) -> Option<LineKind> {
+        LineKind::of(word)
+    }
+
+    fn has_words(&self, kind: LineKind, count: usize) -> bool {
+        kind.has_words(count)
+    }
+
+    fn may_stand(&self, kind: LineKind) -> bool {
+        kind.may_stand(self.last)
+    }
+
+    fn has_room(&self, kind: LineKind, words: &LineWords) -> bool {
+        match kind {
+            LineKind::Symbol => self.parts.symbols.len() < MOST_SYMBOLS,
+            LineKind::Bottom => self.parts.has_columns(words.len() - 1),
+            LineKind::Left => self.parts.has_rows(words.len() - 1),
+            _ => true,
+        }
+    }
+
+    fn take_fields(&mut self, kind: LineKind, words: &LineWords) -> Result<bool, LineStop> {
+        take_item(self.alloc, &mut self.parts, kind, words)?;
+        self.last = Some(kind);
+        Ok(kind.is_last())
+    }
+
+    fn is_complete(&self) -> bool {
+        false
+    }
+}

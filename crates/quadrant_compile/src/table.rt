@@ -1,0 +1,126 @@
+// The table of a quadrant's tiles.
+ghost use Rattle.std.specs.Prelude.{◌≡◌};
+ghost use Rattle.quadrant_compile.specs.Weaves.{IsWeave, Weave};
+ghost use Rattle.quadrant_compile.specs.Tiles.{label_on, next_column, next_row, strength};
+ghost use Rattle.quadrant_compile.specs.Woven.{label_number};
+ghost use Rattle.quadrant_compile.specs.Inner.Members.{IsKind, IsLabel};
+
+use crate::quadrant::Quadrant;
+use crate::tile::{Kind, Label};
+use atam::Side;
+
+/// The label on a side of a kind.
+pub(crate) fn label_on(quadrant: &Quadrant, kind: Kind, side: Side) -> Option<Label>
+    requires valid { IsWeave quadrant.now }
+    requires kind { IsKind quadrant.now kind }
+    ensures { result ≡ label_on quadrant.now kind side }
+{
+    match kind {
+        Kind::Corner => corner_label(side),
+        Kind::Bottom { column } => bottom_label(quadrant, column, side),
+        Kind::Left { row } => left_label(quadrant, row, side),
+        Kind::Cell { west, south } => cell_label(quadrant, west, south, side),
+    }
+}
+
+fn corner_label(side: Side) -> Option<Label>
+    ensures { (w : Weave) → result ≡ label_on w Kind.Corner side }
+{
+    match side {
+        Side::North => Some(Label::Row { row: 1 }),
+        Side::East => Some(Label::Column { column: 1 }),
+        Side::South | Side::West => None,
+    }
+}
+
+fn bottom_label(quadrant: &Quadrant, column: u32, side: Side) -> Option<Label>
+    requires { IsKind quadrant.now (Kind.Bottom column) }
+    ensures { result ≡ label_on quadrant.now (Kind.Bottom column) side }
+{
+    match side {
+        Side::North => Some(Label::Northward {
+            symbol: quadrant.bottom_symbol(column),
+        }),
+        Side::East => next_column(quadrant, column),
+        Side::South => None,
+        Side::West => Some(Label::Column { column }),
+    }
+}
+
+fn left_label(quadrant: &Quadrant, row: u32, side: Side) -> Option<Label>
+    requires { IsKind quadrant.now (Kind.Left row) }
+    ensures { result ≡ label_on quadrant.now (Kind.Left row) side }
+{
+    match side {
+        Side::North => next_row(quadrant, row),
+        Side::East => Some(Label::Eastward {
+            symbol: quadrant.left_symbol(row),
+        }),
+        Side::South => Some(Label::Row { row }),
+        Side::West => None,
+    }
+}
+
+fn cell_label(quadrant: &Quadrant, west: u32, south: u32, side: Side) -> Option<Label>
+    requires valid { IsWeave quadrant.now }
+    requires kind { IsKind quadrant.now (Kind.Cell west south) }
+    ensures { result ≡ label_on quadrant.now (Kind.Cell west south) side }
+{
+    let answer = quadrant.answer(west, south)?;
+    Some(match side {
+        Side::North => Label::Northward {
+            symbol: answer.north,
+        },
+        Side::East => Label::Eastward {
+            symbol: answer.east,
+        },
+        Side::South => Label::Northward { symbol: south },
+        Side::West => Label::Eastward { symbol: west },
+    })
+}
+
+// The label between a tile of the bottom border and the next one.
+fn next_column(quadrant: &Quadrant, column: u32) -> Option<Label>
+    ensures { result ≡ next_column quadrant.now column }
+{
+    if column < quadrant.width() {
+        Some(Label::Column { column: column + 1 })
+    } else {
+        None
+    }
+}
+
+// The label between a tile of the left border and the next one.
+fn next_row(quadrant: &Quadrant, row: u32) -> Option<Label>
+    ensures { result ≡ next_row quadrant.now row }
+{
+    if row < quadrant.height() {
+        Some(Label::Row { row: row + 1 })
+    } else {
+        None
+    }
+}
+
+/// The strength of a label.
+pub(crate) fn strength(label: Label) -> u32
+    ensures { result ≡ strength label }
+{
+    match label {
+        Label::Eastward { .. } | Label::Northward { .. } => 1,
+        Label::Column { .. } | Label::Row { .. } => 2,
+    }
+}
+
+/// The number of a label.
+pub(crate) fn label_number(quadrant: &Quadrant, label: Label) -> u32
+    requires valid { IsWeave quadrant.now }
+    requires label { IsLabel quadrant.now label }
+    ensures { result ≡ label_number quadrant.now label }
+{
+    match label {
+        Label::Eastward { symbol } => symbol,
+        Label::Northward { symbol } => quadrant.symbols() + symbol,
+        Label::Column { column } => 2 * quadrant.symbols() + column - 1,
+        Label::Row { row } => 2 * quadrant.symbols() + quadrant.width() + row - 1,
+    }
+}

@@ -1,0 +1,193 @@
+// What the fields of a line make of a quadrant in the making.
+ghost use Rattle.std.specs.Prelude.{◌≡◌, ◌≤◌, ◌<◌, List, true, None, length, IfOk, drop};
+ghost use Rattle.tile_io.specs.Checks.{declared, referred};
+ghost use Rattle.machine_text.specs.Machines.{is_short_name};
+ghost use Rattle.machine_text.specs.MachineText.{references};
+ghost use Rattle.machine_text.specs.Inner.SoFar.{Declares, Refers};
+ghost use Rattle.quadrant_compile.specs.declared.limits.TheConstants.{MOST_SYMBOLS};
+ghost use Rattle.quadrant_compile.specs.Weaves.{Weave, answer_among};
+ghost use Rattle.quadrant_compile.specs.WeaveText.{WeaveItem, header_fields, symbol_fields, rule_in, rule_fields, size_fields, bottom_fields, left_fields, weave_of};
+ghost use Rattle.quadrant_compile.specs.Inner.Keywords.{row_of};
+ghost use Rattle.quadrant_compile.specs.Inner.SoFar.{weave_in, Gets};
+
+use crate::limits::LONGEST_SIDE;
+use crate::line_kind::LineKind;
+use crate::name_list::NameList;
+use crate::parts::QuadrantParts;
+use crate::rule::{Answer, Rule};
+use crate::short_name::is_short_name;
+use std::alloc::Global;
+use tile_io::{Cause, LineStop, LineWords, is_word, read_count};
+
+/// Takes the fields of a line of this keyword.
+pub(crate) fn take_item(
+    alloc: Global,
+    parts: &mut QuadrantParts,
+    kind: LineKind,
+    words: &LineWords,
+) -> Result<(), LineStop>
+    requires words { (row_of kind).has_words (length words.now) ≡ true }
+    requires few { length parts.old.symbols ≤ MOST_SYMBOLS }
+    ensures { (earlier : List WeaveItem) → weave_in parts.old ≡ weave_of earlier →
+        Gets kind ((row_of kind).fields earlier words.now) (weave_in parts.old)
+        (weave_in parts.new) result }
+{
+    match kind {
+        LineKind::Quadrant => check_version(words),
+        LineKind::Symbol => take_symbol(alloc, parts, words),
+        LineKind::Rule => take_rule(parts, words),
+        LineKind::Size => take_size(parts, words),
+        LineKind::Bottom => take_bottom(alloc, parts, words),
+        LineKind::Left => take_left(alloc, parts, words),
+        LineKind::End => Ok(()),
+    }
+}
+
+// Whether the header is of version 1.
+#[tactic(auto, unfolding(crate::specs::WeaveText::header_fields))]
+fn check_version(words: &LineWords) -> Result<(), LineStop>
+    requires { length words.now ≡ 2 }
+    ensures { (w : Weave) → Gets LineKind.Quadrant (header_fields words.now) w w result }
+{
+    if !is_word(words.word(1), b"1") {
+        return Err(LineStop::Fault(Cause::NoHeader));
+    }
+    Ok(())
+}
+
+// Takes the fields of a `symbol` line.
+#[tactic(auto, unfolding(crate::specs::WeaveText::symbol_fields))]
+fn take_symbol(alloc: Global, parts: &mut QuadrantParts, words: &LineWords) -> Result<(), LineStop>
+    requires words { length words.now ≡ 2 }
+    requires few { length parts.old.symbols ≤ MOST_SYMBOLS }
+    ensures { Gets LineKind.Symbol (symbol_fields (weave_in parts.old) words.now)
+        (weave_in parts.old) (weave_in parts.new) result }
+{
+    let name = words.word(1);
+    check_new(&parts.symbols, name)?;
+    match parts.symbols.push(alloc, name) {
+        Ok(()) => Ok(()),
+        Err(_) => Err(LineStop::NoMemory),
+    }
+}
+
+// Takes the fields of a `rule` line.
+#[tactic(auto, unfolding(crate::specs::WeaveText::rule_fields))]
+fn take_rule(parts: &mut QuadrantParts, words: &LineWords) -> Result<(), LineStop>
+    requires words { length words.now ≡ 5 }
+    requires few { length parts.old.symbols ≤ MOST_SYMBOLS }
+    ensures { Gets LineKind.Rule (rule_fields (weave_in parts.old) words.now)
+        (weave_in parts.old) (weave_in parts.new) result }
+{
+    let rule = read_rule(parts, words)?;
+    match parts.rules.push(rule) {
+        Ok(()) => Ok(()),
+        Err(_) => Err(LineStop::NoMemory),
+    }
+}
+
+// The rule of a `rule` line.
+#[tactic(auto, unfolding(crate::specs::WeaveText::rule_in))]
+fn read_rule(parts: &QuadrantParts, words: &LineWords) -> Result<Rule, Cause>
+    requires words { length words.now ≡ 5 }
+    requires few { length parts.now.symbols ≤ MOST_SYMBOLS }
+    ensures rule { result ≡ rule_in (weave_in parts.now) words.now }
+    ensures fresh { IfOk result (λ r. answer_among parts.now.rules r.west r.south ≡ None) }
+    ensures west { IfOk result (λ r. r.west < length parts.now.symbols) }
+    ensures south { IfOk result (λ r. r.south < length parts.now.symbols) }
+{
+    let west = find_name(&parts.symbols, words.word(1))?;
+    let south = find_name(&parts.symbols, words.word(2))?;
+    if parts.rules.find(west, south).is_some() {
+        return Err(Cause::DoubleName);
+    }
+    let east = find_name(&parts.symbols, words.word(3))?;
+    let north = find_name(&parts.symbols, words.word(4))?;
+    Ok(Rule {
+        west,
+        south,
+        answer: Answer { east, north },
+    })
+}
+
+// Takes the fields of a `size` line.
+#[tactic(auto, unfolding(crate::specs::WeaveText::size_fields))]
+fn take_size(parts: &mut QuadrantParts, words: &LineWords) -> Result<(), LineStop>
+    requires { length words.now ≡ 3 }
+    ensures { Gets LineKind.Size (size_fields words.now) (weave_in parts.old)
+        (weave_in parts.new) result }
+{
+    let width = read_count(words.word(1), 1, LONGEST_SIDE)?;
+    let height = read_count(words.word(2), 1, LONGEST_SIDE)?;
+    parts.width = width;
+    parts.height = height;
+    Ok(())
+}
+
+// Takes the fields of a `bottom` line.
+#[tactic(auto, unfolding(crate::specs::WeaveText::bottom_fields))]
+fn take_bottom(alloc: Global, parts: &mut QuadrantParts, words: &LineWords) -> Result<(), LineStop>
+    requires { 2 ≤ length words.now }
+    ensures { Gets LineKind.Bottom (bottom_fields (weave_in parts.old) words.now)
+        (weave_in parts.old) (weave_in parts.new) result }
+{
+    let symbols = read_symbols(alloc, &parts.symbols, words)?;
+    match parts.bottom.extend_from_slice(symbols.as_slice()) {
+        Ok(()) => Ok(()),
+        Err(_) => Err(LineStop::NoMemory),
+    }
+}
+
+// Takes the fields of a `left` line.
+#[tactic(auto, unfolding(crate::specs::WeaveText::left_fields))]
+fn take_left(alloc: Global, parts: &mut QuadrantParts, words: &LineWords) -> Result<(), LineStop>
+    requires { 2 ≤ length words.now }
+    ensures { Gets LineKind.Left (left_fields (weave_in parts.old) words.now)
+        (weave_in parts.old) (weave_in parts.new) result }
+{
+    let symbols = read_symbols(alloc, &parts.symbols, words)?;
+    match parts.left.extend_from_slice(symbols.as_slice()) {
+        Ok(()) => Ok(()),
+        Err(_) => Err(LineStop::NoMemory),
+    }
+}
+
+// The symbols that the words of a line behind the first are.
+fn read_symbols(alloc: Global, names: &NameList, words: &LineWords) -> Result<Vec<u32>, LineStop>
+    requires { 2 ≤ length words.now }
+    ensures { Refers (references names.now (drop 1 words.now)) result }
+{
+    let mut symbols = Vec::new(alloc);
+    for index in 1..words.len() {
+        let symbol = find_name(names, words.word(index))?;
+        match symbols.push(symbol) {
+            Ok(()) => {}
+            Err(_) => return Err(LineStop::NoMemory),
+        }
+    }
+    Ok(symbols)
+}
+
+// The number that a name refers to.
+fn find_name(names: &NameList, name: &[u8]) -> Result<u32, Cause>
+    ensures number { result ≡ referred is_short_name names.now name.now }
+    ensures known { IfOk result (λ number. number < length names.now) }
+{
+    if !is_short_name(name) {
+        return Err(Cause::BadName);
+    }
+    names.find(name).ok_or(Cause::UnknownName)
+}
+
+// Whether a name may be declared.
+fn check_new(names: &NameList, name: &[u8]) -> Result<(), Cause>
+    ensures { Declares (declared is_short_name names.now name.now) name.now result }
+{
+    if !is_short_name(name) {
+        return Err(Cause::BadName);
+    }
+    if names.find(name).is_some() {
+        return Err(Cause::DoubleName);
+    }
+    Ok(())
+}
