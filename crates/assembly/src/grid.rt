@@ -56,6 +56,17 @@ impl Grid {
         })
     }
 
+    /// Does nothing: its clauses are the facts that each grid has its tiles inside its box, one at
+    /// a site, for the proof of a caller.
+    #[inline(always)]
+    pub fn recall_sites(&self)
+        ensures box_limits { IsBox self.now.area }
+        ensures inside { All (λ p. InBox self.now.area p.site) self.now.tiles }
+        ensures distinct { HasDistinctSites self.now.tiles }
+    {
+        let _ = &self.area;
+    }
+
     pub fn area(&self) -> BoxArea
         ensures area { result ≡ self.now.area }
         ensures box_limits { IsBox result }

@@ -1,22 +1,27 @@
 -- What the words of a command call for.
-use Rattle.std.proofs.Common.{◌≡◌, ◌∙◌, ap, ap₂, sym, subst, true, false, true≢false, List, [], ◌∷◌, ℕ, refl, inl, inr, Option, Some, arith, codes, unwrap_or}
-use Rattle.std.specs.Prelude.{decimal}
+use Rattle.std.proofs.Common.{◌≡◌, ◌∙◌, ◌&&◌, ◌||◌, ap, ap₂, sym, subst, Bool, true, false, true≢false, not, map, length, List, [], ◌∷◌, ◌<◌, ℕ, refl, Option, Some, unwrap_or}
+use Rattle.std.specs.Prelude.{decimal, flat_map, nat_lt}
+use Rattle.std.proofs.lemmas.Bool.{ltb-true}
 use Rattle.clap.specs.Matches.{found_of}
-use Rattle.clap.specs.Words.{App, Text, fault_of, takes}
+use Rattle.clap.specs.Walk.{is_empty}
+use Rattle.clap.specs.Words.{App, Text, fault_of, is_simple, takes}
+use Rattle.clap.proofs.WalkLemmas.{both}
 use Rattle.clap.specs.declared.parser.matches.ArgMatches.{ArgMatches}
 use Rattle.clap.proofs.OnLiterals.{clap_on_literals}
 use Rattle.command_line.specs.declared.commands.Command.{Command}
-use Rattle.command_line.specs.declared.commands.Command.TheVariants.{Grow, Race, Report, Check, Replay, Schedule, Format, Upgrade, Turing, Picture, Counter, Load}
+use Rattle.command_line.specs.declared.commands.Command.TheVariants.{Grow, Race, Report, Check, Replay, Schedule, Format, Upgrade, Turing, Quadrant, Picture, Counter, Load}
 use Rattle.command_line.specs.declared.commands.CommandName.{CommandName}
 use Rattle.command_line.specs.declared.commands.CommandName.TheVariants as name
 use Rattle.command_line.specs.declared.words_stop.WordsStop.{WordsStop}
 use Rattle.command_line.specs.declared.words_stop.WordsStop.TheVariants.{NoCommand, Usage, NoMemory}
-use Rattle.command_line.specs.Commands.{IsCallOf, IsTaken, IsUsage, Spells, SpellsGrowing, command_app, command_named, command_word, name_of, arguments_of, values_of}
-use Rattle.command_line.specs.Numbers.{NumberArgument, StatesValues, may_be_left_out}
+use Rattle.command_line.specs.Commands.{IsCallOf, IsTaken, IsUsage, Spells, SpellsArguments, SpellsNumbers, SpellsOptions, command_app, command_named, command_word, name_of, arguments_of, values_of}
+use Rattle.command_line.specs.Numbers.{AreInRange, NumberArgument, StatesValues, may_be_left_out, number_rule, option_words}
 use Rattle.command_line.specs.Inner.Found.{HasValues, IsExact}
-use Rattle.command_line.proofs.NumberLemmas.{number_stated, states_once}
-use Rattle.command_line.proofs.TakenLemmas.{decimal_text, growing_spelled}
-use Rattle.command_line.proofs.NumberWordLemmas.{counter_stated, counter_taken, load_stated, load_taken}
+use Rattle.fan_out.proofs.Counts.{nearest, nearest_itself}
+use Rattle.command_line.proofs.CommandLemmas.{app_is, app_simple}
+use Rattle.command_line.proofs.NumberLemmas.{not_both, number_stated, states_once}
+use Rattle.command_line.proofs.OptionLemmas.{app_with, are_plain_options, is_not, options_spelled, options_taken}
+use Rattle.command_line.proofs.NumberWordLemmas.{are_plain_numbers, numbers_spelled}
 
 -- what an exact parse finds for the arguments is what clap states
 values_stated : (app : App) (words : List Text) (found : ArgMatches) (arguments : List NumberArgument) (values : List ℕ) → IsExact app words (found_of found)
@@ -51,18 +56,19 @@ values_once app words (argument ∷ arguments) (value ∷ values) (value_too ∷
 
 -- the command of a name with these values
 made : CommandName → List ℕ → Command
-made name.Grow (workers ∷ choice ∷ values) = Grow workers choice
-made name.Grow _ = Grow 0 0
-made name.Race (workers ∷ choice ∷ values) = Race workers choice
-made name.Race _ = Race 0 0
-made name.Report (workers ∷ choice ∷ values) = Report workers choice
-made name.Report _ = Report 0 0
+made name.Grow (workers ∷ choice ∷ values) = Grow (nearest workers) choice
+made name.Grow _ = Grow (nearest 0) 0
+made name.Race (workers ∷ choice ∷ values) = Race (nearest workers) choice
+made name.Race _ = Race (nearest 0) 0
+made name.Report (workers ∷ choice ∷ values) = Report (nearest workers) choice
+made name.Report _ = Report (nearest 0) 0
 made name.Check values = Check
 made name.Replay values = Replay
 made name.Schedule values = Schedule
 made name.Format values = Format
 made name.Upgrade values = Upgrade
 made name.Turing values = Turing
+made name.Quadrant values = Quadrant
 made name.Picture values = Picture
 made name.Counter (bits ∷ start ∷ values) = Counter bits start
 made name.Counter _ = Counter 0 0
@@ -71,9 +77,9 @@ made name.Load _ = Load 0
 
 made_again : (command : Command) → made (name_of command) (values_of command) ≡ command
 unfolding made
-made_again (Grow workers choice) = refl
-made_again (Race workers choice) = refl
-made_again (Report workers choice) = refl
+made_again (Grow workers choice) = ap (λ w. Grow w choice) (nearest_itself workers)
+made_again (Race workers choice) = ap (λ w. Race w choice) (nearest_itself workers)
+made_again (Report workers choice) = ap (λ w. Report w choice) (nearest_itself workers)
 made_again (Counter bits start) = refl
 made_again (Load number) = refl
 made_again _ = refl
@@ -120,85 +126,93 @@ taken_stops words name Usage is other untaken named taken =
 
 word_named : (name : CommandName) → command_named (command_word name ∷ []) ≡ Some name
 word_named name.Grow = refl
-word_named name.Race = refl
-word_named name.Report = refl
 word_named _ = refl
 
-word_taken : (name : CommandName) → may_be_left_out (arguments_of name) ≡ true → takes (command_app name) (command_word name ∷ []) ≡ true
+-- each command either takes its word alone, or misses a word
+abbrev wants_more : CommandName → Bool
+wants_more name =
+    may_be_left_out (arguments_of name)
+    || (not (takes (command_app name) (command_word name ∷ [])) && not (is_empty (fault_of (command_app name) (command_word name ∷ []))))
+
+word_wanting : (name : CommandName) → wants_more name ≡ true
 unfolding command_app clap_on_literals
-word_taken name.Grow no_more = refl
-word_taken name.Race no_more = refl
-word_taken name.Report no_more = refl
-word_taken name.Counter no_more = cc
-word_taken name.Load no_more = cc
-word_taken _ no_more = refl
+word_wanting name.Grow = refl
+word_wanting _ = refl
+
+-- the options of a command have ids and defaults that can be given
+options_plain : (name : CommandName) → (not (may_be_left_out (arguments_of name)) || are_plain_options (arguments_of name)) ≡ true
+options_plain name.Grow = refl
+options_plain _ = refl
+
+plain_of : (name : CommandName) → may_be_left_out (arguments_of name) ≡ true → are_plain_options (arguments_of name) ≡ true
+plain_of name left = sym (ap (λ (b : Bool). not b || are_plain_options (arguments_of name)) left) ∙ options_plain name
+
+simple_of : (name : CommandName) → is_simple (app_with (command_word name) (map number_rule (arguments_of name))) ≡ true
+simple_of name = ap is_simple (sym (app_is name)) ∙ (both _ _ (app_simple name)).0
 
 -- a command whose arguments may be left out takes its word alone
 pub alone_taken : (name : CommandName) → may_be_left_out (arguments_of name) ≡ true → IsTaken (command_word name ∷ []) name
-alone_taken name no_more = record { named = word_named name; taken = word_taken name no_more }
+alone_taken name left = record {
+  named = word_named name;
+  taken =
+      ap (λ (app : App). takes app (command_word name ∷ [])) (app_is name)
+      ∙ options_taken (command_word name) (arguments_of name) [] (simple_of name) left (plain_of name left) tt;
+}
 
 -- and no other command
 pub alone_wanting : (name : CommandName) → may_be_left_out (arguments_of name) ≡ false → IsUsage (command_word name ∷ [])
-unfolding command_app clap_on_literals
-alone_wanting name.Counter more = record { name = name.Counter; named = refl; refused = λ none. cc; untaken = refl }
-alone_wanting name.Load more = record { name = name.Load; named = refl; refused = λ none. cc; untaken = refl }
-alone_wanting name.Grow more = cc
-alone_wanting name.Race more = cc
-alone_wanting name.Report more = cc
-alone_wanting _ more = cc
+alone_wanting name more =
+    let wants = both _ _ (sym (ap (λ (b : Bool). b || (not (takes (command_app name) (command_word name ∷ [])) && not (is_empty (fault_of (command_app name) (command_word name ∷ []))))) more) ∙ word_wanting name) in
+    record {
+      name = name;
+      named = word_named name;
+      refused = λ none. not_both _ wants.1 (ap is_empty none);
+      untaken = is_not _ wants.0;
+    }
 
--- the first word of such words
-spelled_named : (name : Text) (words : List Text) (workers choice : ℕ) (n : CommandName) → command_named (name ∷ []) ≡ Some n → SpellsGrowing name words workers choice
-    → command_named words ≡ Some n
-spelled_named name words workers choice n named is = elim is.order [
-  | inl e ↦ rw e named
-  | inr e ↦ rw e named
-]
+-- clap takes such words, and states their numbers
+record IsSpelled (name : CommandName) (words : List Text) (values : List ℕ) : Type 0 where
+  taken : IsTaken words name
+  stated : StatesValues (command_app name) words (arguments_of name) values
+
+options_said : (name : CommandName) (words : List Text) (values : List ℕ) → may_be_left_out (arguments_of name) ≡ true → AreInRange (arguments_of name) values → SpellsOptions name words values
+    → IsSpelled name words values
+options_said name words values left range is =
+    let spelled = options_spelled (command_word name) (arguments_of name) values is.given (simple_of name) left (plain_of name left) range is.gives in
+    subst (λ (w : List Text). IsSpelled name w values) (sym is.words_are) (record {
+      taken = record { named = word_named name; taken = ap (λ (app : App). takes app (command_word name ∷ flat_map option_words is.given)) (app_is name) ∙ spelled.taken };
+      stated = subst (λ (app : App). StatesValues app (command_word name ∷ flat_map option_words is.given) (arguments_of name) values) (sym (app_is name)) spelled.stated;
+    })
+
+-- the numbers of a command have ids of their own
+numbers_plain : (name : CommandName) → (may_be_left_out (arguments_of name) || (are_plain_numbers (arguments_of name) && nat_lt (length (arguments_of name)) 1000)) ≡ true
+numbers_plain name.Grow = refl
+numbers_plain _ = refl
+
+numbers_said : (name : CommandName) (words : List Text) (values : List ℕ) → may_be_left_out (arguments_of name) ≡ false → AreInRange (arguments_of name) values → SpellsNumbers name words values
+    → IsSpelled name words values
+numbers_said name words values more range is =
+    let plain = both (are_plain_numbers (arguments_of name)) _
+    (sym (ap (λ (b : Bool). b || (are_plain_numbers (arguments_of name) && nat_lt (length (arguments_of name)) 1000)) more) ∙ numbers_plain name) in
+    let few : length (arguments_of name) < 1000 = ltb-true (length (arguments_of name)) 1000 plain.1 in
+    let taken = numbers_spelled (command_word name) (arguments_of name) values plain.0 range few (simple_of name) in
+    subst (λ (w : List Text). IsSpelled name w values) (sym is) (record {
+      taken = record { named = word_named name; taken = ap (λ (app : App). takes app (command_word name ∷ map decimal values)) (app_is name) ∙ taken.taken };
+      stated = subst (λ (app : App). StatesValues app (command_word name ∷ map decimal values) (arguments_of name) values) (sym (app_is name)) taken.stated;
+    })
+
+spelled : (words : List Text) (command : Command) → Spells words command → IsSpelled (name_of command) words (values_of command)
+spelled words command is = go (may_be_left_out (arguments_of (name_of command))) refl is.1
+  where
+    go : (b : Bool) → may_be_left_out (arguments_of (name_of command)) ≡ b → SpellsArguments b (name_of command) words (values_of command) → IsSpelled (name_of command) words (values_of command)
+    go true left said = options_said (name_of command) words (values_of command) left is.0 said
+    go false more said = numbers_said (name_of command) words (values_of command) more is.0 said
 
 pub spelled_taken : (words : List Text) (command : Command) → Spells words command → IsTaken words (name_of command)
-unfolding command_app
-spelled_taken words (Grow workers choice) is = record {
-  named = spelled_named (codes "grow") words workers choice name.Grow refl is;
-  taken = (growing_spelled (codes "grow") words workers choice is).taken;
-}
-spelled_taken words (Race workers choice) is = record {
-  named = spelled_named (codes "race") words workers choice name.Race refl is;
-  taken = (growing_spelled (codes "race") words workers choice is).taken;
-}
-spelled_taken words (Report workers choice) is = record {
-  named = spelled_named (codes "report") words workers choice name.Report refl is;
-  taken = (growing_spelled (codes "report") words workers choice is).taken;
-}
-spelled_taken words (Counter bits start) (range, is) = record {
-  named = rw is refl;
-  taken = rw is (counter_taken (decimal bits) (decimal start) bits start range.1 range.2.1 (decimal_text bits (omega (arith, range.1))) (decimal_text start (omega (arith, range.2.1))));
-}
-spelled_taken words (Load number) (range, is) = record {
-  named = rw is refl;
-  taken = rw is (load_taken (decimal number) number range.1 (decimal_text number (omega (arith, range.1))));
-}
-spelled_taken words Check (range, is) = rw is (alone_taken name.Check refl)
-spelled_taken words Replay (range, is) = rw is (alone_taken name.Replay refl)
-spelled_taken words Schedule (range, is) = rw is (alone_taken name.Schedule refl)
-spelled_taken words Format (range, is) = rw is (alone_taken name.Format refl)
-spelled_taken words Upgrade (range, is) = rw is (alone_taken name.Upgrade refl)
-spelled_taken words Turing (range, is) = rw is (alone_taken name.Turing refl)
-spelled_taken words Picture (range, is) = rw is (alone_taken name.Picture refl)
-
-spelled_stated : (words : List Text) (command : Command) → Spells words command
-    → StatesValues (command_app (name_of command)) words (arguments_of (name_of command)) (values_of command)
-unfolding command_app
-spelled_stated words (Grow workers choice) is = let stated = (growing_spelled (codes "grow") words workers choice is).stated in (stated.0, (stated.1, tt))
-spelled_stated words (Race workers choice) is = let stated = (growing_spelled (codes "race") words workers choice is).stated in (stated.0, (stated.1, tt))
-spelled_stated words (Report workers choice) is = let stated = (growing_spelled (codes "report") words workers choice is).stated in (stated.0, (stated.1, tt))
-spelled_stated words (Counter bits start) (range, is) =
-    let stated = counter_stated (decimal bits) (decimal start) bits start range.1 range.2.1 (decimal_text bits (omega (arith, range.1))) (decimal_text start (omega (arith, range.2.1))) in
-    rw is (stated.0, (stated.1, tt))
-spelled_stated words (Load number) (range, is) = rw is (load_stated (decimal number) number range.1 (decimal_text number (omega (arith, range.1))), tt)
-spelled_stated words _ is = tt
+spelled_taken words command is = (spelled words command is).taken
 
 -- they call for no other command
 pub call_spelled : (words : List Text) (called spelled : Command) → IsCallOf words called → Spells words spelled → called ≡ spelled
-call_spelled words called spelled call is =
-    let same = same_name words (name_of called) (name_of spelled) call.named (spelled_taken words spelled is).named in
-    one_command words called spelled same call.stated (spelled_stated words spelled is)
+call_spelled words called other call is =
+    let same = same_name words (name_of called) (name_of other) call.named (spelled_taken words other is).named in
+    one_command words called other same call.stated (spelled words other is).stated

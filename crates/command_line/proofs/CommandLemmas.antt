@@ -1,27 +1,25 @@
 -- What a parse of each command finds.
-use Rattle.std.proofs.Common.{◌≡◌, ◌∙◌, ap, true, ℕ, List, [], ◌∷◌, refl, arith, suc, codes}
+use Rattle.std.proofs.Common.{◌≡◌, ◌∙◌, ◌++◌, ◌&&◌, ◌<◌, ap, ap₂, sym, subst, Bool, true, ℕ, List, [], ◌∷◌, map, fold, length, refl, arith, suc}
+use Rattle.std.specs.List.{list_all, slice_index_or}
 use Rattle.clap.specs.Built.{IsParsedFrom}
 use Rattle.clap.specs.Matches.{found_of}
 use Rattle.clap.specs.Simple.{App, HasMatchesOf, app_of, is_simple, matches_of}
-use Rattle.clap.specs.Words.{Text, is_simple_and_free, with_rule}
+use Rattle.clap.specs.Words.{Rule, Text, is_simple_and_free, with_rule}
 use Rattle.clap.specs.declared.builder.command.Command.{Command}
 use Rattle.clap.specs.declared.parser.matches.ArgMatches.{ArgMatches}
 use Rattle.clap.proofs.WalkLemmas.{both}
 use Rattle.command_line.specs.declared.commands.CommandName.{CommandName}
-use Rattle.command_line.specs.declared.commands.CommandName.TheVariants.{Grow, Race, Report, Counter, Load}
-use Rattle.command_line.specs.Commands.{arguments_of, bits_argument, choice_option, command_app, load_argument, plain_app, start_argument, workers_option}
+use Rattle.command_line.specs.declared.commands.CommandName.TheVariants.{Grow}
+use Rattle.command_line.specs.Commands.{arguments_of, command_app, command_word}
 use Rattle.command_line.specs.Numbers.{NumberArgument, number_rule}
 use Rattle.command_line.specs.Inner.Found.{FindsNumbers, IsExact}
-use Rattle.command_line.proofs.NumberLemmas.{HasNumberArgument, argument_found}
+use Rattle.command_line.proofs.NumberLemmas.{HasNumberArgument, argument_found, is_own_id, only_at}
+use Rattle.command_line.proofs.OptionLemmas.{app_with, append_none, push_more}
 
 -- clap's words for faults and for what is taken are about such commands
 pub app_simple : (name : CommandName) → is_simple_and_free (command_app name) ≡ true
 unfolding command_app
 app_simple Grow = refl
-app_simple Race = refl
-app_simple Report = refl
-app_simple Counter = refl
-app_simple Load = refl
 app_simple _ = refl
 
 -- the command has the arguments, from a place on
@@ -29,29 +27,70 @@ abbrev HasArguments : App → ℕ → List NumberArgument → Type 0
 HasArguments app place [] = Unit {0}
 HasArguments app place (argument ∷ arguments) = HasNumberArgument app place argument × HasArguments app (suc place) arguments
 
-growing_arguments : (name : Text) → HasArguments (with_rule (with_rule (plain_app name) (number_rule workers_option)) (number_rule choice_option)) 0 (workers_option ∷ choice_option ∷ [])
-growing_arguments name = (
-  record { simple = refl; negates = refl; free = refl; below = omega arith; at = λ other. refl; only = refl; own = refl },
-  (record { simple = refl; negates = refl; free = refl; below = omega arith; at = λ other. refl; only = refl; own = refl }, tt),
-)
+-- the command, as clap reads it, by the list of its rules
+with_rules : (word : Text) (rules : List Rule) (arguments : List NumberArgument)
+    → fold (λ app argument. with_rule app (number_rule argument)) (app_with word rules) arguments ≡ app_with word (rules ++ map number_rule arguments)
+with_rules word rules [] = ap (app_with word) (sym (append_none rules))
+with_rules word rules (argument ∷ arguments) =
+    with_rules word (rules ++ number_rule argument ∷ []) arguments ∙ ap (app_with word) (push_more rules (number_rule argument) (map number_rule arguments))
 
-counter_arguments : HasArguments (with_rule (with_rule (plain_app (codes "counter")) (number_rule bits_argument)) (number_rule start_argument)) 0 (bits_argument ∷ start_argument ∷ [])
-counter_arguments = (
-  record { simple = refl; negates = refl; free = refl; below = omega arith; at = λ other. refl; only = refl; own = refl },
-  (record { simple = refl; negates = refl; free = refl; below = omega arith; at = λ other. refl; only = refl; own = refl }, tt),
-)
+pub app_is : (name : CommandName) → command_app name ≡ app_with (command_word name) (map number_rule (arguments_of name))
+unfolding command_app
+app_is name = with_rules (command_word name) [] (arguments_of name)
 
-load_arguments : HasArguments (with_rule (plain_app (codes "load")) (number_rule load_argument)) 0 (load_argument ∷ [])
-load_arguments = (record { simple = refl; negates = refl; free = refl; below = omega arith; at = λ other. refl; only = refl; own = refl }, tt)
+-- no two of these arguments have one id, from a place on, and none has an id of clap's own
+abbrev have_own_ids : List NumberArgument → ℕ → List NumberArgument → Bool
+have_own_ids all place [] = true
+have_own_ids all place (argument ∷ arguments) = only_at (map number_rule all) place argument.id && (is_own_id argument.id && have_own_ids all (suc place) arguments)
+
+own_ids : (name : CommandName) → have_own_ids (arguments_of name) 0 (arguments_of name) ≡ true
+own_ids Grow = refl
+own_ids _ = refl
+
+rules_simple : (arguments : List NumberArgument) → list_all (λ rule. rule.is_simple) (map number_rule arguments) ≡ true
+rules_simple [] = refl
+rules_simple (argument ∷ arguments) = rules_simple arguments
+
+rules_free : (arguments : List NumberArgument) → list_all (λ rule. rule.is_free) (map number_rule arguments) ≡ true
+rules_free [] = refl
+rules_free (argument ∷ arguments) = rules_free arguments
+
+rule_below : (front rest : List NumberArgument) (argument : NumberArgument) → length front < length (map number_rule (front ++ argument ∷ rest))
+rule_below [] rest argument = omega arith
+rule_below (first ∷ front) rest argument = let more = rule_below front rest argument in omega (arith, more)
+
+rule_there : (front rest : List NumberArgument) (argument : NumberArgument) (other : Rule) → slice_index_or (map number_rule (front ++ argument ∷ rest)) (length front) other ≡ number_rule argument
+rule_there [] rest argument other = refl
+rule_there (first ∷ front) rest argument other = rule_there front rest argument other
+
+one_longer : (front : List NumberArgument) (argument : NumberArgument) → length (front ++ argument ∷ []) ≡ suc (length front)
+one_longer [] argument = refl
+one_longer (first ∷ front) argument = ap suc (one_longer front argument)
+
+has_from : (word : Text) (front arguments : List NumberArgument) → have_own_ids (front ++ arguments) (length front) arguments ≡ true
+    → HasArguments (app_with word (map number_rule (front ++ arguments))) (length front) arguments
+has_from word front [] own = tt
+has_from word front (argument ∷ arguments) own =
+    let p = both (only_at (map number_rule (front ++ argument ∷ arguments)) (length front) argument.id) _ own in
+    let q = both (is_own_id argument.id) _ p.1 in
+    let Rest : List NumberArgument → ℕ → Type 0 = λ all place. HasArguments (app_with word (map number_rule all)) place arguments in
+    let others = has_from word (front ++ argument ∷ []) arguments
+    (ap₂ (λ (all : List NumberArgument) (place : ℕ). have_own_ids all place arguments) (push_more front argument arguments) (one_longer front argument) ∙ q.1) in (
+      record {
+        simple = rules_simple (front ++ argument ∷ arguments);
+        negates = refl;
+        free = rules_free (front ++ argument ∷ arguments);
+        below = rule_below front arguments argument;
+        at = rule_there front arguments argument;
+        only = p.0;
+        own = q.0;
+      },
+      subst (λ (place : ℕ). Rest (front ++ argument ∷ arguments) place) (one_longer front argument)
+          (subst (λ (all : List NumberArgument). Rest all (length (front ++ argument ∷ []))) (push_more front argument arguments) others),
+    )
 
 has_arguments : (name : CommandName) → HasArguments (command_app name) 0 (arguments_of name)
-unfolding command_app
-has_arguments Grow = growing_arguments (codes "grow")
-has_arguments Race = growing_arguments (codes "race")
-has_arguments Report = growing_arguments (codes "report")
-has_arguments Counter = counter_arguments
-has_arguments Load = load_arguments
-has_arguments _ = tt
+has_arguments name = subst (λ (app : App). HasArguments app 0 (arguments_of name)) (sym (app_is name)) (has_from (command_word name) [] (arguments_of name) (own_ids name))
 
 -- a parse finds a number for each argument of the command
 arguments_found : (command : Command) (found : ArgMatches) (app : App) → app_of command ≡ app → IsParsedFrom command found

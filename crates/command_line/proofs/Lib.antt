@@ -3,6 +3,7 @@ mod CommandLemmas
 mod FoundLemmas
 mod NumberLemmas
 mod NumberWordLemmas
+mod OptionLemmas
 mod ParseLemmas
 mod PlainLemmas
 mod SimpleLemmas

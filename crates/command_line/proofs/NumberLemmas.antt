@@ -43,7 +43,7 @@ pub record HasNumberArgument (app : App) (place : ℕ) (argument : NumberArgumen
   pub only : only_at app.top.rules place argument.id ≡ true
   pub own : is_own_id argument.id ≡ true
 
-not_both : (b : Bool) → not b ≡ true → b ≡ true → ⊥
+pub not_both : (b : Bool) → not b ≡ true → b ≡ true → ⊥
 not_both true denied held = true≢false (sym denied)
 not_both false denied held = true≢false (sym held)
 

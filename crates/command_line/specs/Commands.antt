@@ -1,37 +1,18 @@
 -- The commands, and the words of a command line that call for them.
-use Rattle.std.specs.Prelude.{◌≡◌, ◌≢◌, ◌⊎◌, ◌<◌, ◌≤◌, ◌^◌, ◌-◌, ◌++◌, ℕ, true, false, List, [], ◌∷◌, fold, Option, Some, None, Result, Err, IsOk, codes, decimal, bytes_eq, find, map}
+use Rattle.std.specs.Prelude.{◌≡◌, ◌≢◌, ◌⊎◌, ◌^◌, ◌-◌, ℕ, Bool, true, false, List, [], ◌∷◌, fold, Option, Some, None, Result, Err, IsOk, codes, decimal, bytes_eq, find, flat_map, map}
 use Rattle.clap.specs.Words.{App, Text, fault_of, new_app, takes, with_rule}
 use Rattle.clap.specs.Simple.{on_top}
 use Rattle.clap.specs.declared.error.kind.ErrorKind.{ErrorKind}
 use Rattle.clap.specs.declared.error.kind.ErrorKind.TheVariants.{OutOfMemory}
 use Rattle.command_line.specs.declared.commands.Command.{Command}
-use Rattle.command_line.specs.declared.commands.Command.TheVariants.{Grow, Race, Report, Check, Replay, Schedule, Format, Upgrade, Turing, Picture, Counter, Load}
+use Rattle.command_line.specs.declared.commands.Command.TheVariants.{Grow, Race, Report, Check, Replay, Schedule, Format, Upgrade, Turing, Quadrant, Picture, Counter, Load}
 use Rattle.command_line.specs.declared.commands.CommandName.{CommandName}
 use Rattle.command_line.specs.declared.commands.CommandName.TheVariants as name
 use Rattle.command_line.specs.declared.words_stop.WordsStop.{WordsStop}
 use Rattle.command_line.specs.declared.words_stop.WordsStop.TheVariants.{NoCommand, Usage, NoMemory}
-use Rattle.command_line.specs.Numbers.{AreInRange, NumberArgument, StatesValues, number_rule}
+use Rattle.command_line.specs.Numbers.{AreInRange, GivesOptions, NumberArgument, StatesValues, may_be_left_out, number_rule, option_words}
 
 -- ---- the table
-
--- the word that names a command
-abbrev pub command_word : CommandName → Text
-command_word name.Grow = codes "grow"
-command_word name.Race = codes "race"
-command_word name.Report = codes "report"
-command_word name.Check = codes "check"
-command_word name.Replay = codes "replay"
-command_word name.Schedule = codes "schedule"
-command_word name.Format = codes "format"
-command_word name.Upgrade = codes "upgrade"
-command_word name.Turing = codes "turing"
-command_word name.Picture = codes "picture"
-command_word name.Counter = codes "counter"
-command_word name.Load = codes "load"
-
--- all commands
-abbrev pub command_names : List CommandName
-command_names = name.Grow ∷ name.Race ∷ name.Report ∷ name.Check ∷ name.Replay ∷ name.Schedule ∷ name.Format ∷ name.Upgrade ∷ name.Turing ∷ name.Picture ∷ name.Counter ∷ name.Load ∷ []
 
 -- `--workers N`, where N is 1 to 16, 1 if it is left out
 abbrev pub workers_option : NumberArgument
@@ -53,38 +34,60 @@ start_argument = record { id = codes "start"; default = None; least = 0; most = 
 abbrev pub load_argument : NumberArgument
 load_argument = record { id = codes "number"; default = None; least = 0; most = 2 ^ 64 - 1 }
 
+-- a row: the word that names a command, and its arguments
+abbrev pub CommandRow : Type 0
+CommandRow = Text × List NumberArgument
+
+abbrev pub row_of : CommandName → CommandRow
+row_of name.Grow = (codes "grow", workers_option ∷ choice_option ∷ [])
+row_of name.Race = (codes "race", workers_option ∷ choice_option ∷ [])
+row_of name.Report = (codes "report", workers_option ∷ choice_option ∷ [])
+row_of name.Check = (codes "check", [])
+row_of name.Replay = (codes "replay", [])
+row_of name.Schedule = (codes "schedule", [])
+row_of name.Format = (codes "format", [])
+row_of name.Upgrade = (codes "upgrade", [])
+row_of name.Turing = (codes "turing", [])
+row_of name.Quadrant = (codes "quadrant", [])
+row_of name.Picture = (codes "picture", [])
+row_of name.Counter = (codes "counter", bits_argument ∷ start_argument ∷ [])
+row_of name.Load = (codes "load", load_argument ∷ [])
+
+-- all commands
+abbrev pub command_names : List CommandName
+command_names = name.Grow ∷ name.Race ∷ name.Report ∷ name.Check ∷ name.Replay ∷ name.Schedule ∷ name.Format ∷ name.Upgrade ∷ name.Turing ∷ name.Quadrant ∷ name.Picture ∷ name.Counter ∷ name.Load ∷ []
+
+-- what a command says: its name, and the values of its arguments, in their order
+abbrev pub said_by : Command → CommandName × List ℕ
+said_by (Grow workers choice) = (name.Grow, workers.count ∷ choice ∷ [])
+said_by (Race workers choice) = (name.Race, workers.count ∷ choice ∷ [])
+said_by (Report workers choice) = (name.Report, workers.count ∷ choice ∷ [])
+said_by Check = (name.Check, [])
+said_by Replay = (name.Replay, [])
+said_by Schedule = (name.Schedule, [])
+said_by Format = (name.Format, [])
+said_by Upgrade = (name.Upgrade, [])
+said_by Turing = (name.Turing, [])
+said_by Quadrant = (name.Quadrant, [])
+said_by Picture = (name.Picture, [])
+said_by (Counter bits start) = (name.Counter, bits ∷ start ∷ [])
+said_by (Load number) = (name.Load, number ∷ [])
+
+-- the word that names a command
+abbrev pub command_word : CommandName → Text
+command_word name = (row_of name).0
+
 -- the arguments of a command
 abbrev pub arguments_of : CommandName → List NumberArgument
-arguments_of name.Grow = workers_option ∷ choice_option ∷ []
-arguments_of name.Race = workers_option ∷ choice_option ∷ []
-arguments_of name.Report = workers_option ∷ choice_option ∷ []
-arguments_of name.Counter = bits_argument ∷ start_argument ∷ []
-arguments_of name.Load = load_argument ∷ []
-arguments_of _ = []
+arguments_of name = (row_of name).1
 
 -- the name of a command
 abbrev pub name_of : Command → CommandName
-name_of (Grow workers choice) = name.Grow
-name_of (Race workers choice) = name.Race
-name_of (Report workers choice) = name.Report
-name_of Check = name.Check
-name_of Replay = name.Replay
-name_of Schedule = name.Schedule
-name_of Format = name.Format
-name_of Upgrade = name.Upgrade
-name_of Turing = name.Turing
-name_of Picture = name.Picture
-name_of (Counter bits start) = name.Counter
-name_of (Load number) = name.Load
+name_of command = (said_by command).0
 
 -- the values of its arguments, in their order
 abbrev pub values_of : Command → List ℕ
-values_of (Grow workers choice) = workers ∷ choice ∷ []
-values_of (Race workers choice) = workers ∷ choice ∷ []
-values_of (Report workers choice) = workers ∷ choice ∷ []
-values_of (Counter bits start) = bits ∷ start ∷ []
-values_of (Load number) = number ∷ []
-values_of _ = []
+values_of command = (said_by command).1
 
 -- ---- what words call for
 
@@ -127,31 +130,25 @@ pub record IsUsage (words : List Text) : Type 0 where
 abbrev pub IsTakenUnlessMemory : List Text → Result Command WordsStop → Type 0
 IsTakenUnlessMemory words result = (name : CommandName) → IsTaken words name → IsOk result ⊎ (result ≡ Err NoMemory)
 
--- an option is left out where it has its default, or given once, with its number in decimal digits without leading zeros
-abbrev pub SpellsOption : Text → ℕ → ℕ → List Text → Type 0
-SpellsOption word default number given = ((given ≡ []) × (number ≡ default)) ⊎ (given ≡ word ∷ decimal number ∷ [])
-
--- the plainest words for a command with `--workers N` and `--choice N`: its word, and the two options in either order
-pub record SpellsGrowing (name : Text) (words : List Text) (workers choice : ℕ) : Type 0 where
-  pub some : 1 ≤ workers
-  pub few : workers ≤ 16
-  pub fits : choice < 2 ^ 64
-  pub workers_given : List Text
-  pub spells_workers : SpellsOption (codes "--workers") 1 workers workers_given
-  pub choice_given : List Text
-  pub spells_choice : SpellsOption (codes "--choice") 0 choice choice_given
-  pub order : (words ≡ name ∷ workers_given ++ choice_given) ⊎ (words ≡ name ∷ choice_given ++ workers_given)
+-- the plainest words for a command with options: its word, and each option that is given, in any order, with its number in decimal digits without leading zeros
+pub record SpellsOptions (name : CommandName) (words : List Text) (numbers : List ℕ) : Type 0 where
+  pub given : List (NumberArgument × ℕ)
+  pub gives : GivesOptions (arguments_of name) numbers given
+  pub words_are : words ≡ command_word name ∷ flat_map option_words given
 
 -- the plainest words for a command whose numbers are words of their own: its word, and each number in decimal digits without leading zeros
 abbrev pub SpellsNumbers : CommandName → List Text → List ℕ → Type 0
-SpellsNumbers name words numbers = AreInRange (arguments_of name) numbers × (words ≡ command_word name ∷ map decimal numbers)
+SpellsNumbers name words numbers = words ≡ command_word name ∷ map decimal numbers
+
+-- the plainest words for a command, whose arguments may be left out or not
+abbrev pub SpellsArguments : Bool → CommandName → List Text → List ℕ → Type 0
+SpellsArguments true = SpellsOptions
+SpellsArguments false = SpellsNumbers
 
 -- the plainest words for a command
 abbrev pub Spells : List Text → Command → Type 0
-Spells words (Grow workers choice) = SpellsGrowing (codes "grow") words workers choice
-Spells words (Race workers choice) = SpellsGrowing (codes "race") words workers choice
-Spells words (Report workers choice) = SpellsGrowing (codes "report") words workers choice
-Spells words command = SpellsNumbers (name_of command) words (values_of command)
+Spells words command = AreInRange (arguments_of (name_of command)) (values_of command)
+    × SpellsArguments (may_be_left_out (arguments_of (name_of command))) (name_of command) words (values_of command)
 
 -- ---- refusals
 

@@ -1,5 +1,5 @@
 // The table of commands: their words, their arguments, and what a parse makes of them.
-ghost use Rattle.std.specs.Prelude.{◌≡◌, ◌≤◌, ◌^◌, ◌-◌, false, codes, IfOk};
+ghost use Rattle.std.specs.Prelude.{◌≡◌, ◌^◌, ◌-◌, false, codes, IfOk};
 ghost use Rattle.clap.specs.Words.{app_of, found_of, rule_of};
 ghost use Rattle.command_line.specs.Commands.{arguments_of, bits_argument, choice_option, command_app, command_named_by, command_word, load_argument, name_of, plain_app, start_argument, values_of, workers_option};
 ghost use Rattle.command_line.specs.Numbers.{AreInRange, number_rule};
@@ -7,23 +7,25 @@ ghost use Rattle.command_line.specs.Inner.Found.{FindsInRange, FindsNumber, Find
 
 use crate::numbers::{number_argument, number_of};
 use clap::{Arg, ArgMatches};
+use fan_out::WorkerCount;
 use std::alloc::{AllocError, Global};
 
 /// A command of the program, with what its arguments say.
 #[derive(Clone, Copy, Debug, PartialEq, Eq)]
 pub enum Command {
-    /// `workers` is 1 to 16; `choice` is any number.
-    Grow { workers: u32, choice: u64 },
+    /// `choice` is any number.
+    Grow { workers: WorkerCount, choice: u64 },
     /// The same as of `Grow`.
-    Race { workers: u32, choice: u64 },
+    Race { workers: WorkerCount, choice: u64 },
     /// The same as of `Grow`.
-    Report { workers: u32, choice: u64 },
+    Report { workers: WorkerCount, choice: u64 },
     Check,
     Replay,
     Schedule,
     Format,
     Upgrade,
     Turing,
+    Quadrant,
     Picture,
     /// Any numbers of their types: the counter's own limits are not looked at here.
     Counter { bits: u32, start: u64 },
@@ -43,12 +45,13 @@ pub enum CommandName {
     Format,
     Upgrade,
     Turing,
+    Quadrant,
     Picture,
     Counter,
     Load,
 }
 
-const NAMES: [CommandName; 12] = [
+const NAMES: [CommandName; 13] = [
     CommandName::Grow,
     CommandName::Race,
     CommandName::Report,
@@ -58,6 +61,7 @@ const NAMES: [CommandName; 12] = [
     CommandName::Format,
     CommandName::Upgrade,
     CommandName::Turing,
+    CommandName::Quadrant,
     CommandName::Picture,
     CommandName::Counter,
     CommandName::Load,
@@ -90,6 +94,7 @@ impl CommandName {
             CommandName::Format => "format",
             CommandName::Upgrade => "upgrade",
             CommandName::Turing => "turing",
+            CommandName::Quadrant => "quadrant",
             CommandName::Picture => "picture",
             CommandName::Counter => "counter",
             CommandName::Load => "load",
@@ -150,6 +155,7 @@ pub fn command_found(name: CommandName, found: &ArgMatches) -> Command
         CommandName::Format => Command::Format,
         CommandName::Upgrade => Command::Upgrade,
         CommandName::Turing => Command::Turing,
+        CommandName::Quadrant => Command::Quadrant,
         CommandName::Picture => Command::Picture,
         CommandName::Counter => Command::Counter {
             bits: bits_found(found),
@@ -209,13 +215,11 @@ fn load_argument<'a>(alloc: Global) -> Arg<'a>
 }
 
 // The number of workers that a parse found.
-fn workers_found(found: &ArgMatches) -> u32
+fn workers_found(found: &ArgMatches) -> WorkerCount
     requires { FindsInRange (found_of found.now) (codes "workers") 1 16 }
-    ensures number { FindsNumber (found_of found.now) (codes "workers") result }
-    ensures some { 1 ≤ result }
-    ensures few { result ≤ 16 }
+    ensures { FindsNumber (found_of found.now) (codes "workers") result.count }
 {
-    number_of(found, WORKERS) as u32
+    WorkerCount::new(number_of(found, WORKERS) as u32)
 }
 
 // The number of bits that a parse found.

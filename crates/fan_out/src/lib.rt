@@ -3,6 +3,8 @@
 
 mod portions;
 mod shared_out;
+mod worker_count;
 
 pub use portions::{Portion, share_numbers};
 pub use shared_out::share_out;
+pub use worker_count::WorkerCount;

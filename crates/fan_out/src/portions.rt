@@ -1,9 +1,9 @@
 // The numbers below an end, shared out among workers.
-ghost use Rattle.std.specs.Prelude.{◌≡◌, ◌≤◌, IfOk, length};
+ghost use Rattle.std.specs.Prelude.{◌≡◌, IfOk, length};
 ghost use Rattle.fan_out.specs.Portions.{InARow, AcceptsPortions, GivesPortion};
 ghost use Rattle.fan_out.specs.Inner.Portions.{IsPortion};
 
-use crate::share_out;
+use crate::{WorkerCount, share_out};
 use std::alloc::{AllocError, Global};
 use std::thread::Threads;
 
@@ -22,12 +22,11 @@ pub fn share_numbers<R: Threads + Sync, D: Send + Drop, F: Fn(Portion) -> D + Sy
     rt: &R,
     alloc: Global,
     end: usize,
-    workers: u32,
+    workers: WorkerCount,
     work: &F,
 ) -> Result<Vec<D>, AllocError>
-    requires some { 1 ≤ workers }
     requires accepts { AcceptsPortions F.Fn work.now end }
-    ensures count { IfOk result (λ done. length done.items ≡ workers) }
+    ensures count { IfOk result (λ done. length done.items ≡ workers.count) }
     ensures each { IfOk result (λ done.
         InARow (GivesPortion F.Fn work.now) 0 0 end done.items) }
 {
@@ -37,11 +36,11 @@ pub fn share_numbers<R: Threads + Sync, D: Send + Drop, F: Fn(Portion) -> D + Sy
 }
 
 // A portion for each of so many workers.
-fn portions_of(alloc: Global, end: usize, workers: u32) -> Result<Vec<Portion>, AllocError>
-    requires { 1 ≤ workers }
-    ensures count { IfOk result (λ portions. length portions.items ≡ workers) }
+fn portions_of(alloc: Global, end: usize, workers: WorkerCount) -> Result<Vec<Portion>, AllocError>
+    ensures count { IfOk result (λ portions. length portions.items ≡ workers.count) }
     ensures each { IfOk result (λ portions. InARow IsPortion 0 0 end portions.items) }
 {
+    let workers = workers.get();
     let mut portions = Vec::new(alloc);
     let mut start = 0;
     for worker in 0..workers {

@@ -59,7 +59,7 @@ pub(crate) fn spend<C: Chooser, L: Ledger>(
     ensures cost { steps.new + length growing.old.grid.tiles
         ≡ steps.old + length growing.new.grid.tiles }
 {
-    let _area = sys.area();
+    sys.recall_valid();
     let count = work.count();
     let mut left = most;
     while left > 0 {
@@ -90,7 +90,7 @@ pub(crate) fn is_open<C: Chooser>(
     ensures open { MatchBool result (¬ IsClosedInBox sys.now growing.now.grid.tiles)
         (IsClosedInBox sys.now growing.now.grid.tiles) }
 {
-    let _area = sys.area();
+    sys.recall_valid();
     let count = work.count();
     while let Some(spot) = work.take(chooser.start(count)) {
         if attaches(sys, growing, chooser, picker, spot) {
@@ -117,7 +117,7 @@ fn attaches<C: Chooser>(
     ensures open { MatchBool result (HasCandidate sys.now growing.now.grid.tiles spot.site)
         ((t : TypeId) → ¬ IsCandidate sys.now growing.now.grid.tiles spot.site t) }
 {
-    let _area = sys.area();
+    sys.recall_valid();
     let beside = growing.grid.beside_at(spot.site, spot.number);
     let found = picker.pick(sys, &growing.grid, spot.site, &beside, chooser);
     if let Some(_tile) = found {

@@ -24,7 +24,7 @@ fn see(sys: &System, table: &SiteTable, growing: &mut Growing, work: &mut WorkLi
     ensures catches { CatchesUp sys.now growing.old growing.new work.new.numbers }
     ensures area { work.new.area ≡ work.old.area }
 {
-    let _area = sys.area();
+    sys.recall_valid();
     if let Some(_tile) = growing.grid.tile(spot.number) {
         return;
     }

@@ -61,7 +61,7 @@ impl ClaimLog {
         ensures { IfOk result (IsCanonical sys.now grid.now.tiles) }
     {
         let area = sys.area();
-        let _grid = grid.area();
+        grid.recall_sites();
         let mut log = PlaceLog::make(alloc, sys)?;
         let mut row = Row::least(&area);
         for number in &self.numbers {

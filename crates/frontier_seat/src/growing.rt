@@ -34,7 +34,7 @@ impl Growing {
         ensures { Puts place self.old self.new }
     {
         self.grid.put_at(place, number);
-        let _area = self.grid.area();
+        self.grid.recall_sites();
     }
 
     // One claim. The tile that stands there afterwards is seen, whoever has won.
@@ -55,8 +55,8 @@ impl Growing {
         ensures claim { ClaimsAt sys.now spot.site self.old self.new }
         ensures cost { steps.new ≡ steps.old + 1 }
     {
-        let _owned = self.seat.owned();
-        let _area = sys.area();
+        self.seat.recall_possible();
+        sys.recall_valid();
         let Spot { site, number } = spot;
         match table.claim_at(&mut self.seat, site, number, tile, steps) {
             Claimed::Won => {
@@ -64,7 +64,7 @@ impl Growing {
                 self.put(Place { site, tile }, number)
             }
             Claimed::Held(there) => {
-                let _owned = self.seat.owned();
+                self.seat.recall_possible();
                 self.put(Place { site, tile: there }, number)
             }
         }
@@ -82,13 +82,13 @@ impl Growing {
         ensures { MatchBool result (ClaimsAt sys.now spot.site self.old self.new)
             (self.new ≡ self.old) }
     {
-        let _owned = self.seat.owned();
-        let _area = sys.area();
+        self.seat.recall_possible();
+        sys.recall_valid();
         let Spot { site, number } = spot;
         let Some(tile) = table.look_at(&mut self.seat, site, number) else {
             return false;
         };
-        let _owned = self.seat.owned();
+        self.seat.recall_possible();
         self.put(Place { site, tile }, number);
         true
     }

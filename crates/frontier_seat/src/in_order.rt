@@ -7,34 +7,17 @@ ghost use Rattle.assembly.specs.Cells.{cell_count};
 ghost use Rattle.number_set.specs.Numbers.{IsIn};
 ghost use Rattle.frontier_seat.specs.Inner.Fillings.{GrewInOrder, IsFilling, ListsOn, MayFill};
 ghost use Rattle.frontier_seat.specs.Inner.Listings.{AreEmptySites, IsSpot};
-ghost use Rattle.frontier_seat.specs.Inner.Looks.{IsClosedBut, ListsOpen};
+ghost use Rattle.frontier_seat.specs.Inner.Looks.{IsClosedBut};
 ghost use Rattle.frontier_seat.specs.Inner.Pickers.{IsPickerOf};
 
 use crate::Chooser;
+use crate::beside_seeds::list_beside_seeds;
 use crate::picking::Picker;
 use crate::types::Types;
 use crate::work_list::{Spot, WorkList};
-use assembly::{Grid, PlaceLog, Row, Sequence, put_seeds, site_index};
+use assembly::{Grid, PlaceLog, Row, Sequence, put_seeds};
 use std::alloc::Global;
 use tile_system::{NoMemory, Place, System};
-
-// Lists the empty sites beside the seeds, which are all that stands.
-pub(crate) fn list_beside_seeds(sys: &System, grid: &Grid, work: &mut WorkList)
-    requires filling { IsFilling sys.now grid.now }
-    requires start { SamePlacements sys.now.seeds grid.now.tiles }
-    requires area { work.old.area ≡ sys.now.area }
-    requires none { (n : ℕ) → ¬ IsIn work.old.numbers n }
-    ensures area { work.new.area ≡ work.old.area }
-    ensures lists { ListsOpen sys.now grid.now.tiles work.new.numbers }
-{
-    let area = sys.area();
-    for seed in sys.seeds() {
-        let site = seed.site;
-        let number = site_index(&area, site);
-        let beside = grid.beside_at(site, number);
-        work.list_around(grid, Spot { site, number }, &beside);
-    }
-}
 
 // Looks at one empty site that is listed no longer. A type that attaches there fills it, and the
 // tile is logged.
@@ -67,7 +50,7 @@ fn fill<C: Chooser>(
     ensures area { work.new.area ≡ work.old.area }
     ensures room { log.new.room ≡ log.old.room }
 {
-    let _area = sys.area();
+    sys.recall_valid();
     let Spot { site, number } = spot;
     let beside = grid.beside_at(site, number);
     let Some(tile) = picker.pick(sys, grid, site, &beside, chooser) else {
@@ -112,8 +95,8 @@ fn fill_all<C: Chooser>(
 }
 
 /// What grows from the seeds on where always the least open site of the box is filled, and the
-/// order in which its tiles came, which is the canonical one (`law_least_first`). It is for one
-/// worker alone, which needs no table. Beside the grid and the sequence it takes an index of types
+/// order in which its tiles came, which is the canonical one (`law_least_first`). It is for growth
+/// that is not handed out, and so needs no table. Beside the grid and the sequence it takes an index of types
 /// and a quarter of a byte a site.
 pub fn fill_least_first<C: Chooser>(
     alloc: Global,
@@ -125,10 +108,9 @@ pub fn fill_least_first<C: Chooser>(
     ensures order { IfOk result (λ r. IsCanonical sys.now r.0.tiles r.1) }
 {
     let area = sys.area();
-    let _seeds = sys.seeds();
     let mut grid = Grid::make(alloc, area)?;
     put_seeds(sys, &mut grid);
-    let _grid = grid.area();
+    grid.recall_sites();
     let mut log = PlaceLog::make(alloc, sys)?;
     let mut picker = Picker::make(alloc, sys, Types::build(alloc, sys)?)?;
     let mut work = WorkList::make(alloc, area)?;

@@ -2,6 +2,7 @@
 //! and among the types that attach there.
 #![tactic(auto)]
 
+mod beside_seeds;
 mod bursting;
 mod catching;
 mod chooser;

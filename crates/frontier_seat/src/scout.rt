@@ -14,9 +14,9 @@ ghost use Rattle.frontier_seat.specs.Inner.Listings.{AreEmptySites, IsSpot};
 ghost use Rattle.frontier_seat.specs.Inner.Looks.{ClaimsAt, IsClosedBut, ListsOpen, LooksAt, MayList};
 ghost use Rattle.frontier_seat.specs.Inner.Pickers.{IsPickerOf};
 
+use crate::beside_seeds::list_beside_seeds;
 use crate::bursting::{is_open, spend};
 use crate::catching::see_edges;
-use crate::in_order::list_beside_seeds;
 use crate::picking::Picker;
 use crate::sweeping::look_in_order;
 use crate::types::Types;
@@ -93,7 +93,7 @@ pub(crate) fn look<C: Chooser, L: Ledger>(
     ensures cost { steps.new + length growing.old.grid.tiles
         ≡ steps.old + length growing.new.grid.tiles }
 {
-    let _area = sys.area();
+    sys.recall_valid();
     let beside = growing.grid.beside_at(spot.site, spot.number);
     let Some(tile) = picker.pick(sys, &growing.grid, spot.site, &beside, chooser) else {
         return false;
@@ -111,7 +111,7 @@ fn list(sys: &System, growing: &Growing, listed: bool, work: &mut WorkList)
     ensures area { work.new.area ≡ work.old.area }
     ensures lists { ListsOpen sys.now growing.now.grid.tiles work.new.numbers }
 {
-    let _area = sys.area();
+    sys.recall_valid();
     if listed {
         return;
     }
@@ -188,8 +188,8 @@ impl<'i> Scout<'i> {
         ensures err { IfErr result (λ parts. parts ≡ (seat, seen)) }
     {
         let area = sys.area();
-        let _owned = seat.owned();
-        let _area = seen.area();
+        seat.recall_possible();
+        seen.recall_sites();
         let Ok(picker) = Picker::make(alloc, sys, types) else {
             return Err((seat, seen));
         };
@@ -245,7 +245,7 @@ impl<'i> Scout<'i> {
             ≡ steps.old + length self.new.grid.tiles }
         ensures few { steps.new < steps.old + cell_count sys.now.area }
     {
-        let _area = sys.area();
+        sys.recall_valid();
         self.burst(sys, table, chooser, 0, 1, MOST_CLAIMS, steps);
     }
 
@@ -287,8 +287,8 @@ impl<'i> Scout<'i> {
             steps,
             log,
         );
-        let _area = sys.area();
-        let _owned = self.growing.seat.owned();
+        sys.recall_valid();
+        self.growing.seat.recall_possible();
     }
 
     /// Claims as a sweep does, at most so many times, and says whether the box is closed then. Of
@@ -321,7 +321,7 @@ impl<'i> Scout<'i> {
         ensures fewer { steps.new < steps.old + cell_count sys.now.area }
         ensures room { length self.new.grid.tiles ≤ cell_count sys.now.area }
     {
-        let _area = sys.area();
+        sys.recall_valid();
         list(sys, &self.growing, self.listed, &mut self.work);
         self.listed = true;
         self.work.cut(share, of);
@@ -342,7 +342,7 @@ impl<'i> Scout<'i> {
             &mut self.picker,
             &mut self.work,
         );
-        let _owned = self.growing.seat.owned();
+        self.growing.seat.recall_possible();
         if open { Burst::Spent } else { Burst::Quiet }
     }
 

@@ -99,7 +99,7 @@ fn look_logged<C: Chooser, L: Ledger>(
     ensures cost { steps.new + length growing.old.grid.tiles
         ≡ steps.old + length growing.new.grid.tiles }
 {
-    let _area = sys.area();
+    sys.recall_valid();
     if !look(sys, table, growing, chooser, picker, spot, work, steps) {
         return;
     }

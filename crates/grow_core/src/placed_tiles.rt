@@ -102,7 +102,7 @@ impl PlacedTiles {
         ensures placements { SamePlacements (places self.now.tiles) result.now.tiles }
         ensures distinct { HasDistinctSites result.now.tiles }
     {
-        let _ = self.grid.area();
+        self.grid.recall_sites();
         &self.grid
     }
 }

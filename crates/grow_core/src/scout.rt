@@ -108,7 +108,7 @@ impl Scout {
     {
         if self.seen.at(place.site).is_none() {
             self.seen.put(place);
-            let _ = self.seen.area();
+            self.seen.recall_sites();
         }
     }
 
@@ -123,7 +123,7 @@ impl Scout {
     {
         let placer = self.name();
         self.seen.put(place);
-        let _ = self.seen.area();
+        self.seen.recall_sites();
         self.mine.push_reserved(PlacedTile { place, placer });
     }
 
@@ -175,7 +175,7 @@ impl Scout {
     {
         self.owned |= other.owned;
         self.seen.merge(&other.seen);
-        let _ = self.seen.area();
+        self.seen.recall_sites();
         self.mine.extend_from_slice(&other.mine).unwrap();
     }
 }

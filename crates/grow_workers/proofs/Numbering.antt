@@ -11,10 +11,10 @@ use Rattle.grow_core.specs.Core.{Owns, least, greatest, OwnsTwoOrMore}
 use Rattle.grow_core.proofs.Lists.{filter-from, filter-passed}
 use Rattle.grow_core.proofs.Numbers.{top, left-owns, least-of_rest, some_rest, two-numbers}
 use Rattle.grow_workers.specs.Inner.Wins.{HasNumbers, Rests, OthersWin}
-use Rattle.grow_workers.specs.Workers.{OwnsAtLeast, Gains, WorkersWin, greatest_but, worker_number}
+use Rattle.grow_workers.specs.Workers.{OwnsAtLeast, WinsUnder, WorkersWin, greatest_but, owned_number}
 
 -- what the workers from 1 on have won, each by its number
-other_gains : (old new : List PlacedTile) (owned : ℕ) (wins : List ℕ) → OthersWin old new owned wins → (k : ℕ) → k < length wins → Gains old new (greatest_but k owned) (get_or wins k 0)
+other_gains : (old new : List PlacedTile) (owned : ℕ) (wins : List ℕ) → OthersWin old new owned wins → (k : ℕ) → k < length wins → WinsUnder old new (greatest_but k owned) (get_or wins k 0)
 other_gains old new owned [] others k within = let never : ⊥ = omega (arith, within) in absurd never
 other_gains old new owned (x ∷ wins) others zero within = others.1
 other_gains old new owned (x ∷ wins) others (suc k) within = other_gains old new (owned - 2 ^ greatest owned) wins others.2 k (omega (arith, within))
@@ -29,10 +29,10 @@ other_rests old new owned (x ∷ wins) some small others n own not_least not_the
     (λ e. not_least (e ∙ least-of_rest owned some small others.0))
     (λ k within. not_theirs (suc k) (omega (arith, within)))
 
-pub workers_win : (old new : List PlacedTile) (owned first : ℕ) (others : List ℕ) → 0 < owned → owned < 2 ^ 64 → Gains old new (least owned) first → OthersWin old new owned others →
+pub workers_win : (old new : List PlacedTile) (owned first : ℕ) (others : List ℕ) → 0 < owned → owned < 2 ^ 64 → WinsUnder old new (least owned) first → OthersWin old new owned others →
     WorkersWin old new owned (first ∷ others)
 workers_win old new owned first others some small first_wins others_win = record {
-  each = λ w. elim w as (λ v. v < length (first ∷ others) → Gains old new (worker_number v owned) (get_or (first ∷ others) v 0)) [
+  each = λ w. elim w as (λ v. v < length (first ∷ others) → WinsUnder old new (owned_number v owned) (get_or (first ∷ others) v 0)) [
     | zero ↦ λ within. first_wins
     | suc k ↦ λ within. other_gains old new owned others others_win k (omega (arith, within))
   ];

@@ -34,7 +34,7 @@ use Rattle.grow_core.proofs.Listed.{owned-below, unplaced}
 use Rattle.grow_core.proofs.Stepped.{quiet}
 use Rattle.grow_workers.specs.declared.leavings.Part.{Part}
 use Rattle.grow_workers.specs.Inner.Wins.{HasNumbers, IsParted, OthersWin, PartedGrowth}
-use Rattle.grow_workers.specs.Workers.{Gains, GrewOn, IsGrowth, greatest_but, worker_number}
+use Rattle.grow_workers.specs.Workers.{GrewOn, IsGrownBy, WinsUnder, greatest_but, owned_number, worker_number}
 use Rattle.atam.proofs.Lists.{Contains-here}
 
 -- tiles of one number
@@ -81,7 +81,7 @@ nothing_grew sys seat grid area seen =
     alone_grew sys seat grid g g refl refl refl area (goes_nowhere g) seen
 
 -- what is won under a number depends on the tiles of this number alone
-gains-same : (a b c d : List PlacedTile) (n k : ℕ) → placed_by n c ≡ placed_by n a → placed_by n d ≡ placed_by n b → Gains a b n k → Gains c d n k
+gains-same : (a b c d : List PlacedTile) (n k : ℕ) → placed_by n c ≡ placed_by n a → placed_by n d ≡ placed_by n b → WinsUnder a b n k → WinsUnder c d n k
 gains-same a b c d n k one two gains = record { wins = gains.wins; order = two ∙ (gains.order ∙ ap (λ l. l ++ gains.wins) (sym one)); many = gains.many }
 
 others-same : (a b c d : List PlacedTile) (owned : ℕ) (wins : List ℕ) → 0 < owned → owned < 2 ^ 64 → ((n : ℕ) → Owns owned n → placed_by n c ≡ placed_by n a) → ((n : ℕ) → Owns owned n → placed_by n d ≡ placed_by n b) →
@@ -185,12 +185,12 @@ module _ (sys : TileSystem) (old kept0 kept1 given0 given1 new : SeatValue) (sta
   kept_before : (n : ℕ) → n ≢ g → placed_by n old.scout.mine ≡ placed_by n kept0.scout.mine
   kept_before n other = sym (ap (placed_by n) parted.is_kept.mine ∙ by_other n g old.scout.mine other)
 
-  given_gains : Gains old.scout.mine new.scout.mine g won
+  given_gains : WinsUnder old.scout.mine new.scout.mine g won
   given_gains =
       gains-same given0.scout.mine given1.scout.mine old.scout.mine new.scout.mine g won
       (sym (ap (placed_by g) parted.is_given.mine ∙ by_itself g old.scout.mine))
       (mine_by g ∙ ap (λ l. l ++ placed_by g given1.scout.mine) kept_rests)
-      (subst (λ n. Gains given0.scout.mine given1.scout.mine n won) name part.first_wins)
+      (subst (λ n. WinsUnder given0.scout.mine given1.scout.mine n won) name part.first_wins)
 
   rest_some : 0 < owned - 2 ^ g
   rest_some = some_rest owned some small parted.two
@@ -204,9 +204,9 @@ module _ (sys : TileSystem) (old kept0 kept1 given0 given1 new : SeatValue) (sta
   least_other : least owned ≢ g
   least_other e = parted.two e
 
-  first_gains : Gains old.scout.mine new.scout.mine (least owned) first
+  first_gains : WinsUnder old.scout.mine new.scout.mine (least owned) first
   first_gains = gains-same kept0.scout.mine kept1.scout.mine old.scout.mine new.scout.mine (least owned) first (kept_before (least owned) least_other) (kept_wins (least owned) least_other)
-      (subst (λ n. Gains kept0.scout.mine kept1.scout.mine n first) rest_least rest.first_wins)
+      (subst (λ n. WinsUnder kept0.scout.mine kept1.scout.mine n first) rest_least rest.first_wins)
 
   others_gain : OthersWin old.scout.mine new.scout.mine (owned - 2 ^ g) others
   others_gain = others-same kept0.scout.mine kept1.scout.mine old.scout.mine new.scout.mine (owned - 2 ^ g) others rest_some rest_small
@@ -227,7 +227,7 @@ module _ (sys : TileSystem) (old kept0 kept1 given0 given1 new : SeatValue) (sta
   }
 
 -- what worker 0 wins alone after the others adds to what it has won
-gains_more : (old mid new wins : List PlacedTile) (n first : ℕ) → new ≡ mid ++ wins → All (λ (t : PlacedTile). t.placer ≡ n) wins → Gains old mid n first → Gains old new n (first + length wins)
+gains_more : (old mid new wins : List PlacedTile) (n first : ℕ) → new ≡ mid ++ wins → All (λ (t : PlacedTile). t.placer ≡ n) wins → WinsUnder old mid n first → WinsUnder old new n (first + length wins)
 gains_more old mid new wins n first mine placer gains = record {
   wins = gains.wins ++ wins;
   order = ap (placed_by n) mine ∙ (by-append n mid wins ∙ ((λ i. gains.order i ++ by_all n wins placer i) ∙ append_assoc (placed_by n old) gains.wins wins));
@@ -261,7 +261,7 @@ went_on sys old start grid mid first others after real before goes seen =
       area = goes.area ∙ before.area;
       seen = seen;
       kept = λ p c. goes.kept p (before.kept p c);
-      first_wins = subst (λ (n : ℕ). Gains old.scout.mine after.seat.scout.mine (least owned) (first + n)) count
+      first_wins = subst (λ (n : ℕ). WinsUnder old.scout.mine after.seat.scout.mine (least owned) (first + n)) count
           (gains_more old.scout.mine mid.scout.mine after.seat.scout.mine goes.wins (least owned) first goes.mine placer before.first_wins);
       others_win = others_rest old.scout.mine mid.scout.mine after.seat.scout.mine owned others some small
           (λ n other. ap (placed_by n) goes.mine ∙ (by-append n mid.scout.mine goes.wins
@@ -322,11 +322,10 @@ ones-worker (suc w) (suc k) below within =
     let same : greatest_but w (2 ^ suc (suc k) - 1 - 2 ^ greatest (2 ^ suc (suc k) - 1)) ≡ greatest_but w (2 ^ suc k - 1) = ap (greatest_but w) (ones-rest (suc k) within) in
     omega (arith, rest, same)
 
--- a number that no worker has
-idle : (w n workers : ℕ) → w < workers → workers ≤ 16 → 0 < n → n + workers ≤ 64 → n ≢ worker_number w (2 ^ 64 - 1)
-idle zero n workers within few some below e = let name : least (2 ^ 64 - 1) ≡ 0 = ones-least 63 (lit≤ tt) in omega (arith, e, name, some)
-idle (suc w) n workers within few some below e =
-    let is = ones-worker w 63 (omega (arith, within, few)) (lit≤ tt) in omega (arith, e, is, within, below)
+-- which number that is
+number_of : (w : ℕ) → w < 16 → owned_number w (2 ^ 64 - 1) ≡ worker_number w
+number_of zero few = ones-least 63 (lit≤ tt)
+number_of (suc w) few = let is = ones-worker w 63 (omega (arith, few)) (lit≤ tt) in omega (arith, is)
 
 -- the tiles of a number, and the rest
 parted_length : (k : ℕ) (xs : List PlacedTile) → length xs ≡ length (placed_by k xs) + length (kept_tiles k xs)
@@ -367,7 +366,7 @@ places-distinct tiles distinct = λ i j e before within.
     let at_j : get_or (places tiles) j e ≡ (get_or tiles j d).place = get_or-map (λ (t : PlacedTile). t.place) tiles j d e l in
     λ same. distinct i j d before l (ap (λ (p : Place). p.site) (sym at_i) ∙ (same ∙ ap (λ (p : Place). p.site) at_j))
 
-module _ (sys : TileSystem) (v : ScoutState) (out : GrownValue) (valid : IsValid sys) (all : v.owned ≡ 2 ^ 64 - 1) (closes : Closes sys v out) where
+module _ (sys : TileSystem) (v : ScoutState) (grown : GrownValue) (valid : IsValid sys) (all : v.owned ≡ 2 ^ 64 - 1) (closes : Closes sys v grown) where
   owns_all : (n : ℕ) → n < 64 → Owns v.owned n
   owns_all n l = subst (λ m. Owns m n) (sym all) (bit_at_ones 64 n l)
 
@@ -387,50 +386,49 @@ module _ (sys : TileSystem) (v : ScoutState) (out : GrownValue) (valid : IsValid
   both_distinct = all_pairs_append (λ (p q : Place). p.site ≢ q.site) sys.seeds (places v.mine) valid.distinct_seeds (places-distinct v.mine closes.scout.mine_distinct)
       (λ p q seed c. let t = unplaced v.mine q c in λ same. no_seed p t.0 seed t.1 (same ∙ ap (λ (r : Place). r.site) (sym t.2)))
 
-  won_all : sum out.won ≡ length v.mine
-  won_all = counts_add out.won 0 v.mine
+  won_all : sum grown.won ≡ length v.mine
+  won_all = counts_add grown.won 0 v.mine
       (λ i l. let below : i < 64 = subst (λ n. i < n) closes.numbers l in let e : i ≡ 0 + i = omega arith in closes.own_counts i (owns_all i below) ∙ ap (λ n. length (placed_by n v.mine)) e)
       (λ t c. let below = placer_below t c in let n = closes.numbers in (omega arith, omega (arith, below, n)))
 
-  pub all_won : sum out.won + length sys.seeds ≡ length out.grid.tiles
+  pub all_won : sum grown.won + length sys.seeds ≡ length grown.grid.tiles
   all_won =
       let whole = closes.whole all in
-      let less = count_in_part (sys.seeds ++ places v.mine) out.grid.tiles both_distinct closes.distinct whole.part in
-      let more = count_in_part out.grid.tiles (sys.seeds ++ places v.mine) closes.distinct both_distinct whole.whole in
+      let less = count_in_part (sys.seeds ++ places v.mine) grown.grid.tiles both_distinct closes.distinct whole.part in
+      let more = count_in_part grown.grid.tiles (sys.seeds ++ places v.mine) closes.distinct both_distinct whole.whole in
       let both = length-append sys.seeds (places v.mine) in
       let mine = length-map v.mine (λ (t : PlacedTile). t.place) in
       let won = won_all in
       omega (arith, less, more, both, mine, won)
 
 -- a closed table leaves what was seen
-pub out_seen : (sys : TileSystem) (new : SeatValue) (grid : TileGrid) (out : GrownValue) → HasDistinctSites grid.tiles → SamePlacements new.scout.seen grid.tiles → IsClosedInBox sys grid.tiles → Closes sys new.scout out → SamePlacements out.grid.tiles new.scout.seen
-out_seen sys new grid out distinct seen closed closes =
+pub out_seen : (sys : TileSystem) (new : SeatValue) (grid : TileGrid) (grown : GrownValue) → HasDistinctSites grid.tiles → SamePlacements new.scout.seen grid.tiles → IsClosedInBox sys grid.tiles → Closes sys new.scout grown → SamePlacements grown.grid.tiles new.scout.seen
+out_seen sys new grid grown distinct seen closed closes =
     let seen_closed : IsClosedInBox sys new.scout.seen = closed_same sys new.scout.seen grid.tiles closes.scout.distinct distinct seen closed in
     let quiet_is = quiet sys closes.tiles new.scout closes.history closes.scout seen_closed in
-    SamePlacements-trans out.grid.tiles (places closes.tiles) new.scout.seen (same_back (places closes.tiles) out.grid.tiles closes.same) (same_back new.scout.seen (places closes.tiles) quiet_is)
+    SamePlacements-trans grown.grid.tiles (places closes.tiles) new.scout.seen (same_back (places closes.tiles) grown.grid.tiles closes.same) (same_back new.scout.seen (places closes.tiles) quiet_is)
 
-pub grid_left : (sys : TileSystem) (new : SeatValue) (grid : TileGrid) (out : GrownValue) → HasDistinctSites grid.tiles → SamePlacements new.scout.seen grid.tiles → IsClosedInBox sys grid.tiles → Closes sys new.scout out → SamePlacements grid.tiles out.grid.tiles
-grid_left sys new grid out distinct seen closed closes =
-    SamePlacements-trans grid.tiles new.scout.seen out.grid.tiles (same_back new.scout.seen grid.tiles seen) (same_back out.grid.tiles new.scout.seen (out_seen sys new grid out distinct seen closed closes))
+pub grid_left : (sys : TileSystem) (new : SeatValue) (grid : TileGrid) (grown : GrownValue) → HasDistinctSites grid.tiles → SamePlacements new.scout.seen grid.tiles → IsClosedInBox sys grid.tiles → Closes sys new.scout grown → SamePlacements grid.tiles grown.grid.tiles
+grid_left sys new grid grown distinct seen closed closes =
+    SamePlacements-trans grid.tiles new.scout.seen grown.grid.tiles (same_back new.scout.seen grid.tiles seen) (same_back grown.grid.tiles new.scout.seen (out_seen sys new grid grown distinct seen closed closes))
 
-pub whole_growth : (sys : TileSystem) (workers : ℕ) (start : TileGrid) (old new : SeatValue) (grid : TileGrid) (wins : List ℕ) (out : GrownValue) → IsValid sys → old.scout.owned ≡ 2 ^ 64 - 1 →
-    old.scout.mine ≡ [] → GrewOn sys old start new grid wins → length wins ≡ workers → 1 ≤ workers → workers ≤ 16 → HasDistinctSites grid.tiles → Closes sys new.scout out → IsGrowth sys workers out
-whole_growth sys workers start old new grid wins out valid all none grew count some_worker few distinct closes =
+pub whole_growth : (sys : TileSystem) (workers : ℕ) (start : TileGrid) (old new : SeatValue) (grid : TileGrid) (wins : List ℕ) (grown : GrownValue) → IsValid sys → old.scout.owned ≡ 2 ^ 64 - 1 →
+    old.scout.mine ≡ [] → GrewOn sys old start new grid wins → length wins ≡ workers → workers ≤ 16 → HasDistinctSites grid.tiles → Closes sys new.scout grown → IsGrownBy sys workers grown
+whole_growth sys workers start old new grid wins grown valid all none grew count few distinct closes =
     let all_new : new.scout.owned ≡ 2 ^ 64 - 1 = grew.seat.owned ∙ all in
     let seen_closed : IsClosedInBox sys new.scout.seen = closed_same sys new.scout.seen grid.tiles closes.scout.distinct distinct grew.seen grew.closed in
-    let same : SamePlacements out.grid.tiles new.scout.seen = out_seen sys new grid out distinct grew.seen grew.closed closes in
+    let same : SamePlacements grown.grid.tiles new.scout.seen = out_seen sys new grid grown distinct grew.seen grew.closed closes in
     record {
       area = closes.area;
       distinct = closes.distinct;
       producible = closes.producible;
-      closed = closed_same sys out.grid.tiles new.scout.seen closes.distinct closes.scout.distinct same seen_closed;
+      closed = closed_same sys grown.grid.tiles new.scout.seen closes.distinct closes.scout.distinct same seen_closed;
       numbers = closes.numbers;
-      idle = λ n some below.
-          let within : n < 64 = omega (arith, below, some_worker) in
+      idle = λ n within none_has.
           let rests = grew.workers_win.others n (subst (λ m. Owns m n) (sym all) (bit_at_ones 64 n within))
-          (λ w l. subst (λ m. n ≢ worker_number w m) (sym all) (idle w n workers (subst (λ m. w < m) count l) few some below)) in
-          closes.own_counts n (owns_all sys new.scout out valid all_new closes n within) ∙ ap length (rests ∙ ap (placed_by n) none);
-      total = all_won sys new.scout out valid all_new closes;
+          (λ w l. let worker = subst (λ m. w < m) count l in λ e. none_has w worker (e ∙ ap (owned_number w) all ∙ number_of w (omega (arith, worker, few)))) in
+          closes.own_counts n (owns_all sys new.scout grown valid all_new closes n within) ∙ ap length (rests ∙ ap (placed_by n) none);
+      total = all_won sys new.scout grown valid all_new closes;
     }
 
 -- a number's wins are among what a seat has won

@@ -20,21 +20,26 @@ abbrev pub greatest_but : ℕ → ℕ → ℕ
 greatest_but zero owned = greatest owned
 greatest_but (suc k) owned = greatest_but k (owned - 2 ^ greatest owned)
 
--- worker 0 has the least number, and worker w from 1 on the w-th greatest
-abbrev pub worker_number : ℕ → ℕ → ℕ
-worker_number zero owned = least owned
-worker_number (suc w) owned = greatest_but w owned
+-- of the numbers owned, worker 0 has the least, and worker w from 1 on the w-th greatest
+abbrev pub owned_number : ℕ → ℕ → ℕ
+owned_number zero owned = least owned
+owned_number (suc w) owned = greatest_but w owned
+
+-- so of all 64 numbers worker 0 has 0, and worker w from 1 on has 64 - w
+abbrev pub worker_number : ℕ → ℕ
+worker_number zero = 0
+worker_number (suc w) = 63 - w
 
 -- under this number so many tiles were won, after the old ones
-pub record Gains (old new : List PlacedTile) (n count : ℕ) : Type 0 where
+pub record WinsUnder (old new : List PlacedTile) (n count : ℕ) : Type 0 where
   pub wins : List PlacedTile
   pub order : placed_by n new ≡ placed_by n old ++ wins
   pub many : length wins ≡ count
 
 -- Each worker has won so many tiles under its number, and nothing was won under another one.
 pub record WorkersWin (old new : List PlacedTile) (owned : ℕ) (wins : List ℕ) : Type 0 where
-  pub each : (w : ℕ) → w < length wins → Gains old new (worker_number w owned) (slice_index wins w)
-  pub others : (n : ℕ) → Owns owned n → ((w : ℕ) → w < length wins → n ≢ worker_number w owned) → placed_by n new ≡ placed_by n old
+  pub each : (w : ℕ) → w < length wins → WinsUnder old new (owned_number w owned) (slice_index wins w)
+  pub others : (n : ℕ) → Owns owned n → ((w : ℕ) → w < length wins → n ≢ owned_number w owned) → placed_by n new ≡ placed_by n old
 
 -- What workers make of a seat: it goes on with the same numbers, and what it has seen, which holds what it had seen, is a grid that is closed in the box.
 pub record GrewOn (sys : TileSystem) (old : SeatValue) (start : TileGrid) (new : SeatValue) (grid : TileGrid) (wins : List ℕ) : Type 0 where
@@ -45,12 +50,12 @@ pub record GrewOn (sys : TileSystem) (old : SeatValue) (start : TileGrid) (new :
   pub closed : IsClosedInBox sys grid.tiles
   pub workers_win : WorkersWin old.scout.mine new.scout.mine old.scout.owned wins
 
--- What `grow` leaves: a producible assembly of the box, closed in it. Only the numbers 0 and 64 - w for each worker w from 1 on have placed tiles, and these are all tiles but the seeds.
-pub record IsGrowth (sys : TileSystem) (workers : ℕ) (out : GrownValue) : Type 0 where
-  pub area : out.grid.area ≡ sys.area
-  pub distinct : HasDistinctSites out.grid.tiles
-  pub producible : IsProducible sys out.grid.tiles
-  pub closed : IsClosedInBox sys out.grid.tiles
-  pub numbers : length out.won ≡ 64
-  pub idle : (n : ℕ) → 0 < n → n + workers ≤ 64 → slice_index out.won n ≡ 0
-  pub total : sum out.won + length sys.seeds ≡ length out.grid.tiles
+-- What `grow` leaves: a producible assembly of the box, closed in it. Only the workers' numbers have placed tiles, and these are all tiles but the seeds.
+pub record IsGrownBy (sys : TileSystem) (workers : ℕ) (grown : GrownValue) : Type 0 where
+  pub area : grown.grid.area ≡ sys.area
+  pub distinct : HasDistinctSites grown.grid.tiles
+  pub producible : IsProducible sys grown.grid.tiles
+  pub closed : IsClosedInBox sys grown.grid.tiles
+  pub numbers : length grown.won ≡ 64
+  pub idle : (n : ℕ) → n < 64 → ((w : ℕ) → w < workers → n ≢ worker_number w) → slice_index grown.won n ≡ 0
+  pub total : sum grown.won + length sys.seeds ≡ length grown.grid.tiles

@@ -41,10 +41,10 @@ pub(crate) fn end<G: Gate>(
         first,
         others,
     } = team;
-    let _area = shared.sys.area();
-    let _owned = seat.owned();
+    shared.sys.recall_valid();
+    seat.recall_possible();
     let part = sweep(alloc, shared, seat, grid)?;
-    let _grown = part.seat.owned();
+    part.seat.recall_possible();
     Ok(Harvest {
         seat: part.seat,
         grid: part.grid,

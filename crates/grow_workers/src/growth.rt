@@ -3,7 +3,7 @@ ghost use Rattle.std.specs.Prelude.{All, ◌≡◌, ◌≤◌, length, IfOk};
 ghost use Rattle.atam.specs.Placements.{SamePlacements};
 ghost use Rattle.site_table.specs.Seats.{IsSeatOf};
 ghost use Rattle.type_index.specs.Indexes.{IsIndexOf};
-ghost use Rattle.grow_workers.specs.Workers.{OwnsAtLeast, GrewOn, IsGrowth};
+ghost use Rattle.grow_workers.specs.Workers.{OwnsAtLeast, GrewOn, IsGrownBy};
 ghost use Rattle.grow_workers.specs.Inner.Sharing.{AreWorksOf, HasSeen, IsShared, IsStart, IsWorkOf};
 
 use crate::ending::end;
@@ -15,7 +15,7 @@ use crate::shared::Shared;
 use crate::starts::{Start, split};
 use crate::team::Team;
 use assembly::Grid;
-use fan_out::share_out;
+use fan_out::{WorkerCount, share_out};
 use site_table::{Grown, SiteSeat, SiteTable};
 use std::alloc::Global;
 use std::thread::Threads;
@@ -34,14 +34,14 @@ pub fn grow<R: Threads + Sync, G: Gate>(
 ) -> Result<Grown, NoMemory>
     requires some { 1 ≤ workers }
     requires few { workers ≤ 16 }
-    ensures { IfOk result (IsGrowth sys.now workers) }
+    ensures { IfOk result (IsGrownBy sys.now workers) }
 {
-    let _valid = sys.tau();
+    sys.recall_valid();
     let Prepared { table, seat, seen } = prepare(alloc, sys)?;
     let (seat, mut grid, _wins) = grow_on(
         rt, alloc, sys, &table, seat, seen, workers, choice, gate,
     )?;
-    let _grown = grid.area();
+    grid.recall_sites();
     grid.clear();
     Ok(table.close(seat, grid))
 }
@@ -52,16 +52,14 @@ pub fn grow_by_index<R: Threads + Sync, G: Gate>(
     alloc: Global,
     sys: &System,
     types: &TypeIndex,
-    workers: u32,
+    workers: WorkerCount,
     choice: u64,
     gate: &G,
 ) -> Result<Grown, NoMemory>
-    requires some { 1 ≤ workers }
-    requires few { workers ≤ 16 }
     requires index { IsIndexOf sys.now types.now }
-    ensures { IfOk result (IsGrowth sys.now workers) }
+    ensures { IfOk result (IsGrownBy sys.now workers.count) }
 {
-    let _valid = sys.tau();
+    sys.recall_valid();
     let Prepared { table, seat, seen } = prepare(alloc, sys)?;
     let shared = Shared {
         sys,
@@ -74,7 +72,7 @@ pub fn grow_by_index<R: Threads + Sync, G: Gate>(
     };
     let (seat, mut grid, _wins) = grow_together(rt, alloc, &shared, seat, seen)?;
     drop(shared);
-    let _grown = grid.area();
+    grid.recall_sites();
     grid.clear();
     Ok(table.close(seat, grid))
 }
@@ -112,6 +110,7 @@ pub fn grow_on<R: Threads + Sync, G: Gate>(
     ensures grew { IfOk result (λ r. GrewOn sys.now seat seen r.0 r.1 r.2.items) }
     ensures count { IfOk result (λ r. length r.2.items ≡ workers) }
 {
+    let workers = WorkerCount::new(workers);
     let types = TypeIndex::build(alloc, sys)?;
     let shared = Shared {
         sys,
@@ -134,12 +133,12 @@ fn grow_together<R: Threads + Sync, G: Gate>(
     seen: Grid,
 ) -> Result<(SiteSeat, Grid, Vec<u32>), NoMemory>
     requires shared { IsShared shared.now }
-    requires numbers { OwnsAtLeast shared.now.workers seat.scout.owned }
+    requires numbers { OwnsAtLeast shared.now.workers.count seat.scout.owned }
     requires seen { HasSeen shared.now seat seen }
     ensures grew { IfOk result (λ r. GrewOn shared.now.sys.now seat seen r.0 r.1 r.2.items) }
-    ensures count { IfOk result (λ r. length r.2.items ≡ shared.now.workers) }
+    ensures count { IfOk result (λ r. length r.2.items ≡ shared.now.workers.count) }
 {
-    let _owned = seat.owned();
+    seat.recall_possible();
     let starts = split(alloc, shared, seat, seen)?;
     let done = work_all(rt, alloc, shared, starts)?;
     let team = join(alloc, shared, done)?;

@@ -6,7 +6,7 @@ ghost use Rattle.atam.specs.Growth.{IsClosedInBox};
 ghost use Rattle.assembly.specs.Cells.{cell_count};
 ghost use Rattle.type_index.specs.Indexes.{IsIndexOf};
 ghost use Rattle.frontier_seat.specs.Orders.{AreCanonicalClaims};
-ghost use Rattle.grow_workers.specs.Workers.{IsGrowth};
+ghost use Rattle.grow_workers.specs.Workers.{IsGrownBy};
 ghost use Rattle.grow_workers.specs.Inner.Sharing.{HasSeen, IsShared};
 ghost use Rattle.grow_workers.specs.Inner.Wins.{PartedGrowth};
 
@@ -15,6 +15,7 @@ use crate::prepared::{Prepared, prepare};
 use crate::shared::Shared;
 use crate::team::Team;
 use assembly::{Grid, Sequence};
+use fan_out::WorkerCount;
 use frontier_seat::{ClaimLog, RngChooser};
 use rand_pcg::Lcg64Xsh32;
 use site_table::{Grown, SiteSeat};
@@ -26,21 +27,8 @@ use tile_system::{NoMemory, System};
 use type_index::TypeIndex;
 
 /// What `grow` leaves with one worker and the choice 0, and its canonical sequence, which is the
-/// order of its claims: no pass has to find it. It calls the gate once, before its first
-/// claim.
-pub fn grow_in_order<G: Gate>(
-    alloc: Global,
-    sys: &System,
-    gate: &G,
-) -> Result<(Grown, Sequence), NoMemory>
-    ensures growth { IfOk result (λ r. IsGrowth sys.now 1 r.0) }
-    ensures order { IfOk result (λ r. IsCanonical sys.now r.0.grid.tiles r.1) }
-{
-    let types = TypeIndex::build(alloc, sys)?;
-    grow_in_order_by_index(alloc, sys, &types, gate)
-}
-
-/// The same with an index of the system's types that is lent to it.
+/// order of its claims: no pass has to find it. An index of the system's types is lent to it. It
+/// calls the gate once, before its first claim.
 pub fn grow_in_order_by_index<G: Gate>(
     alloc: Global,
     sys: &System,
@@ -48,24 +36,25 @@ pub fn grow_in_order_by_index<G: Gate>(
     gate: &G,
 ) -> Result<(Grown, Sequence), NoMemory>
     requires { IsIndexOf sys.now types.now }
-    ensures growth { IfOk result (λ r. IsGrowth sys.now 1 r.0) }
+    ensures growth { IfOk result (λ r. IsGrownBy sys.now 1 r.0) }
     ensures order { IfOk result (λ r. IsCanonical sys.now r.0.grid.tiles r.1) }
 {
-    let _valid = sys.tau();
+    sys.recall_valid();
     let Prepared { table, seat, seen } = prepare(alloc, sys)?;
+    let workers = WorkerCount::new(1);
     let shared = Shared {
         sys,
         table: &table,
         types,
         gate,
         choice: 0,
-        workers: 1,
-        team: Team::of(1),
+        workers,
+        team: Team::of(workers),
     };
     let (part, log) = sweep_logged(alloc, &shared, seat, seen)?;
     drop(shared);
     let mut grid = part.grid;
-    let _grown = grid.area();
+    grid.recall_sites();
     grid.clear();
     let grown = table.close(part.seat, grid);
     let order = log.sequence_of(alloc, sys, grown.grid())?;

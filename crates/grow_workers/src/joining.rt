@@ -65,10 +65,10 @@ fn unite<G: Gate>(shared: &Shared<'_, G>, rest: Harvest, part: Part) -> Result<H
         mut others,
     } = rest;
     others.insert(0, part.won)?;
-    let _kept = kept.owned();
-    let _given = part.seat.owned();
-    let _grid = grid.area();
-    let _other = part.grid.area();
+    kept.recall_possible();
+    part.seat.recall_possible();
+    grid.recall_sites();
+    part.grid.recall_sites();
     let seat = shared.table.join(kept, part.seat);
     grid.merge(&part.grid);
     Ok(Harvest {

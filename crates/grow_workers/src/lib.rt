@@ -7,6 +7,7 @@ mod in_order;
 mod joining;
 mod leavings;
 mod member;
+mod numbers;
 mod picks;
 mod prepared;
 mod shared;
@@ -14,4 +15,5 @@ mod starts;
 mod team;
 
 pub use growth::{grow, grow_by_index, grow_on};
-pub use in_order::{grow_in_order, grow_in_order_by_index};
+pub use in_order::grow_in_order_by_index;
+pub use numbers::worker_number;

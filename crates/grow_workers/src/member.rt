@@ -43,7 +43,7 @@ pub(crate) fn work<G: Gate>(
 {
     let Start { worker, seat, seen } = start;
     shared.gate.arrive(worker);
-    if shared.workers == 1 {
+    if shared.workers.get() == 1 {
         return Ok(Part {
             seat,
             grid: seen,
@@ -80,7 +80,7 @@ fn begin<'a, G: Gate>(
 fn take_turns<G: Gate>(shared: &Shared<'_, G>, worker: u32, scout: &mut Scout<'_>)
     requires shared { IsShared shared.now }
     requires seat { IsSeatOf shared.now.table.now scout.old.seat }
-    requires worker { worker < shared.now.workers }
+    requires worker { worker < shared.now.workers.count }
     ensures { GrowsOn scout.old scout.new }
 {
     let mut picks = Picks::make(shared.choice, worker);
@@ -110,7 +110,7 @@ fn take_turn<G: Gate>(
 ) -> bool
     requires shared { IsShared shared.now }
     requires seat { IsSeatOf shared.now.table.now scout.old.seat }
-    requires worker { worker < shared.now.workers }
+    requires worker { worker < shared.now.workers.count }
     ensures { GrowsOn scout.old scout.new }
 {
     if scout.has_own() {
@@ -118,7 +118,7 @@ fn take_turn<G: Gate>(
         return burst(shared, worker, scout, picks, BURST);
     }
     let bursts = shared.team.bursts();
-    scout.see_edges(shared.sys, shared.table, worker, shared.workers);
+    scout.see_edges(shared.sys, shared.table, worker, shared.workers.get());
     if !scout.has_own() {
         waiting.wait(&shared.team, bursts);
     }
@@ -136,7 +136,7 @@ fn burst<G: Gate>(
 ) -> bool
     requires shared { IsShared shared.now }
     requires seat { IsSeatOf shared.now.table.now scout.old.seat }
-    requires worker { worker < shared.now.workers }
+    requires worker { worker < shared.now.workers.count }
     ensures { GrowsOn scout.old scout.new }
 {
     let ended = burst_counted::<Brand, G>(shared, worker, scout, picks, most, Blank::new(1));
@@ -158,11 +158,11 @@ fn burst_counted<L: Ledger, G: Gate>(
     requires blank { (blank.name ≡ L.name) × (blank.parts ≡ L.parts) × (0 < blank.parts) }
     requires shared { IsShared shared.now }
     requires seat { IsSeatOf shared.now.table.now scout.old.seat }
-    requires worker { worker < shared.now.workers }
+    requires worker { worker < shared.now.workers.count }
     ensures { GrowsOn scout.old scout.new }
 {
     let mut steps: Steps<L> = Steps::open(blank);
-    let of = shared.workers;
+    let of = shared.workers.get();
     scout.burst(
         shared.sys,
         shared.table,

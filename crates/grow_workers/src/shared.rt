@@ -1,5 +1,6 @@
 // What all workers of a growth share.
 use crate::team::Team;
+use fan_out::WorkerCount;
 use site_table::SiteTable;
 use tile_io::Gate;
 use tile_system::System;
@@ -14,6 +15,6 @@ pub(crate) struct Shared<'a, G: Gate> {
     pub types: &'a TypeIndex,
     pub gate: &'a G,
     pub choice: u64,
-    pub workers: u32,
+    pub workers: WorkerCount,
     pub team: Team,
 }

@@ -26,16 +26,17 @@ pub(crate) fn split<G: Gate>(
     seen: Grid,
 ) -> Result<Vec<Start>, NoMemory>
     requires shared { IsShared shared.now }
-    requires numbers { HasNumbers shared.now.workers seat.scout.owned }
+    requires numbers { HasNumbers shared.now.workers.count seat.scout.owned }
     requires seen { HasSeen shared.now seat seen }
     ensures starts { IfOk result (λ starts. AreStartsOf seat seen starts.items) }
     ensures each { IfOk result (λ starts. All (IsStart shared.now) starts.items) }
-    ensures count { IfOk result (λ starts. length starts.items ≡ shared.now.workers) }
+    ensures count { IfOk result (λ starts. length starts.items ≡ shared.now.workers.count) }
 {
+    let workers = shared.workers.get();
     let mut starts = Vec::new(alloc);
     let mut kept = seat;
-    for worker in 1..shared.workers {
-        let (rest, given) = part_off(shared, kept, &seen, shared.workers - worker + 1);
+    for worker in 1..workers {
+        let (rest, given) = part_off(shared, kept, &seen, workers - worker + 1);
         kept = rest;
         starts.push(Start {
             worker,
@@ -66,6 +67,6 @@ fn part_off<G: Gate>(
     ensures first { HasSeen shared.now result.0 seen.now }
     ensures second { HasSeen shared.now result.1 seen.now }
 {
-    let _owned = seat.owned();
+    seat.recall_possible();
     shared.table.split(seat)
 }

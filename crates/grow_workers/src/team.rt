@@ -1,4 +1,5 @@
 // What workers tell each other beside the table. It bears on time alone, so no contract says of it.
+use fan_out::WorkerCount;
 use std::sync::atomic::{AtomicU16, AtomicU64, Ordering};
 use std::{hint, thread};
 
@@ -24,9 +25,9 @@ pub(crate) struct Team {
 
 impl Team {
     // So many workers, of which none has begun.
-    pub(crate) fn of(size: u32) -> Team {
+    pub(crate) fn of(size: WorkerCount) -> Team {
         let mut all = 0;
-        for worker in 0..size {
+        for worker in 0..size.get() {
             all = all | bit_of(worker);
         }
         Team {

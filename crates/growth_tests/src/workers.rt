@@ -2,7 +2,7 @@
 ghost use Rattle.std.specs.Prelude.{◌≤◌};
 
 use assembly::Grid;
-use grow_workers::{grow, grow_on};
+use grow_workers::{grow, grow_on, worker_number};
 use site_table::{Grown, SiteTable};
 use std::alloc::Global;
 use std::test::Fail;
@@ -71,8 +71,7 @@ fn any_workers_grow_the_counter(rt: HostRuntime) -> Result<(), Fail> {
 fn are_wins(grown: &Grown, wins: &[u32], workers: usize) -> bool {
     let mut total = 1u32;
     for (worker, won) in wins.iter().enumerate() {
-        let number = (64 - worker % 64) % 64;
-        if grown.won(number as u32) != *won {
+        if worker >= 64 || grown.won(worker_number(worker as u32)) != *won {
             return false;
         }
         total = total.saturating_add(*won);
@@ -123,6 +122,6 @@ fn any_workers_grow_on_a_table(rt: HostRuntime) -> Result<(), Fail> {
 fn two_workers_fill_a_wide_box(rt: HostRuntime) -> Result<(), Fail> {
     let sys = system(rt.alloc(), WIDE)?;
     let grown = grow(&rt, rt.alloc(), &sys, 2, 0, &OpenGate)?;
-    assert_eq!(rt; grown.grid().count(), 16384);
+    assert_eq!(rt; grown.into_grid().count(), 16384);
     Ok(())
 }

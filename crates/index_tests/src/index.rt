@@ -1,99 +1,20 @@
-// The index of types against the plain calls, on random systems and random assemblies in them.
+// The index of types against the plain calls, on random systems, without pairs and with them, and
+// random assemblies in them.
 ghost use Rattle.std.specs.Prelude.{◌≡◌, ◌<◌, IfOk};
 ghost use Rattle.atam.specs.Sites.{IsNearSite};
 ghost use Rattle.atam.specs.Assembly.{Fits};
 ghost use Rattle.type_index.specs.Indexes.{IsIndexOf};
 ghost use Rattle.type_index.specs.Findings.{AreFindings};
 
+use crate::random::{Kind, Numbers, random_grid, random_system};
 use assembly::{Grid, site_of_index};
-use attach_rule::{TypeList, candidates, least_open, least_open_outside};
+use attach_rule::{
+    TypeList, can_attach, candidates, closed_in_box, least_open, least_open_outside,
+};
 use std::alloc::Global;
 use std::test::Fail;
-use tile_system::{
-    BoxArea, BuildStop, GlueId, NoMemory, Place, Site, System, SystemBuilder, TypeId,
-};
+use tile_system::{BuildStop, NoMemory, Placed, Site, System, TypeId};
 use type_index::{FacingCache, Found, TypeIndex};
-use worked_systems::{Spot, grid_of};
-
-pub(crate) const SIDE: u32 = 4;
-
-pub(crate) const NAMES: [&[u8]; 6] = [b"S", b"A", b"B", b"C", b"D", b"E"];
-
-// Numbers one after another, by a linear rule modulo 2^32.
-#[derive(Drop)]
-pub(crate) struct Numbers {
-    pub(crate) state: u32,
-}
-
-impl Numbers {
-    pub(crate) fn below(&mut self, bound: u32) -> u32
-        requires { 0 < bound }
-        ensures { result < bound }
-    {
-        self.state = self
-            .state
-            .wrapping_mul(1_664_525)
-            .wrapping_add(1_013_904_223);
-        (self.state >> 16) % bound
-    }
-
-    // None or one of three glues.
-    fn side(&mut self) -> Option<GlueId> {
-        match self.below(4) {
-            0 => None,
-            glue => Some(GlueId(glue - 1)),
-        }
-    }
-
-    pub(crate) fn spot(&mut self) -> Spot {
-        let x = self.below(SIDE) as i32;
-        let y = self.below(SIDE) as i32;
-        (x, y, self.below(NAMES.len() as u32))
-    }
-}
-
-// Three glues of strength 0, 1 and 2, and six types with any of them.
-fn random_system(alloc: Global, numbers: &mut Numbers) -> Result<System, BuildStop> {
-    let mut draft = SystemBuilder::make(alloc, 2)?;
-    draft.glue(b"none", 0)?;
-    draft.glue(b"weak", 1)?;
-    draft.glue(b"strong", 2)?;
-    for name in NAMES {
-        let sides = [
-            numbers.side(),
-            numbers.side(),
-            numbers.side(),
-            numbers.side(),
-        ];
-        draft.tile(name, sides)?;
-    }
-    draft.area(BoxArea {
-        x0: 0,
-        y0: 0,
-        x1: SIDE as i32 - 1,
-        y1: SIDE as i32 - 1,
-    })?;
-    draft.seed(Place {
-        site: Site { x: 0, y: 0 },
-        tile: TypeId(0),
-    })?;
-    draft.finish().map_err(|refused| refused.0)
-}
-
-// An assembly of at most eight tiles, held or not.
-pub(crate) fn random_grid(
-    alloc: Global,
-    sys: &System,
-    numbers: &mut Numbers,
-) -> Result<Grid, NoMemory>
-    ensures { IfOk result (λ grid. (grid.area ≡ sys.now.area) × Fits sys.now grid.tiles) }
-{
-    let mut spots = [(0, 0, 0); 8];
-    for index in 0..spots.len() {
-        spots[index] = numbers.spot();
-    }
-    grid_of(alloc, sys, &spots)
-}
 
 // Whether two lists have the same types.
 fn have_same(first: &TypeList, second: &TypeList) -> bool {
@@ -128,6 +49,15 @@ fn entry(list: &TypeList, index: u32) -> Option<TypeId> {
     }
 }
 
+// What the list says of the types that attach.
+fn found_of(list: &TypeList) -> Found {
+    Found {
+        count: list.len(),
+        first: entry(list, 0),
+        second: entry(list, 1),
+    }
+}
+
 // Whether the index finds at a site what the plain calls find.
 fn are_same_at(
     alloc: Global,
@@ -143,20 +73,56 @@ fn are_same_at(
     requires fits { Fits sys.now grid.now.tiles }
     ensures { AreFindings sys.now cache.new }
 {
+    let found = found_at(sys, index, cache, grid, site);
     let mut plain = TypeList::make(alloc, sys)?;
     candidates(sys, grid, site, &mut plain);
+    if found != found_of(&plain) || !has_same_others(sys, index, grid, site, &plain) {
+        return Ok(false);
+    }
+    is_listed(alloc, sys, index, grid, site, &plain)
+}
+
+// Whether the index lists at a site these types.
+fn is_listed(
+    alloc: Global,
+    sys: &System,
+    index: &TypeIndex,
+    grid: &Grid,
+    site: Site,
+    plain: &TypeList,
+) -> Result<bool, NoMemory>
+    requires index { IsIndexOf sys.now index.now }
+    requires near { IsNearSite site }
+    requires fits { Fits sys.now grid.now.tiles }
+{
     let mut listed = TypeList::make(alloc, sys)?;
     index.candidates(sys, grid, site, &mut listed);
-    let found = Found {
-        count: plain.len(),
-        first: entry(&plain, 0),
-        second: entry(&plain, 1),
-    };
-    Ok(
-        have_same(&plain, &listed)
-            && cache.found_at(sys, index, grid, site) == found
-            && has_same_others(sys, index, grid, site, &plain),
-    )
+    Ok(have_same(plain, &listed))
+}
+
+// What the cache finds at a site, where a tile may stand.
+fn found_at(
+    sys: &System,
+    index: &TypeIndex,
+    cache: &mut FacingCache,
+    grid: &Grid,
+    site: Site,
+) -> Found
+    requires index { IsIndexOf sys.now index.now }
+    requires known { AreFindings sys.now cache.old }
+    requires near { IsNearSite site }
+    requires fits { Fits sys.now grid.now.tiles }
+    ensures { AreFindings sys.now cache.new }
+{
+    if grid.at(site).is_some() {
+        return Found {
+            count: 0,
+            first: None,
+            second: None,
+        };
+    }
+    let beside = grid.beside(site);
+    cache.found_beside(sys, index, grid, site, &beside)
 }
 
 // Whether the index finds for each type the first other one.
@@ -182,32 +148,126 @@ fn has_same_others(
 
 // Whether the index finds at each site of the box, and as the least open one, what the plain calls
 // find.
-pub(crate) fn are_same(alloc: Global, sys: &System, grid: &Grid) -> Result<bool, NoMemory>
+fn are_same(alloc: Global, sys: &System, grid: &Grid) -> Result<bool, NoMemory>
     requires { Fits sys.now grid.now.tiles }
 {
     let index = TypeIndex::build(alloc, sys)?;
+    is_same_by(alloc, sys, &index, grid)
+}
+
+// Whether this index finds the same, also by a cache.
+fn is_same_by(alloc: Global, sys: &System, index: &TypeIndex, grid: &Grid) -> Result<bool, NoMemory>
+    requires index { IsIndexOf sys.now index.now }
+    requires fits { Fits sys.now grid.now.tiles }
+{
+    if !is_same_least(sys, index, grid) {
+        return Ok(false);
+    }
     let mut cache = FacingCache::make(alloc, sys)?;
+    are_same_sites(alloc, sys, index, &mut cache, grid)
+}
+
+// Whether the index finds the same least open sites.
+fn is_same_least(sys: &System, index: &TypeIndex, grid: &Grid) -> bool
+    requires index { IsIndexOf sys.now index.now }
+    requires fits { Fits sys.now grid.now.tiles }
+{
+    index.least_open(sys, grid) == least_open(sys, grid)
+        && index.least_open_outside(sys, grid) == least_open_outside(sys, grid)
+}
+
+// Whether the index and the cache find the same at each site of the box.
+fn are_same_sites(
+    alloc: Global,
+    sys: &System,
+    index: &TypeIndex,
+    cache: &mut FacingCache,
+    grid: &Grid,
+) -> Result<bool, NoMemory>
+    requires index { IsIndexOf sys.now index.now }
+    requires known { AreFindings sys.now cache.old }
+    requires fits { Fits sys.now grid.now.tiles }
+{
     let area = sys.area();
     let count = area.width() as usize * area.height() as usize;
     for number in 0..count {
         let site = site_of_index(&area, number);
-        if !are_same_at(alloc, sys, &index, &mut cache, grid, site)? {
+        if !are_same_at(alloc, sys, index, cache, grid, site)? {
             return Ok(false);
         }
     }
-    Ok(
-        index.least_open(sys, grid) == least_open(sys, grid)
-            && index.least_open_outside(sys, grid) == least_open_outside(sys, grid),
-    )
+    Ok(true)
 }
 
-// The first number, below a bound, whose system or assembly the index takes otherwise.
-fn first_unlike(alloc: Global, bound: u32) -> Result<Option<u32>, BuildStop> {
+// Whether just the types that are listed attach at a site, asked one by one.
+fn attach_alone(sys: &System, grid: &Grid, site: Site, listed: &TypeList) -> bool
+    requires near { IsNearSite site }
+    requires fits { Fits sys.now grid.now.tiles }
+{
+    let mut next = 0;
+    for number in 0..sys.type_count() {
+        let tile = TypeId(number);
+        if can_attach(sys, grid, site, tile) {
+            if next >= listed.len() || entry(listed, next) != Some(tile) {
+                return false;
+            }
+            next += 1;
+        }
+    }
+    next == listed.len()
+}
+
+// How many types the plain calls list at a site, if just these attach, asked one by one.
+fn attaching_at(
+    alloc: Global,
+    sys: &System,
+    grid: &Grid,
+    site: Site,
+) -> Result<Option<u32>, NoMemory>
+    requires near { IsNearSite site }
+    requires fits { Fits sys.now grid.now.tiles }
+{
+    let mut listed = TypeList::make(alloc, sys)?;
+    candidates(sys, grid, site, &mut listed);
+    Ok(attach_alone(sys, grid, site, &listed).then_some(listed.len()))
+}
+
+// Whether the box is closed just where no type is listed at any site of it.
+fn is_closed_alike(alloc: Global, sys: &System, grid: &Grid) -> Result<bool, NoMemory>
+    requires { Fits sys.now grid.now.tiles }
+{
+    let area = sys.area();
+    let count = area.width() as usize * area.height() as usize;
+    let mut is_closed = true;
+    for number in 0..count {
+        let site = site_of_index(&area, number);
+        let Some(attaching) = attaching_at(alloc, sys, grid, site)? else {
+            return Ok(false);
+        };
+        is_closed = is_closed && attaching == 0;
+    }
+    Ok(closed_in_box(sys, grid) == is_closed)
+}
+
+// Whether the index takes a random assembly of the system as the plain calls do, and these as one
+// another.
+fn are_alike(alloc: Global, sys: &System, numbers: &mut Numbers) -> Result<bool, NoMemory> {
+    let grid = random_grid(alloc, sys, numbers)?;
+    Ok(are_same(alloc, sys, &grid)? && is_closed_alike(alloc, sys, &grid)?)
+}
+
+// The same of the system of these numbers.
+fn is_alike(alloc: Global, kind: Kind, state: u32) -> Result<bool, BuildStop> {
+    let mut numbers = Numbers { state };
+    let sys = random_system(alloc, kind, &mut numbers)?;
+    let alike = are_alike(alloc, &sys, &mut numbers)?;
+    Ok(alike)
+}
+
+// The first number, below a bound, whose system or assembly is taken otherwise.
+fn first_unlike(alloc: Global, kind: Kind, bound: u32) -> Result<Option<u32>, BuildStop> {
     for state in 0..bound {
-        let mut numbers = Numbers { state };
-        let sys = random_system(alloc, &mut numbers)?;
-        let grid = random_grid(alloc, &sys, &mut numbers)?;
-        if !are_same(alloc, &sys, &grid)? {
+        if !is_alike(alloc, kind, state)? {
             return Ok(Some(state));
         }
     }
@@ -216,6 +276,7 @@ fn first_unlike(alloc: Global, bound: u32) -> Result<Option<u32>, BuildStop> {
 
 #[test]
 fn index_finds_what_the_plain_calls_find(rt: HostRuntime) -> Result<(), Fail> {
-    assert_eq!(rt; first_unlike(rt.alloc(), 200)?, None);
+    assert_eq!(rt; first_unlike(rt.alloc(), Kind::OneSeed, 200)?, None);
+    assert_eq!(rt; first_unlike(rt.alloc(), Kind::SeedsAndPairs, 300)?, None);
     Ok(())
 }

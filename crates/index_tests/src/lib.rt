@@ -7,3 +7,5 @@ mod attachment;
 mod index;
 #[cfg(test)]
 mod pairs;
+#[cfg(test)]
+mod random;

@@ -32,49 +32,7 @@ use Rattle.type_index.specs.Others.{IsFirstBut}
 use Rattle.local_check.specs.Inner.Sides.{bond_if, glues_on}
 use Rattle.local_check.specs.Judgement.{IsLeastRival, FindsInexact, FindsRival}
 use Rattle.local_check.specs.Inner.Ranges.{AllExactIn, NoRivalIn, FindsInexactIn, FindsRivalIn}
-use Rattle.local_check.proofs.Sides.{apart}
-
--- the test of two neighbours of a site
-other_site : (a b : Site) → a ≢ b → same_site a b ≡ false
-other_site a b other = elim (same_site_tells a b) [ inl same ↦ absurd (other same.1) | inr differ ↦ differ.0 ]
-
-differ : (m : Site) → (a b : Side) → neighbor m a ≡ neighbor m b → a ≡ b
-differ m North North same = refl
-differ m North East same = let e = ap (λ n. n.y) same in let never : ⊥ = omega (arith, ints, e) in absurd never
-differ m North South same = let e = ap (λ n. n.y) same in let never : ⊥ = omega (arith, ints, e) in absurd never
-differ m North West same = let e = ap (λ n. n.y) same in let never : ⊥ = omega (arith, ints, e) in absurd never
-differ m East North same = let e = ap (λ n. n.x) same in let never : ⊥ = omega (arith, ints, e) in absurd never
-differ m East East same = refl
-differ m East South same = let e = ap (λ n. n.x) same in let never : ⊥ = omega (arith, ints, e) in absurd never
-differ m East West same = let e = ap (λ n. n.x) same in let never : ⊥ = omega (arith, ints, e) in absurd never
-differ m South North same = let e = ap (λ n. n.y) same in let never : ⊥ = omega (arith, ints, e) in absurd never
-differ m South East same = let e = ap (λ n. n.y) same in let never : ⊥ = omega (arith, ints, e) in absurd never
-differ m South South same = refl
-differ m South West same = let e = ap (λ n. n.y) same in let never : ⊥ = omega (arith, ints, e) in absurd never
-differ m West North same = let e = ap (λ n. n.x) same in let never : ⊥ = omega (arith, ints, e) in absurd never
-differ m West East same = let e = ap (λ n. n.x) same in let never : ⊥ = omega (arith, ints, e) in absurd never
-differ m West South same = let e = ap (λ n. n.x) same in let never : ⊥ = omega (arith, ints, e) in absurd never
-differ m West West same = refl
-
-no_other : (m : Site) (a b : Side) → a ≢ b → same_site (neighbor m a) (neighbor m b) ≡ false
-no_other m a b other = other_site (neighbor m a) (neighbor m b) (λ same. other (differ m a b same))
-
-and_false : (b : Bool) → (b && false) ≡ false
-and_false true = refl
-and_false false = refl
-
-and_true : (b : Bool) → (b && true) ≡ b
-and_true true = refl
-and_true false = refl
-
-or_false : (b : Bool) → (b || false) ≡ b
-or_false true = refl
-or_false false = refl
-
--- a side that isn't kept meets no glue
-facing_on : (sys : TileSystem) (own : Option GlueId) (glue : Option GlueId) (on : Bool) → interaction sys own (if on then glue else None) ≡ bond_if on (interaction sys own glue)
-facing_on sys own glue true = refl
-facing_on sys own glue false = interaction-none sys own
+use Rattle.local_check.proofs.Keeping.{gone_here, pull_facing}
 
 -- one index more
 module _ (sys : TileSystem) (s : List Place) (start n : ℕ) (p : Place) (there : slice_get s n ≡ Some p) where
@@ -190,109 +148,24 @@ module _ (sys : TileSystem) (s tiles : List Place) (distinct : HasDistinctSites 
       sym (one_map m) ∙ subst In (take-length s) (Extends-take s i (length s) within m t (same_part m ∙ found))
 
   module _ (i : ℕ) (p : Place) (there : slice_get s i ≡ Some p) where
-    keeps : Site → Bool
-    keeps n = not (same_site n p.site) && not (list_any (λ e. is_output sys s i e && same_site n (neighbor p.site e)) directions)
-
     abbrev rest : List Place
     rest = without_outputs sys s i p.site
 
-    gone_here : tile_at rest p.site ≡ None
-    unfolding keeps
-    gone_here =
-        let gone : keeps p.site ≡ false = rw (same_site-refl p.site) refl in
-        tile_at-filtered keeps s p.site gone
-
-    keeps_beside : (d : Side) → keeps (neighbor p.site d) ≡ not (is_output sys s i d)
-    unfolding keeps
-    keeps_beside North =
-        rw (
-          other_site (neighbor p.site North) p.site (λ same. apart p.site North (sym same)),
-          same_site-refl (neighbor p.site North),
-          no_other p.site North East (λ e. cc e),
-          no_other p.site North South (λ e. cc e),
-          no_other p.site North West (λ e. cc e),
-          and_true (is_output sys s i North),
-          and_false (is_output sys s i East),
-          and_false (is_output sys s i South),
-          and_false (is_output sys s i West),
-        ) (ap not (or_false (is_output sys s i North)))
-    keeps_beside East =
-        rw (
-          other_site (neighbor p.site East) p.site (λ same. apart p.site East (sym same)),
-          same_site-refl (neighbor p.site East),
-          no_other p.site East North (λ e. cc e),
-          no_other p.site East South (λ e. cc e),
-          no_other p.site East West (λ e. cc e),
-          and_true (is_output sys s i East),
-          and_false (is_output sys s i North),
-          and_false (is_output sys s i South),
-          and_false (is_output sys s i West),
-        ) (ap not (or_false (is_output sys s i East)))
-    keeps_beside South =
-        rw (
-          other_site (neighbor p.site South) p.site (λ same. apart p.site South (sym same)),
-          same_site-refl (neighbor p.site South),
-          no_other p.site South North (λ e. cc e),
-          no_other p.site South East (λ e. cc e),
-          no_other p.site South West (λ e. cc e),
-          and_true (is_output sys s i South),
-          and_false (is_output sys s i North),
-          and_false (is_output sys s i East),
-          and_false (is_output sys s i West),
-        ) (ap not (or_false (is_output sys s i South)))
-    keeps_beside West =
-        rw (
-          other_site (neighbor p.site West) p.site (λ same. apart p.site West (sym same)),
-          same_site-refl (neighbor p.site West),
-          no_other p.site West North (λ e. cc e),
-          no_other p.site West East (λ e. cc e),
-          no_other p.site West South (λ e. cc e),
-          and_true (is_output sys s i West),
-          and_false (is_output sys s i North),
-          and_false (is_output sys s i East),
-          and_false (is_output sys s i South),
-        ) (ap not (or_false (is_output sys s i West)))
-
-    bond_kept : (t : TypeId) (d : Side) → bond sys rest p.site t d ≡ bond_if (not (is_output sys s i d)) (bond sys tiles p.site t d)
-    unfolding keeps
-    bond_kept t d = elim (cases_Bool (is_output sys s i d)) [
-      | inl out ↦
-          let gone : keeps (neighbor p.site d) ≡ false = keeps_beside d ∙ ap not out in
-          rw out (bond-none sys rest p.site t d (tile_at-filtered keeps s (neighbor p.site d) gone))
-      | inr no_output ↦
-          let kept : keeps (neighbor p.site d) ≡ true = keeps_beside d ∙ ap not no_output in
-          rw no_output (bond-beside sys rest tiles p.site t d (tile_at-filter keeps s (neighbor p.site d) kept ∙ one_map (neighbor p.site d)))
-    ]
-
     -- the first type that the glues on the sides that are kept hold, other than that of the place, is its first rival
     module _ (sides : SideSet) (are : (d : Side) → has sides d ≡ not (is_output sys s i d)) (glues : FacingGlues) (faces : FacesSite sys tiles p.site glues) where
-      bond_facing : (t : TypeId) (d : Side) (glue : Option GlueId) → glue ≡ glue_at sys tiles (neighbor p.site d) (opposite d) →
-          bond sys rest p.site t d ≡ interaction sys (side_glue sys t d) (if has sides d then glue else None)
-      unfolding bond
-      bond_facing t d glue is =
-          bond_kept t d
-          ∙ (λ k. bond_if (sym (are d) k) (interaction sys (side_glue sys t d) (sym is k)))
-          ∙ sym (facing_on sys (side_glue sys t d) glue (has sides d))
-
-      pull_facing : (t : TypeId) → pull sys (without_outputs sys s i p.site) p.site t ≡ facing_pull sys (glues_on sides glues) t
-      unfolding pull
-      pull_facing t =
-          let north = bond_facing t North glues.north faces.north in
-          let east = bond_facing t East glues.east faces.east in
-          let south = bond_facing t South glues.south faces.south in
-          let west = bond_facing t West glues.west faces.west in
-          λ k. north k + east k + south k + west k
+      pull_rest : (t : TypeId) → pull sys rest p.site t ≡ facing_pull sys (glues_on sides glues) t
+      pull_rest t = pull_facing sys s tiles one_map p.site (λ d. is_output sys s i d) sides are glues faces t
 
       held_rival : (t : TypeId) → t ≢ p.tile → IsHeld sys (glues_on sides glues) t → IsRival sys s i p t
       held_rival t other held =
-          let same = pull_facing t in
+          let same = pull_rest t in
           record {
             other = other;
-            grows = record { kind = held.kind; attaches = record { empty = gone_here; held = omega (arith, same, held.held) } };
+            grows = record { kind = held.kind; attaches = record { empty = gone_here sys s tiles one_map p.site (λ d. is_output sys s i d); held = omega (arith, same, held.held) } };
           }
 
       rival_held : (t : TypeId) → IsRival sys s i p t → IsHeld sys (glues_on sides glues) t
-      rival_held t rival = let same = pull_facing t in record { kind = rival.grows.kind; held = omega (arith, same, rival.grows.attaches.held) }
+      rival_held t rival = let same = pull_rest t in record { kind = rival.grows.kind; held = omega (arith, same, rival.grows.attaches.held) }
 
       no_rival : ((t : TypeId) → IsHeld sys (glues_on sides glues) t → t ≡ p.tile) → (t : TypeId) → ¬ IsRival sys s i p t
       no_rival none t rival = rival.other (none t (rival_held t rival))

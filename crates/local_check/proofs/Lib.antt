@@ -3,6 +3,7 @@ pub mod Existence
 pub mod Sites
 pub mod Sides
 pub mod FullBoxes
+pub mod Keeping
 pub mod Judging
 pub mod PlaceFindings
 pub mod Standing

@@ -68,7 +68,7 @@ impl Findings {
         ensures known { IfOk result (ArePlaceFindings sys.now) }
         ensures seeks { IfOk result (λ findings. findings.seeks ≡ true) }
     {
-        let _valid = sys.tau();
+        sys.recall_valid();
         let none = Known {
             key: 0,
             before: SideSet::NONE,

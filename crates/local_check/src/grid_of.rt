@@ -15,7 +15,7 @@ pub(crate) fn grid_of(alloc: Global, sys: &System, seq: &Sequence) -> Result<Gri
     ensures placements { IfOk result (λ grid. SamePlacements seq.now grid.tiles) }
 {
     let mut grid = Grid::make(alloc, sys.area())?;
-    let _valid = sys.tau();
+    sys.recall_valid();
     for index in 0..seq.len() {
         grid.put(seq.get(index));
     }

@@ -18,7 +18,7 @@ pub fn judge(sys: &System, seq: &Sequence, sides: &SideSets) -> Verdict
     requires sides { AreSidesOf sys.now seq.now sides.now }
     ensures { IsVerdict sys.now seq.now result }
 {
-    let _valid = sys.tau();
+    sys.recall_valid();
     if let Some((site, sum)) = sides.inexact() {
         return Verdict::NotExact { site, sum };
     }
@@ -39,7 +39,7 @@ fn least_open(sys: &System, seq: &Sequence, sides: &SideSets) -> Option<(Site, T
     ensures { IsLeastOpen sys.now seq.now result }
 {
     let area = sys.area();
-    let _valid = sys.tau();
+    sys.recall_valid();
     if seq.len() == area.width() as usize * area.height() as usize {
         return sides.index().least_open_outside(sys, sides);
     }

@@ -15,5 +15,5 @@ mod verdict;
 
 pub use judgement::judge;
 pub use laws::{law_one_verdict, law_yes};
-pub use side_table::{SideSets, inputs, inputs_by, inputs_by_index, inputs_of_grid};
+pub use side_table::{SideSets, inputs, inputs_by_index, inputs_of_grid};
 pub use verdict::Verdict;

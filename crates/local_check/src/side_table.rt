@@ -15,6 +15,7 @@ use crate::place_sides::PlaceSides;
 use crate::side_set::SideSet;
 use crate::survey::{Survey, survey_all, survey_range};
 use assembly::{Grid, Sequence};
+use fan_out::WorkerCount;
 use std::alloc::Global;
 use std::borrow::Cow;
 use std::marker::Model;
@@ -125,7 +126,7 @@ pub fn inputs<'a>(alloc: Global, sys: &System, seq: &Sequence) -> Result<SideSet
     requires fits { Fits sys.now seq.now }
     ensures { IfOk result (AreSidesOf sys.now seq.now) }
 {
-    let _valid = sys.tau();
+    sys.recall_valid();
     let grid = grid_of(alloc, sys, seq)?;
     sides_in(alloc, sys, seq, Cow::Owned(grid))
 }
@@ -159,36 +160,15 @@ fn sides_in<'a>(
     requires placements { SamePlacements seq.now (cow_value grid).tiles }
     ensures { IfOk result (AreSidesOf sys.now seq.now) }
 {
-    let _valid = sys.tau();
+    sys.recall_valid();
     let index = TypeIndex::build(alloc, sys)?;
     let survey = survey_range(alloc, sys, seq, &grid, &index, 0, seq.len())?;
     Ok(table(sys, grid, Cow::Owned(index), survey))
 }
 
 /// The same by so many workers, each of which looks at a range of the places, in a thread of its own
-/// but one. The answer is the same for any number of them. Each takes memory of its own, but for the
-/// index of the types.
-pub fn inputs_by<'a, R: Threads + Sync>(
-    rt: &R,
-    alloc: Global,
-    sys: &System,
-    seq: &Sequence,
-    grid: &'a Grid,
-    workers: u32,
-) -> Result<SideSets<'a>, NoMemory>
-    requires some { 1 ≤ workers }
-    requires few { workers ≤ 16 }
-    requires legal { IsLegal sys.now seq.now }
-    requires fits { Fits sys.now seq.now }
-    requires area { grid.now.area ≡ sys.now.area }
-    requires placements { SamePlacements seq.now grid.now.tiles }
-    ensures { IfOk result (AreSidesOf sys.now seq.now) }
-{
-    let index = TypeIndex::build(alloc, sys)?;
-    sides_by(rt, alloc, sys, seq, grid, Cow::Owned(index), workers)
-}
-
-/// The same where there is an index of the types already.
+/// but one. The answer is the same for any number of them. An index of the types is lent to them, and
+/// each takes memory of its own beside it.
 pub fn inputs_by_index<'a, R: Threads + Sync>(
     rt: &R,
     alloc: Global,
@@ -196,10 +176,8 @@ pub fn inputs_by_index<'a, R: Threads + Sync>(
     seq: &Sequence,
     grid: &'a Grid,
     types: &'a TypeIndex,
-    workers: u32,
+    workers: WorkerCount,
 ) -> Result<SideSets<'a>, NoMemory>
-    requires some { 1 ≤ workers }
-    requires few { workers ≤ 16 }
     requires legal { IsLegal sys.now seq.now }
     requires fits { Fits sys.now seq.now }
     requires area { grid.now.area ≡ sys.now.area }
@@ -207,30 +185,9 @@ pub fn inputs_by_index<'a, R: Threads + Sync>(
     requires index { IsIndexOf sys.now types.now }
     ensures { IfOk result (AreSidesOf sys.now seq.now) }
 {
-    sides_by(rt, alloc, sys, seq, grid, Cow::Borrowed(types), workers)
-}
-
-// The sides of the places of a sequence, by so many workers, with one index of the types.
-fn sides_by<'a, R: Threads + Sync>(
-    rt: &R,
-    alloc: Global,
-    sys: &System,
-    seq: &Sequence,
-    grid: &'a Grid,
-    index: Cow<'a, TypeIndex>,
-    workers: u32,
-) -> Result<SideSets<'a>, NoMemory>
-    requires some { 1 ≤ workers }
-    requires legal { IsLegal sys.now seq.now }
-    requires fits { Fits sys.now seq.now }
-    requires area { grid.now.area ≡ sys.now.area }
-    requires placements { SamePlacements seq.now grid.now.tiles }
-    requires index { IsIndexOf sys.now (cow_value index) }
-    ensures { IfOk result (AreSidesOf sys.now seq.now) }
-{
-    let _valid = sys.tau();
-    let survey = survey_all(rt, alloc, sys, seq, grid, &index, workers)?;
-    Ok(table(sys, Cow::Borrowed(grid), index, survey))
+    sys.recall_valid();
+    let survey = survey_all(rt, alloc, sys, seq, grid, types, workers)?;
+    Ok(table(sys, Cow::Borrowed(grid), Cow::Borrowed(types), survey))
 }
 
 // What was found of all places, with the grid and the index that it was found by.

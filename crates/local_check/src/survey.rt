@@ -11,7 +11,7 @@ use crate::findings::Findings;
 use crate::place_sides::PlaceSides;
 use crate::stood_sites::StoodSites;
 use assembly::{Grid, Sequence, site_index};
-use fan_out::{Portion, share_numbers};
+use fan_out::{Portion, WorkerCount, share_numbers};
 use std::alloc::Global;
 use std::thread::Threads;
 use tile_system::{NoMemory, System};
@@ -32,10 +32,9 @@ pub(crate) fn survey_all<R: Threads + Sync>(
     seq: &Sequence,
     whole: &Grid,
     types: &TypeIndex,
-    workers: u32,
+    workers: WorkerCount,
 ) -> Result<Survey, NoMemory>
     requires can { CanSurvey sys.now seq.now whole.now types.now }
-    requires some { 1 ≤ workers }
     ensures { IfOk result (IsSurvey sys.now seq.now 0 (length seq.now)) }
 {
     let surveys = share_numbers(

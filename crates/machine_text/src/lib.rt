@@ -18,5 +18,7 @@ pub use config::{Config, Head};
 pub use laws::{law_limits, law_machine_text};
 pub use limits::{LONGEST_SHORT_NAME, MOST_CELLS, MOST_ROWS, MOST_STATES, MOST_SYMBOLS};
 pub use machine::{Machine, run_machine};
+pub use name_list::NameList;
 pub use reader::read_machine;
 pub use rule::{Rule, Transition, Turn};
+pub use short_name::{check_new, find_name, find_names};

@@ -7,7 +7,7 @@ use tile_system::NoMemory;
 
 /// Names, numbered from 0 in the order in which they came.
 #[derive(Drop)]
-pub(crate) struct NameList {
+pub struct NameList {
     names: Vec<Vec<u8>>,
 }
 
@@ -22,7 +22,8 @@ impl Model for NameList {
 }
 
 impl NameList {
-    pub(crate) fn new(alloc: Global) -> NameList
+    /// No names.
+    pub fn new(alloc: Global) -> NameList
         ensures { result ≡ [] }
     {
         NameList {
@@ -30,14 +31,15 @@ impl NameList {
         }
     }
 
-    pub(crate) fn len(&self) -> u32
+    /// The number of names.
+    pub fn len(&self) -> u32
         ensures { result ≡ length self.now }
     {
         self.names.len() as u32
     }
 
     /// The name with this number.
-    pub(crate) fn name(&self, number: u32) -> &[u8]
+    pub fn name(&self, number: u32) -> &[u8]
         requires { number < length self.now }
         ensures { slice_get self.now number ≡ Some result.now }
     {
@@ -45,7 +47,7 @@ impl NameList {
     }
 
     /// The number of a name, in time that grows with the number of names.
-    pub(crate) fn find(&self, name: &[u8]) -> Option<u32>
+    pub fn find(&self, name: &[u8]) -> Option<u32>
         ensures { result ≡ position (bytes_eq name.now) self.now }
     {
         for number in 0..self.len() {
@@ -56,7 +58,8 @@ impl NameList {
         None
     }
 
-    pub(crate) fn push(&mut self, alloc: Global, name: &[u8]) -> Result<(), NoMemory>
+    /// Puts a name behind the others.
+    pub fn push(&mut self, alloc: Global, name: &[u8]) -> Result<(), NoMemory>
         requires { length self.old + 1 < 2 ^ 32 }
         ensures ok { OnOk result (self.new ≡ self.old ++ name.now ∷ []) }
         ensures unchanged { OnErr result (self.new ≡ self.old) }

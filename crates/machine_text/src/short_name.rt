@@ -1,13 +1,59 @@
-// Names of states and of symbols.
-ghost use Rattle.std.specs.Prelude.{◌≡◌};
+// Short names, as states and symbols have them: which may be declared, and which number one refers to.
+ghost use Rattle.std.specs.Prelude.{◌≡◌, ◌≤◌, ◌<◌, length, IfOk, drop};
 ghost use Rattle.std.specs.List.{list_all};
+ghost use Rattle.tile_io.specs.Checks.{declared, referred};
 ghost use Rattle.machine_text.specs.Machines.{is_short_name, is_short_name_byte};
+ghost use Rattle.machine_text.specs.MachineText.{references};
+ghost use Rattle.machine_text.specs.NameChecks.{Declares, Refers};
 
 use crate::limits::LONGEST_SHORT_NAME;
+use crate::name_list::NameList;
+use std::alloc::Global;
+use tile_io::{Cause, LineStop, LineWords};
 
-/// Whether these bytes are a short name: some letters, digits and `_`, and no more than it may have.
+/// The numbers that the words of a line behind the first refer to, each in time that grows with the number of names.
+pub fn find_names(alloc: Global, names: &NameList, words: &LineWords) -> Result<Vec<u32>, LineStop>
+    requires { 2 ≤ length words.now }
+    ensures { Refers (references names.now (drop 1 words.now)) result }
+{
+    let mut numbers = Vec::new(alloc);
+    for index in 1..words.len() {
+        let number = find_name(names, words.word(index))?;
+        match numbers.push(number) {
+            Ok(()) => {}
+            Err(_) => return Err(LineStop::NoMemory),
+        }
+    }
+    Ok(numbers)
+}
+
+/// The number that a name refers to, in time that grows with the number of names.
+pub fn find_name(names: &NameList, name: &[u8]) -> Result<u32, Cause>
+    ensures number { result ≡ referred is_short_name names.now name.now }
+    ensures known { IfOk result (λ number. number < length names.now) }
+{
+    if !is_short_name(name) {
+        return Err(Cause::BadName);
+    }
+    names.find(name).ok_or(Cause::UnknownName)
+}
+
+/// Whether a name may be declared, in time that grows with the number of names.
+pub fn check_new(names: &NameList, name: &[u8]) -> Result<(), Cause>
+    ensures { Declares (declared is_short_name names.now name.now) name.now result }
+{
+    if !is_short_name(name) {
+        return Err(Cause::BadName);
+    }
+    if names.find(name).is_some() {
+        return Err(Cause::DoubleName);
+    }
+    Ok(())
+}
+
+// Whether these bytes are a short name: some letters, digits and `_`, and no more than it may have.
 #[tactic(auto, unfolding(crate::specs::Machines::is_short_name))]
-pub(crate) fn is_short_name(name: &[u8]) -> bool
+fn is_short_name(name: &[u8]) -> bool
     ensures { result ≡ is_short_name name.now }
 {
     !name.is_empty() && name.len() <= LONGEST_SHORT_NAME && are_short_name_bytes(name)

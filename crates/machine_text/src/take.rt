@@ -1,17 +1,15 @@
 // What the fields of a line make of a machine in the making.
-ghost use Rattle.std.specs.Prelude.{◌≡◌, ◌≤◌, ◌<◌, List, true, None, length, IfOk, drop};
-ghost use Rattle.tile_io.specs.Checks.{declared, referred};
-ghost use Rattle.machine_text.specs.Machines.{TuringMachine, is_short_name, rule_among};
-ghost use Rattle.machine_text.specs.MachineText.{MachineItem, header_fields, state_fields, symbol_fields, transition_in, rule_fields, cells_fields, rows_fields, head_fields, tape_fields, turn_field, references, machine_of};
+ghost use Rattle.std.specs.Prelude.{◌≡◌, ◌≤◌, ◌<◌, List, true, None, length, IfOk};
+ghost use Rattle.machine_text.specs.Machines.{TuringMachine, rule_among};
+ghost use Rattle.machine_text.specs.MachineText.{MachineItem, header_fields, state_fields, symbol_fields, transition_in, rule_fields, cells_fields, rows_fields, head_fields, tape_fields, turn_field, machine_of};
 ghost use Rattle.machine_text.specs.Inner.Kinds.{row_of};
-ghost use Rattle.machine_text.specs.Inner.SoFar.{machine_in, HasFewNames, Gets, Declares, Refers};
+ghost use Rattle.machine_text.specs.Inner.SoFar.{machine_in, HasFewNames, Gets};
 
 use crate::kind::LineKind;
 use crate::limits::{MOST_CELLS, MOST_ROWS};
-use crate::name_list::NameList;
 use crate::parts::MachineParts;
 use crate::rule::{Rule, Transition, Turn};
-use crate::short_name::is_short_name;
+use crate::short_name::{check_new, find_name, find_names};
 use std::alloc::Global;
 use tile_io::{Cause, LineStop, LineWords, is_word, read_count};
 
@@ -170,51 +168,11 @@ fn take_tape(alloc: Global, parts: &mut MachineParts, words: &LineWords) -> Resu
     ensures { Gets LineKind.Tape (tape_fields (machine_in parts.old) words.now)
         (machine_in parts.old) (machine_in parts.new) result }
 {
-    let symbols = read_symbols(alloc, &parts.symbols, words)?;
+    let symbols = find_names(alloc, &parts.symbols, words)?;
     match parts.tape.extend_from_slice(symbols.as_slice()) {
         Ok(()) => Ok(()),
         Err(_) => Err(LineStop::NoMemory),
     }
-}
-
-// The symbols that the words of a line behind the first are.
-fn read_symbols(alloc: Global, names: &NameList, words: &LineWords) -> Result<Vec<u32>, LineStop>
-    requires { 2 ≤ length words.now }
-    ensures { Refers (references names.now (drop 1 words.now)) result }
-{
-    let mut symbols = Vec::new(alloc);
-    for index in 1..words.len() {
-        let symbol = find_name(names, words.word(index))?;
-        match symbols.push(symbol) {
-            Ok(()) => {}
-            Err(_) => return Err(LineStop::NoMemory),
-        }
-    }
-    Ok(symbols)
-}
-
-// The number that a name refers to.
-fn find_name(names: &NameList, name: &[u8]) -> Result<u32, Cause>
-    ensures number { result ≡ referred is_short_name names.now name.now }
-    ensures known { IfOk result (λ number. number < length names.now) }
-{
-    if !is_short_name(name) {
-        return Err(Cause::BadName);
-    }
-    names.find(name).ok_or(Cause::UnknownName)
-}
-
-// Whether a name may be declared.
-fn check_new(names: &NameList, name: &[u8]) -> Result<(), Cause>
-    ensures { Declares (declared is_short_name names.now name.now) name.now result }
-{
-    if !is_short_name(name) {
-        return Err(Cause::BadName);
-    }
-    if names.find(name).is_some() {
-        return Err(Cause::DoubleName);
-    }
-    Ok(())
 }
 
 // The turn that a word is.

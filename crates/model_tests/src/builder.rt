@@ -10,18 +10,36 @@ const ROW: BoxArea = BoxArea {
     y1: 0,
 };
 
-const START: Site = Site { x: 0, y: 0 };
+const START: Place = Place {
+    site: Site { x: 0, y: 0 },
+    tile: TypeId(0),
+};
+
+const A: Option<GlueId> = Some(GlueId(0));
+
+const B: Option<GlueId> = Some(GlueId(1));
 
 // Three tiles in a row, each held by the one to its west.
+const TYPES: [(&[u8], [Option<GlueId>; 4]); 3] = [
+    (b"S", [None, A, None, None]),
+    (b"B", [None, B, None, A]),
+    (b"C", [None, None, None, B]),
+];
+
+fn add_all(draft: &mut SystemBuilder) -> Result<(), BuildStop> {
+    for name in [b"a", b"b"] {
+        draft.glue(name, 2)?;
+    }
+    for (name, sides) in TYPES {
+        draft.tile(name, sides)?;
+    }
+    draft.area(ROW)?;
+    draft.seed(START)
+}
+
 fn chain(alloc: Global) -> Result<System, BuildStop> {
     let mut draft = SystemBuilder::make(alloc, 2)?;
-    let a = draft.glue(b"a", 2)?;
-    let b = draft.glue(b"b", 2)?;
-    let tile = draft.tile(b"S", [None, Some(a), None, None])?;
-    draft.tile(b"B", [None, Some(b), None, Some(a)])?;
-    draft.tile(b"C", [None, None, None, Some(b)])?;
-    draft.area(ROW)?;
-    draft.seed(Place { site: START, tile })?;
+    add_all(&mut draft)?;
     draft.finish().map_err(|refused| refused.0)
 }
 
@@ -42,7 +60,7 @@ fn has_glues(system: &System) -> bool {
 
 // Whether names are found, each in its own list.
 fn has_names(system: &System) -> bool {
-    system.find_type(b"S") == Some(system.seed().tile)
+    system.find_type(b"S") == Some(TypeId(0))
         && system.find_type(b"C") == Some(TypeId(2))
         && system.find_type(b"a") == None
         && system.find_glue(b"b") == Some(GlueId(1))
@@ -53,7 +71,7 @@ fn has_names(system: &System) -> bool {
 fn builds_a_chain(rt: HostRuntime) -> Result<(), Fail> {
     let system = chain(rt.alloc())?;
     assert!(rt; system.tau() == 2 && system.glue_count() == 2 && system.type_count() == 3);
-    assert!(rt; system.area() == ROW && system.seed().site == START);
+    assert!(rt; system.area() == ROW && system.seed() == START);
     assert!(rt; has_names(&system));
     assert!(rt; has_glues(&system));
     Ok(())

@@ -2,6 +2,7 @@
 ghost use Rattle.std.specs.Prelude.{◌<◌, ◌^◌, length};
 
 use assembly::Grid;
+use fan_out::WorkerCount;
 use replay_order::{Legality, ReplayStop, check_legal, replay, replay_by};
 use std::alloc::Global;
 use std::test::Fail;
@@ -59,6 +60,7 @@ fn stops_so<R: Threads + Sync>(
 ) -> Result<bool, NoMemory> {
     let grid = grid_of(alloc, sys, spots)?;
     for workers in [1, 2, 3, 4, 16] {
+        let workers = WorkerCount::new(workers);
         if replay_by(rt, alloc, sys, &grid, workers).err() != Some(stop) {
             return Ok(false);
         }

@@ -1,16 +1,21 @@
 // The verdict on legal sequences, and what beginnings grow into.
-ghost use Rattle.std.specs.Prelude.{◌<◌, ◌≤◌, ◌^◌, ◌≡◌, true, length, IfOk};
+ghost use Rattle.std.specs.Prelude.{◌<◌, ◌^◌, ◌≡◌, true, length, IfOk, IfSome};
+ghost use Rattle.atam.specs.Placements.{SamePlacements};
 ghost use Rattle.atam.specs.Assembly.{Fits};
 ghost use Rattle.atam.specs.Growth.{IsLegal};
+ghost use Rattle.atam.specs.Determinism.{IsLocallyDeterministic};
+ghost use Rattle.type_index.specs.Indexes.{IsIndexOf};
 ghost use Rattle.local_check.specs.Judgement.{IsVerdict};
 
 use assembly::{Grid, Sequence};
-use local_check::{Verdict, inputs, inputs_by, judge};
+use fan_out::WorkerCount;
+use local_check::{SideSets, Verdict, inputs, inputs_by_index, judge};
 use replay_order::{Legality, check_legal};
 use std::alloc::Global;
 use std::test::Fail;
 use std::thread::Threads;
-use tile_system::{NoMemory, Site, System, TypeId};
+use tile_system::{NoMemory, Side, Site, System, TypeId};
+use type_index::TypeIndex;
 use unique_law::{law_extends, law_part, law_same_verdict};
 use worked_systems::{CHAIN, MISMATCH, RIVALS, SQUARE, Spot, lists, sequence_of, system};
 
@@ -42,6 +47,21 @@ fn is_legal(alloc: Global, sys: &System, order: &Sequence) -> Result<bool, NoMem
     Ok(matches!(legality, Legality::Legal))
 }
 
+// A sequence of these places, if it is legal.
+fn legal_sequence(alloc: Global, sys: &System, spots: &[Spot]) -> Result<Option<Sequence>, NoMemory>
+    requires { length spots.now < 2 ^ 32 }
+    ensures fits { IfOk result (λ found. IfSome found (Fits sys.now)) }
+    ensures short { IfOk result (λ found. IfSome found (λ order. length order < 2 ^ 32)) }
+    ensures legal { IfOk result (λ found. IfSome found (IsLegal sys.now)) }
+{
+    let order = sequence_of(alloc, sys, spots)?;
+    if is_legal(alloc, sys, &order)? {
+        Ok(Some(order))
+    } else {
+        Ok(None)
+    }
+}
+
 // The verdict on a legal sequence.
 fn verdict_on(alloc: Global, sys: &System, order: &Sequence) -> Result<Verdict, NoMemory>
     requires fits { Fits sys.now order.now }
@@ -53,16 +73,35 @@ fn verdict_on(alloc: Global, sys: &System, order: &Sequence) -> Result<Verdict, 
     Ok(judge(sys, order, &sides))
 }
 
+// The same by so many workers, with the grid of the places and an index of the types.
+fn verdict_by_index<R: Threads + Sync>(
+    rt: &R,
+    alloc: Global,
+    sys: &System,
+    order: &Sequence,
+    grid: &Grid,
+    types: &TypeIndex,
+    workers: WorkerCount,
+) -> Result<Verdict, NoMemory>
+    requires fits { Fits sys.now order.now }
+    requires legal { IsLegal sys.now order.now }
+    requires area { grid.now.area ≡ sys.now.area }
+    requires placements { SamePlacements order.now grid.now.tiles }
+    requires index { IsIndexOf sys.now types.now }
+    ensures { IfOk result (IsVerdict sys.now order.now) }
+{
+    let sides = inputs_by_index(rt, alloc, sys, order, grid, types, workers)?;
+    Ok(judge(sys, order, &sides))
+}
+
 // The same by so many workers.
 fn verdict_by<R: Threads + Sync>(
     rt: &R,
     alloc: Global,
     sys: &System,
     order: &Sequence,
-    workers: u32,
+    workers: WorkerCount,
 ) -> Result<Verdict, NoMemory>
-    requires some { 1 ≤ workers }
-    requires few { workers ≤ 16 }
     requires fits { Fits sys.now order.now }
     requires short { length order.now < 2 ^ 32 }
     requires legal { IsLegal sys.now order.now }
@@ -70,8 +109,8 @@ fn verdict_by<R: Threads + Sync>(
 {
     let mut grid = Grid::make(alloc, sys.area())?;
     let _legal = check_legal(sys, order, &mut grid);
-    let sides = inputs_by(rt, alloc, sys, order, &grid, workers)?;
-    Ok(judge(sys, order, &sides))
+    let types = TypeIndex::build(alloc, sys)?;
+    verdict_by_index(rt, alloc, sys, order, &grid, &types, workers)
 }
 
 // The verdict on a sequence of these places, if it is legal, by so many workers.
@@ -80,17 +119,14 @@ fn verdict_of<R: Threads + Sync>(
     alloc: Global,
     sys: &System,
     spots: &[Spot],
-    workers: u32,
+    workers: WorkerCount,
 ) -> Result<Option<Verdict>, NoMemory>
-    requires some { 1 ≤ workers }
-    requires few { workers ≤ 16 }
     requires short { length spots.now < 2 ^ 32 }
 {
-    let order = sequence_of(alloc, sys, spots)?;
-    if !is_legal(alloc, sys, &order)? {
-        return Ok(None);
+    match legal_sequence(alloc, sys, spots)? {
+        Some(order) => Ok(Some(verdict_by(rt, alloc, sys, &order, workers)?)),
+        None => Ok(None),
     }
-    Ok(Some(verdict_by(rt, alloc, sys, &order, workers)?))
 }
 
 const CLIPPED: Verdict = Verdict::NotTerminal {
@@ -129,6 +165,7 @@ fn is_judged_so<R: Threads + Sync>(
 {
     let sys = system(alloc, text)?;
     for workers in [1, 3, 16] {
+        let workers = WorkerCount::new(workers);
         if verdict_of(rt, alloc, &sys, spots, workers)? != Some(verdict) {
             return Ok(false);
         }
@@ -146,6 +183,80 @@ fn judges_sequences(rt: HostRuntime) -> Result<(), Fail> {
     Ok(())
 }
 
+// Whether the places of a chain that grows eastward have their input sides in the west, and their
+// output sides in the east.
+fn has_chain_sides(alloc: Global, sys: &System, chain: &Sequence) -> Result<bool, NoMemory>
+    requires fits { Fits sys.now chain.now }
+    requires legal { IsLegal sys.now chain.now }
+{
+    let sides = inputs(alloc, sys, chain)?;
+    Ok(are_chain_sides(&sides, chain.len()))
+}
+
+// Whether these are the sides of such a chain of so many places.
+fn are_chain_sides(sides: &SideSets<'_>, count: usize) -> bool
+    requires { length sides.now.outputs ≡ count }
+{
+    for index in 0..count {
+        let begins = index == 0;
+        let ends = index + 1 == count;
+        if sides.input(index, Side::West) == begins || sides.output(index, Side::East) == ends {
+            return false;
+        }
+        if sides.input(index, Side::East) || sides.output(index, Side::West) {
+            return false;
+        }
+    }
+    true
+}
+
+#[test]
+fn sides_of_a_chain(rt: HostRuntime) -> Result<(), Fail> {
+    let sys = system(rt.alloc(), CHAIN)?;
+    let is_so = match legal_sequence(rt.alloc(), &sys, &[S, B, D])? {
+        Some(chain) => has_chain_sides(rt.alloc(), &sys, &chain)?,
+        None => false,
+    };
+    assert!(rt; is_so);
+    Ok(())
+}
+
+// What a legal sequence grows into by a locally deterministic one.
+fn extended(
+    alloc: Global,
+    sys: &System,
+    order: &Sequence,
+    beginning: &Sequence,
+) -> Result<Sequence, NoMemory>
+    requires deterministic { IsLocallyDeterministic sys.now order.now }
+    requires order { IsLegal sys.now order.now }
+    requires beginning { IsLegal sys.now beginning.now }
+    requires fits { Fits sys.now order.now }
+{
+    law_part(sys, order, beginning);
+    let whole = law_extends(alloc, sys, order, beginning)?;
+    law_same_verdict(sys, &whole, order);
+    Ok(whole)
+}
+
+// The same, if that one is locally deterministic.
+fn extended_by(
+    alloc: Global,
+    sys: &System,
+    order: &Sequence,
+    beginning: &Sequence,
+) -> Result<Option<Sequence>, NoMemory>
+    requires order { IsLegal sys.now order.now }
+    requires beginning { IsLegal sys.now beginning.now }
+    requires fits { Fits sys.now order.now }
+    requires short { length order.now < 2 ^ 32 }
+{
+    match verdict_on(alloc, sys, order)? {
+        Verdict::Yes => Ok(Some(extended(alloc, sys, order, beginning)?)),
+        _ => Ok(None),
+    }
+}
+
 // What a beginning grows into by an order, where that is locally deterministic.
 fn grown(
     alloc: Global,
@@ -156,20 +267,13 @@ fn grown(
     requires order { length order.now < 2 ^ 32 }
     requires beginning { length beginning.now < 2 ^ 32 }
 {
-    let a = sequence_of(alloc, sys, order)?;
-    let b = sequence_of(alloc, sys, beginning)?;
-    if !is_legal(alloc, sys, &a)? || !is_legal(alloc, sys, &b)? {
+    let Some(full) = legal_sequence(alloc, sys, order)? else {
         return Ok(None);
-    }
-    match verdict_on(alloc, sys, &a)? {
-        Verdict::Yes => {
-            law_part(sys, &a, &b);
-            let whole = law_extends(alloc, sys, &a, &b)?;
-            law_same_verdict(sys, &whole, &a);
-            Ok(Some(whole))
-        }
-        _ => Ok(None),
-    }
+    };
+    let Some(begun) = legal_sequence(alloc, sys, beginning)? else {
+        return Ok(None);
+    };
+    extended_by(alloc, sys, &full, &begun)
 }
 
 // Orders, beginnings, and what they grow into by these orders.

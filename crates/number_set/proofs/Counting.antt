@@ -2,8 +2,7 @@
 use Rattle.std.proofs.Common.{◌≡◌, ◌≢◌, ◌↔◌, ℕ, zero, suc, ◌+◌, ◌<◌, ◌≤◌, inl, inr, arith}
 use Rattle.std.proofs.lemmas.Bool.{cases_eq}
 use Rattle.std.proofs.lemmas.Nat.Bits.{bit_at-lt}
-use Rattle.number_set.specs.Bits.{bit_of}
-use Rattle.number_set.specs.Numbers.{count_below, Numbers, IsIn, Adds, Removes}
+use Rattle.number_set.specs.Numbers.{bit_of, count_below, Numbers, IsIn, Adds, Removes}
 
 bit_within : (s : Numbers) (n : ℕ) → bit_of s.words n < 2
 bit_within s n = bit_at-lt _ _

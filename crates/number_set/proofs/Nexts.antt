@@ -5,8 +5,8 @@ use Rattle.std.proofs.lemmas.Bool.{cases_eq, cases_lt}
 use Rattle.std.proofs.lemmas.Nat.Bits.{bit_at-zero, bit_at-trailing_zeros, bit_at_above}
 use Rattle.std.proofs.lemmas.Nat.{shr-shr}
 use Rattle.std.proofs.Math.Nat.{div-le_self}
-use Rattle.number_set.specs.Bits.{bit_of, IsLowestInWord, Summarizes, IsNextInWord, NoneInWordAfter, IsWordAfter, NoWordAfter, IsNextBit, NoBitAfter}
-use Rattle.number_set.specs.Numbers.{Numbers, IsLeastFrom}
+use Rattle.number_set.specs.Numbers.{bit_of, Numbers, IsLeastFrom}
+use Rattle.number_set.specs.Inner.Bits.{IsLowestInWord, Summarizes, IsNextInWord, NoneInWordAfter, IsWordAfter, NoWordAfter, IsNextBit, NoBitAfter}
 use Rattle.number_set.proofs.Words.{some_of_bit}
 
 -- a bit of a word that was shifted

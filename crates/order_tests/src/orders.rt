@@ -3,15 +3,15 @@ ghost use Rattle.std.specs.Prelude.{◌≡◌, IfOk};
 ghost use Rattle.atam.specs.Assembly.{Fits};
 
 use assembly::{Grid, Sequence};
-use frontier_seat::{RngChooser, fill_least_first};
-use grow_workers::grow_in_order;
-use rand_pcg::Lcg64Xsh32;
+use fan_out::WorkerCount;
+use grow_workers::grow_in_order_by_index;
 use replay_order::{ReplayStop, replay, replay_by};
 use site_table::Grown;
 use std::alloc::Global;
 use std::test::Fail;
 use std::thread::Threads;
 use tile_system::{NoMemory, Placed, System};
+use type_index::TypeIndex;
 use worked_systems::{
     CHAIN, CountingGate, FLIPPER, FULL, LIMITS, MISMATCH, NULL_GLUES, RIVALS, SIERPINSKI, SINGLE,
     SMALL_COUNTER, SQUARE, WIDE, system,
@@ -62,8 +62,9 @@ fn grown_in_order(alloc: Global, sys: &System) -> Result<(Grown, Sequence, bool)
     ensures fits { IfOk result (λ r. Fits sys.now r.0.grid.tiles) }
 {
     let gate = CountingGate::make();
-    let (grown, order) = grow_in_order(alloc, sys, &gate)?;
-    let _area = grown.grid().area();
+    let types = TypeIndex::build(alloc, sys)?;
+    let (grown, order) = grow_in_order_by_index(alloc, sys, &types, &gate)?;
+    grown.grid().recall_sites();
     Ok((grown, order, gate.saw_each_once(1)))
 }
 
@@ -79,6 +80,7 @@ fn is_found<R: Threads + Sync>(
     requires fits { Fits sys.now grid.now.tiles }
 {
     for workers in [1, 2, 3, 4, 16] {
+        let workers = WorkerCount::new(workers);
         let found = replay_by(rt, alloc, sys, grid, workers)?;
         if !are_same(&found, order) {
             return Ok(false);
@@ -87,18 +89,14 @@ fn is_found<R: Threads + Sync>(
     Ok(are_same(&replay(alloc, sys, grid)?, order))
 }
 
-// Whether any number of workers find the order in which the system grows by one, with a table and
-// without.
+// Whether any number of workers find the order in which the system grows by one.
 fn orders_agree<R: Threads + Sync>(
     rt: &R,
     alloc: Global,
     sys: &System,
 ) -> Result<bool, ReplayStop> {
     let (grown, order, came) = grown_in_order(alloc, sys)?;
-    let mut chooser = RngChooser::make(Lcg64Xsh32::new(0, 0));
-    let (filled, alone) = fill_least_first(alloc, sys, &mut chooser)?;
-    let is_same = are_same(&alone, &order) && filled.count() == grown.grid().count();
-    Ok(came && is_same && is_found(rt, alloc, sys, grown.grid(), &order)?)
+    Ok(came && is_found(rt, alloc, sys, grown.grid(), &order)?)
 }
 
 #[test]

@@ -12,7 +12,7 @@ use Rattle.atam.proofs.Lists.{Contains-here, Contains-there}
 use Rattle.design.specs.TileSets.{IsTileSet}
 use Rattle.design.proofs.Listings.{IsNumbered, numbered_at, numbered-then, numbered-range, numbered-map, numbered-pairs, numbered-kept, range-has, pairs-has, Contains-map, Contains-filter, Each, each-append, each-has, each-map, each-range, each-pairs, length-pairs_from, length-filter_at_most}
 use Rattle.design.proofs.Rows.{is_less, not_less}
-use Rattle.turing_compile.proofs.MachineFacts.{some_is}
+use Rattle.machine_text.proofs.Finding.{some_is}
 use Rattle.quadrant_compile.specs.declared.rule.Answer.{Answer}
 use Rattle.quadrant_compile.specs.declared.tile.Kind.{Kind}
 use Rattle.quadrant_compile.specs.declared.tile.Kind.TheVariants.{Corner, Bottom, Left, Cell}

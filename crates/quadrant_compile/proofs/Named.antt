@@ -6,7 +6,7 @@ use Rattle.atam.specs.TileSystem.{IsName, IsValid}
 use Rattle.design.specs.TileSets.{IsWithinLimits, cell_site}
 use Rattle.design.proofs.Validity.{is_valid}
 use Rattle.tile_table.proofs.Names.{numbered_name, numbered_apart}
-use Rattle.turing_compile.proofs.ShortNames.{IsShort, short_name, one_name, rest-short, rest-pair, named, named_byte, one_pair}
+use Rattle.machine_text.proofs.ShortNames.{IsShort, short_name, one_name, rest-short, rest-pair, named, named_byte, one_pair}
 use Rattle.quadrant_compile.specs.declared.tile.Kind.{Kind}
 use Rattle.quadrant_compile.specs.declared.tile.Kind.TheVariants.{Corner, Bottom, Left, Cell}
 use Rattle.quadrant_compile.specs.declared.tile.Label.{Label}

@@ -7,8 +7,7 @@ use Rattle.std.proofs.lemmas.Option.{same_Some, none-some}
 use Rattle.std.proofs.lemmas.List.{get_or_past}
 use Rattle.std.proofs.lemmas.List.Elements.{All-get_or}
 use Rattle.atam.proofs.Lists.{some_or_none}
-use Rattle.machine_text.proofs.Finding.{find_has, find_passes}
-use Rattle.turing_compile.proofs.MachineFacts.{some_is}
+use Rattle.machine_text.proofs.Finding.{some_is, find_has, find_passes}
 use Rattle.quadrant_compile.specs.declared.rule.Answer.{Answer}
 use Rattle.quadrant_compile.specs.declared.rule.Rule.{Rule}
 use Rattle.quadrant_compile.specs.Weaves.{Weave, IsWeave, IsRuleOver, is_for, answer_of, bottom_symbol, left_symbol}

@@ -1,8 +1,8 @@
 // A quadrant in the making.
 ghost use Rattle.std.specs.Prelude.{◌≡◌, ◌+◌, [], length, nat_le, IfOk};
 
-use crate::name_list::NameList;
 use crate::rule_list::RuleList;
+use machine_text::NameList;
 use std::alloc::Global;
 use tile_system::NoMemory;
 

@@ -2,11 +2,11 @@
 ghost use Rattle.std.specs.Prelude.{◌≡◌, ◌<◌, ◌≤◌, length, slice_get, Some, IfOk, IfSome};
 ghost use Rattle.quadrant_compile.specs.Weaves.{IsWeave, answer_of, bottom_symbol, left_symbol, ruled_pairs};
 
-use crate::name_list::NameList;
 use crate::parts::QuadrantParts;
 use crate::rule::Answer;
 use crate::rule_list::RuleList;
 use crate::ruled::ruled_pairs;
+use machine_text::NameList;
 use std::alloc::Global;
 use std::marker::Model;
 use tile_system::NoMemory;

@@ -1,9 +1,5 @@
 // What the fields of a line make of a quadrant in the making.
-ghost use Rattle.std.specs.Prelude.{◌≡◌, ◌≤◌, ◌<◌, List, true, None, length, IfOk, drop};
-ghost use Rattle.tile_io.specs.Checks.{declared, referred};
-ghost use Rattle.machine_text.specs.Machines.{is_short_name};
-ghost use Rattle.machine_text.specs.MachineText.{references};
-ghost use Rattle.machine_text.specs.Inner.SoFar.{Declares, Refers};
+ghost use Rattle.std.specs.Prelude.{◌≡◌, ◌≤◌, ◌<◌, List, true, None, length, IfOk};
 ghost use Rattle.quadrant_compile.specs.declared.limits.TheConstants.{MOST_SYMBOLS};
 ghost use Rattle.quadrant_compile.specs.Weaves.{Weave, answer_among};
 ghost use Rattle.quadrant_compile.specs.WeaveText.{WeaveItem, header_fields, symbol_fields, rule_in, rule_fields, size_fields, bottom_fields, left_fields, weave_of};
@@ -12,10 +8,9 @@ ghost use Rattle.quadrant_compile.specs.Inner.SoFar.{weave_in, Gets};
 
 use crate::limits::LONGEST_SIDE;
 use crate::line_kind::LineKind;
-use crate::name_list::NameList;
 use crate::parts::QuadrantParts;
 use crate::rule::{Answer, Rule};
-use crate::short_name::is_short_name;
+use machine_text::{check_new, find_name, find_names};
 use std::alloc::Global;
 use tile_io::{Cause, LineStop, LineWords, is_word, read_count};
 
@@ -131,7 +126,7 @@ fn take_bottom(alloc: Global, parts: &mut QuadrantParts, words: &LineWords) -> R
     ensures { Gets LineKind.Bottom (bottom_fields (weave_in parts.old) words.now)
         (weave_in parts.old) (weave_in parts.new) result }
 {
-    let symbols = read_symbols(alloc, &parts.symbols, words)?;
+    let symbols = find_names(alloc, &parts.symbols, words)?;
     match parts.bottom.extend_from_slice(symbols.as_slice()) {
         Ok(()) => Ok(()),
         Err(_) => Err(LineStop::NoMemory),
@@ -145,49 +140,9 @@ fn take_left(alloc: Global, parts: &mut QuadrantParts, words: &LineWords) -> Res
     ensures { Gets LineKind.Left (left_fields (weave_in parts.old) words.now)
         (weave_in parts.old) (weave_in parts.new) result }
 {
-    let symbols = read_symbols(alloc, &parts.symbols, words)?;
+    let symbols = find_names(alloc, &parts.symbols, words)?;
     match parts.left.extend_from_slice(symbols.as_slice()) {
         Ok(()) => Ok(()),
         Err(_) => Err(LineStop::NoMemory),
     }
-}
-
-// The symbols that the words of a line behind the first are.
-fn read_symbols(alloc: Global, names: &NameList, words: &LineWords) -> Result<Vec<u32>, LineStop>
-    requires { 2 ≤ length words.now }
-    ensures { Refers (references names.now (drop 1 words.now)) result }
-{
-    let mut symbols = Vec::new(alloc);
-    for index in 1..words.len() {
-        let symbol = find_name(names, words.word(index))?;
-        match symbols.push(symbol) {
-            Ok(()) => {}
-            Err(_) => return Err(LineStop::NoMemory),
-        }
-    }
-    Ok(symbols)
-}
-
-// The number that a name refers to.
-fn find_name(names: &NameList, name: &[u8]) -> Result<u32, Cause>
-    ensures number { result ≡ referred is_short_name names.now name.now }
-    ensures known { IfOk result (λ number. number < length names.now) }
-{
-    if !is_short_name(name) {
-        return Err(Cause::BadName);
-    }
-    names.find(name).ok_or(Cause::UnknownName)
-}
-
-// Whether a name may be declared.
-fn check_new(names: &NameList, name: &[u8]) -> Result<(), Cause>
-    ensures { Declares (declared is_short_name names.now name.now) name.now result }
-{
-    if !is_short_name(name) {
-        return Err(Cause::BadName);
-    }
-    if names.find(name).is_some() {
-        return Err(Cause::DoubleName);
-    }
-    Ok(())
 }

@@ -26,7 +26,7 @@ impl SideGlue {
         requires { IsType sys.now tile }
         ensures { IsGlueOn sys.now (side_glue sys.now tile side) result }
     {
-        let _valid = sys.tau();
+        sys.recall_valid();
         match sys.side(tile, side) {
             None => SideGlue {
                 code: 0,

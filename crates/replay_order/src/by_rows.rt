@@ -15,7 +15,7 @@ use crate::bonds::Bonds;
 use crate::canonical::{holds_seeds, list_span, replay};
 use crate::stop::ReplayStop;
 use assembly::{Grid, PlaceLog, Sequence};
-use fan_out::{Portion, share_numbers};
+use fan_out::{Portion, WorkerCount, share_numbers};
 use std::alloc::Global;
 use std::thread::Threads;
 use tile_system::{NoMemory, Placed, System};
@@ -29,21 +29,19 @@ pub fn replay_by<R: Threads + Sync>(
     alloc: Global,
     sys: &System,
     grid: &Grid,
-    workers: u32,
+    workers: WorkerCount,
 ) -> Result<Sequence, ReplayStop>
     requires area { grid.now.area ≡ sys.now.area }
     requires fits { Fits sys.now grid.now.tiles }
-    requires some { 1 ≤ workers }
-    requires few { workers ≤ 16 }
     ensures answer { IsReplayAnswer sys.now grid.now.tiles result }
     ensures no_seed_there { (result ≡ Err ReplayStop.NoSeedThere) ↔
         LacksSeed sys.now grid.now.tiles }
     ensures producible { result ≢ Err ReplayStop.NoMemory →
         IsOk result ↔ IsProducible sys.now grid.now.tiles }
 {
-    let _valid = sys.tau();
-    let _distinct = grid.area();
-    if workers > 1 && holds_seeds(sys, grid) {
+    sys.recall_valid();
+    grid.recall_sites();
+    if workers.get() > 1 && holds_seeds(sys, grid) {
         if let Some(order) = order_by_rows(rt, alloc, sys, grid, workers)? {
             return Ok(order);
         }
@@ -57,10 +55,9 @@ fn order_by_rows<R: Threads + Sync>(
     alloc: Global,
     sys: &System,
     grid: &Grid,
-    workers: u32,
+    workers: WorkerCount,
 ) -> Result<Option<Sequence>, NoMemory>
     requires can { CanList sys.now grid.now }
-    requires some { 1 ≤ workers }
     ensures { IfOk result (λ found. IfSome found (IsWholeOrder sys.now grid.now.tiles)) }
 {
     let rows = grid.area().height() as usize;

@@ -1,6 +1,6 @@
 // The numbers of the sites that are ready.
 ghost use Rattle.std.specs.Prelude.{◌≡◌, ◌<◌, ℕ, IfSome, IfNone, IfOk};
-ghost use Rattle.replay_order.specs.Inner.ReadyNumbers.{Gains, IsAmong, IsLeastAmong, Loses};
+ghost use Rattle.replay_order.specs.Inner.ReadyNumbers.{IsAmong, IsLeastAmong, Loses, Receives};
 
 use number_set::NumberSet;
 use std::alloc::Global;
@@ -41,7 +41,7 @@ impl ReadyNumbers {
     pub(crate) fn insert(&mut self, number: usize)
         requires { number < self.old.others.bound }
         ensures bound { self.new.others.bound ≡ self.old.others.bound }
-        ensures gains { Gains self.old self.new number }
+        ensures receives { Receives self.old self.new number }
     {
         match self.least {
             None => self.insert_alone(number),
@@ -55,7 +55,7 @@ impl ReadyNumbers {
         requires within { number < self.old.others.bound }
         requires none { self.old.least ≡ None }
         ensures bound { self.new.others.bound ≡ self.old.others.bound }
-        ensures gains { Gains self.old self.new number }
+        ensures receives { Receives self.old self.new number }
     {
         if let Some(least) = self.others.least() {
             if least <= number {
@@ -72,7 +72,7 @@ impl ReadyNumbers {
         requires within { number < self.old.others.bound }
         requires least { self.old.least ≡ Some least }
         ensures bound { self.new.others.bound ≡ self.old.others.bound }
-        ensures gains { Gains self.old self.new number }
+        ensures receives { Receives self.old self.new number }
     {
         if number < least {
             self.others.insert(least);

@@ -22,7 +22,7 @@ pub use laws::{
     law_schedule_one_of_two,
 };
 pub use legality::print_legality;
-pub use places::print_places;
+pub use places::{PlacePieces, print_places};
 pub use reader::{read_grid, read_grid_once, read_sequence, read_sequence_once};
 pub use schedule::read_events;
 pub use seen::{print_replies, print_seen, put_seen};

@@ -1,6 +1,6 @@
 // The lines of a sequence, in large pieces.
-ghost use Rattle.std.specs.Prelude.{All};
-ghost use Rattle.atam.specs.TileSystem.{IsType, IsValid};
+ghost use Rattle.std.specs.Prelude.{All, ◌≡◌};
+ghost use Rattle.atam.specs.TileSystem.{IsType};
 ghost use Rattle.tile_io.specs.Prints.{Prints};
 ghost use Rattle.tile_io.specs.Chunks.{PassesOn};
 ghost use Rattle.seq_text.specs.GrowthLines.{place_line, place_lines};
@@ -8,63 +8,88 @@ ghost use Rattle.seq_text.specs.GrowthLines.{place_line, place_lines};
 use crate::line_ends::LineEnds;
 use crate::number_texts::NumberTexts;
 use assembly::Sequence;
+use std::marker::Model;
 use tile_io::{Chunk, Failed, Sink};
 use tile_system::{Place, System};
 
 // The most bytes that a line may have: a keyword, two numbers of 32 bits and a name, behind each a space or the newline.
 const LONGEST_PLACE_LINE: usize = 5 + 1 + 11 + 1 + 11 + 1 + 40 + 1;
 
+/// The pieces of `place` lines: the names of a system's first types, and numbers as they were last
+/// written, kept ready on the stack.
+#[derive(Drop)]
+pub struct PlacePieces<'a> {
+    ends: LineEnds<'a>,
+    numbers: NumberTexts,
+}
+
+impl<'a> Model for PlacePieces<'a> {
+    ghost use Rattle.atam.specs.TileSystem.{TileSystem, IsValid};
+
+    ghost Value = { TileSystem };
+
+    ghost view = { λ pieces. pieces.ends };
+
+    ghost invariant = { λ pieces. IsValid pieces.ends };
+}
+
+impl<'a> PlacePieces<'a> {
+    pub fn new(sys: &'a System) -> PlacePieces<'a>
+        ensures { result ≡ sys.now }
+    {
+        sys.recall_valid();
+        PlacePieces {
+            ends: LineEnds::new(sys),
+            numbers: NumberTexts::new(),
+        }
+    }
+
+    /// Adds the `place` line of one tile to what is held.
+    #[inline(always)]
+    pub fn put<K: Sink>(
+        &mut self,
+        place: Place,
+        chunk: &mut Chunk,
+        sink: &mut K,
+    ) -> Result<(), Failed>
+        requires { IsType self.old place.tile }
+        ensures same { self.new ≡ self.old }
+        ensures passes { PassesOn K.written K.faults sink.old sink.new chunk.old chunk.new result
+            (place_line self.old place) }
+    {
+        chunk.make_room(sink, LONGEST_PLACE_LINE)?;
+        chunk.hold_front(b"place   ", 6);
+        self.numbers.hold(place.site.x, chunk);
+        self.numbers.hold(place.site.y, chunk);
+        self.ends.hold(place.tile, chunk);
+        Ok(())
+    }
+}
+
 /// Writes the `place` line of each tile, in order. It takes no memory.
 pub fn print_places<K: Sink>(sys: &System, places: &Sequence, sink: &mut K) -> Result<(), Failed>
     requires { All (λ p. IsType sys.now p.tile) places.now }
     ensures { Prints K.written K.faults sink.old sink.new result (place_lines sys.now places.now) }
 {
-    // a system is valid
-    let _tau = sys.tau();
-    let ends = LineEnds::new(sys);
-    let mut numbers = NumberTexts::new();
+    let mut pieces = PlacePieces::new(sys);
     let mut chunk = Chunk::new();
-    put_places(places, &ends, &mut numbers, &mut chunk, sink)?;
+    put_places(places, &mut pieces, &mut chunk, sink)?;
     chunk.flush(sink)
 }
 
 // Adds the lines to what is held.
 fn put_places<K: Sink>(
     places: &Sequence,
-    ends: &LineEnds,
-    numbers: &mut NumberTexts,
+    pieces: &mut PlacePieces,
     chunk: &mut Chunk,
     sink: &mut K,
 ) -> Result<(), Failed>
-    requires valid { IsValid ends.now }
-    requires known { All (λ p. IsType ends.now p.tile) places.now }
+    requires { All (λ p. IsType pieces.old p.tile) places.now }
     ensures { PassesOn K.written K.faults sink.old sink.new chunk.old chunk.new result
-        (place_lines ends.now places.now) }
+        (place_lines pieces.old places.now) }
 {
     for index in 0..places.len() {
-        put_place(places.get(index), ends, numbers, chunk, sink)?;
+        pieces.put(places.get(index), chunk, sink)?;
     }
-    Ok(())
-}
-
-// Adds the line of one tile.
-#[inline(always)]
-fn put_place<K: Sink>(
-    place: Place,
-    ends: &LineEnds,
-    numbers: &mut NumberTexts,
-    chunk: &mut Chunk,
-    sink: &mut K,
-) -> Result<(), Failed>
-    requires valid { IsValid ends.now }
-    requires known { IsType ends.now place.tile }
-    ensures { PassesOn K.written K.faults sink.old sink.new chunk.old chunk.new result
-        (place_line ends.now place) }
-{
-    chunk.make_room(sink, LONGEST_PLACE_LINE)?;
-    chunk.hold_front(b"place   ", 6);
-    numbers.hold(place.site.x, chunk);
-    numbers.hold(place.site.y, chunk);
-    ends.hold(place.tile, chunk);
     Ok(())
 }

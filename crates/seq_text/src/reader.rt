@@ -325,7 +325,7 @@ fn read_tile(sys: &System, column: &[u8], row: &[u8], name: &[u8]) -> Result<Pla
     ensures known { IfOk result (λ p. IsType sys.now p.tile) }
 {
     // a system is valid
-    let _area = sys.area();
+    sys.recall_valid();
     match sys.find_type(name) {
         Some(tile) => {
             let site = read_site(column, row)?;

@@ -2,7 +2,7 @@
 use Rattle.std.proofs.Common.{◌≡◌, ◌<◌, ◌+◌, ◌==◌, ℕ, Bool, true, false, cond, refl, subst, slice_index, get_or, replicate, inl, inr, arith}
 use Rattle.std.proofs.lemmas.Bool.{eq-eqb, cases_lt}
 use Rattle.std.proofs.lemmas.List.{get_or-replicate, get_or_past, length-replicate}
-use Rattle.site_table.specs.Tallies.{TallyValue, tallied}
+use Rattle.site_table.specs.Inner.Tallies.{TallyValue, tallied}
 
 -- of so many zeros each is zero
 pub zeros : (count n : ℕ) → ◌≡◌ {A = ℕ} (get_or (replicate count 0) n 0) 0

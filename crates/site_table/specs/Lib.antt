@@ -1,7 +1,7 @@
 pub mod Words
-pub mod Tallies
 pub mod Views
 pub mod Rule
 pub mod Plays
 pub mod Seats
 pub mod Laws
+pub mod Inner

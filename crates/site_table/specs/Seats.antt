@@ -60,20 +60,20 @@ pub record GrownValue : Type 0 where
   pub won : List ℕ
 
 -- What a table leaves beside a seat when it is closed.
-pub record Closes (sys : TileSystem) (v : ScoutState) (out : GrownValue) : Type 0 where
-  pub area : out.grid.area ≡ sys.area
-  pub distinct : HasDistinctSites out.grid.tiles
-  pub inside : All (λ p. InBox sys.area p.site) out.grid.tiles
-  pub producible : IsProducible sys out.grid.tiles
-  pub seen : IsPartOf v.seen out.grid.tiles
+pub record Closes (sys : TileSystem) (v : ScoutState) (grown : GrownValue) : Type 0 where
+  pub area : grown.grid.area ≡ sys.area
+  pub distinct : HasDistinctSites grown.grid.tiles
+  pub inside : All (λ p. InBox sys.area p.site) grown.grid.tiles
+  pub producible : IsProducible sys grown.grid.tiles
+  pub seen : IsPartOf v.seen grown.grid.tiles
   -- One legal sequence has just the grid's placements, and the seat's scout is one of it: it lists the places of each number of the seat in the order of its mine.
   pub tiles : List PlacedTile
   pub history : IsHistory sys tiles
-  pub same : SamePlacements (places tiles) out.grid.tiles
+  pub same : SamePlacements (places tiles) grown.grid.tiles
   pub scout : ScoutInvariant sys tiles v
-  pub numbers : length out.won ≡ 64
-  pub counts : (n : ℕ) → n < 64 → slice_index out.won n ≡ length (placed_by n tiles)
+  pub numbers : length grown.won ≡ 64
+  pub counts : (n : ℕ) → n < 64 → slice_index grown.won n ≡ length (placed_by n tiles)
   -- a number's count is that of the own tiles of the seat that owns it
-  pub own_counts : (n : ℕ) → Owns v.owned n → slice_index out.won n ≡ length (placed_by n v.mine)
+  pub own_counts : (n : ℕ) → Owns v.owned n → slice_index grown.won n ≡ length (placed_by n v.mine)
   -- who owns all numbers has won all tiles but the seeds
-  pub whole : v.owned ≡ 2 ^ 64 - 1 → SamePlacements (sys.seeds ++ places v.mine) out.grid.tiles
+  pub whole : v.owned ≡ 2 ^ 64 - 1 → SamePlacements (sys.seeds ++ places v.mine) grown.grid.tiles

@@ -6,7 +6,7 @@ ghost use Rattle.atam.specs.declared.site.Site.{Site};
 ghost use Rattle.atam.specs.Placements.{tile_at, SamePlacements, HasDistinctSites};
 ghost use Rattle.assembly.specs.Cells.{cell_count, site_at};
 ghost use Rattle.assembly.specs.Grids.{place_of};
-ghost use Rattle.site_table.specs.Tallies.{tallied};
+ghost use Rattle.site_table.specs.Inner.Tallies.{tallied};
 ghost use Rattle.site_table.specs.Words.{is_by, spelled};
 
 use crate::table::type_of;
@@ -104,7 +104,7 @@ pub(crate) fn gather(closed: &Closed<(), Global>, area: BoxArea, into: Grid) -> 
         take_word(&area, index, closed.word(index), &mut into, &mut won);
         index += 1;
     }
-    let _ = into.area();
+    into.recall_sites();
     let won = won.into_counts();
     Grown { grid: into, won }
 }

@@ -33,6 +33,16 @@ impl Model for SiteSeat {
 }
 
 impl SiteSeat {
+    /// Does nothing: its clauses are the facts that each seat owns a number, and is a scout of some
+    /// growth of its system, for the proof of a caller.
+    #[inline(always)]
+    pub fn recall_possible(&self)
+        ensures some_number { 0 < self.now.scout.owned }
+        ensures possible { IsPossible self.now.sys self.now.scout }
+    {
+        let _ = &self.owned;
+    }
+
     /// The least number owned.
     #[inline(always)]
     pub fn number(&self) -> u32

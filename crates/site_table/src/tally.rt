@@ -1,6 +1,6 @@
 // How many tiles each number has placed, as they are read.
 ghost use Rattle.std.specs.Prelude.{◌≡◌, ◌+◌, ◌<◌, ◌≤◌, ◌==◌, ◌^◌, ℕ, cond, length, slice_index};
-ghost use Rattle.site_table.specs.Tallies.{tallied};
+ghost use Rattle.site_table.specs.Inner.Tallies.{tallied};
 
 use std::marker::Model;
 
@@ -14,7 +14,7 @@ pub(crate) struct Tally {
 }
 
 impl Model for Tally {
-    ghost use Rattle.site_table.specs.Tallies.{TallyValue};
+    ghost use Rattle.site_table.specs.Inner.Tallies.{TallyValue};
 
     ghost Value = { TallyValue };
 

@@ -1,59 +1,82 @@
 // Two seats of one table.
-ghost use Rattle.std.specs.Prelude.{◌≡◌, ◌<◌, ◌-◌, ◌^◌, []};
+ghost use Rattle.std.specs.Prelude.{◌≡◌, ◌<◌, ◌-◌, ◌^◌, true, []};
+ghost use Rattle.atam.specs.Sites.{InBox};
+ghost use Rattle.atam.specs.TileSystem.{IsType};
 ghost use Rattle.atam.specs.Placements.{SamePlacements};
-ghost use Rattle.grow_core.specs.Steps.{IsScoutOf};
+ghost use Rattle.grow_core.specs.Steps.{IsScoutOf, Supports};
 ghost use Rattle.site_table.specs.Seats.{IsSeatOf};
 
 use assembly::Grid;
 use attach_rule::pull;
-use site_table::{Claimed, SiteSeat, SiteTable};
+use site_table::{Claimed, Grown, SiteSeat, SiteTable};
 use std::alloc::Global;
 use std::marker::Brand;
 use std::sync::ledger::{Blank, Ledger};
 use std::test::Fail;
 use std::thread::{self, Threads};
 use tile_io::Steps;
-use tile_system::{Placed, Site, System, TypeId};
+use tile_system::{NoMemory, Placed, Site, System, TypeId};
 use worked_systems::{CHAIN, RIVALS, seeds_of, system};
 
 const BESIDE: Site = Site { x: 1, y: 0 };
 
 const THIRD: Site = Site { x: 2, y: 0 };
 
+// Whether the grid, which is what the seat has seen, supports the tile there.
+fn is_held(
+    sys: &System,
+    table: &SiteTable,
+    seat: &SiteSeat,
+    seen: &Grid,
+    site: Site,
+    tile: TypeId,
+) -> bool
+    requires seat { IsSeatOf table.now seat.now }
+    requires system { table.now.sys ≡ sys.now }
+    requires seen { SamePlacements seat.now.scout.seen seen.now.tiles }
+    requires kind { IsType sys.now tile }
+    requires inside { InBox sys.now.area site }
+    ensures { result ≡ true → Supports table.now.sys seat.now.scout site tile }
+{
+    seat.recall_possible();
+    if pull(sys, seen, site, tile) < sys.tau() {
+        return false;
+    }
+    true
+}
+
 // A claim, where the grid, which is what the seat has seen, supports it.
 fn claim_counted<L: Ledger>(
     sys: &System,
     table: &SiteTable,
-    mut seat: SiteSeat,
+    seat: &mut SiteSeat,
     seen: &Grid,
     site: Site,
     tile: TypeId,
     blank: Blank,
-) -> (SiteSeat, Option<Claimed>)
+) -> Option<Claimed>
     requires blank { (blank.name ≡ L.name) × (blank.parts ≡ L.parts) × (0 < blank.parts) }
-    requires seat { IsSeatOf table.now seat }
+    requires seat { IsSeatOf table.now seat.old }
     requires system { table.now.sys ≡ sys.now }
-    requires seen { SamePlacements seat.scout.seen seen.now.tiles }
-    ensures { IsSeatOf table.now result.0 }
+    requires seen { SamePlacements seat.old.scout.seen seen.now.tiles }
+    ensures { IsSeatOf table.now seat.new }
 {
-    let _owned = seat.owned();
     let area = sys.area();
     if !area.holds(site) || tile.0 >= sys.type_count() {
-        return (seat, None);
+        return None;
     }
-    if pull(sys, seen, site, tile) < sys.tau() {
-        return (seat, None);
+    if !is_held(sys, table, seat, seen, site, tile) {
+        return None;
     }
     let mut steps: Steps<L> = Steps::open(blank);
-    let claimed = table.claim(&mut seat, site, tile, &mut steps);
-    (seat, Some(claimed))
+    Some(table.claim(seat, site, tile, &mut steps))
 }
 
 // It picks the ledger.
 fn claim_alone(
     sys: &System,
     table: &SiteTable,
-    seat: SiteSeat,
+    mut seat: SiteSeat,
     seen: &Grid,
     tile: TypeId,
 ) -> (SiteSeat, Option<Claimed>)
@@ -62,7 +85,8 @@ fn claim_alone(
     requires seen { SamePlacements seat.scout.seen seen.now.tiles }
     ensures { IsSeatOf table.now result.0 }
 {
-    claim_counted::<Brand>(sys, table, seat, seen, BESIDE, tile, Blank::new(1))
+    let claimed = claim_counted::<Brand>(sys, table, &mut seat, seen, BESIDE, tile, Blank::new(1));
+    (seat, claimed)
 }
 
 // The old seat, which has seen the seeds, and a new one.
@@ -110,23 +134,42 @@ fn race<R: Threads>(
     (table.join(first, second), one, other)
 }
 
+// The type whose claim won, if one of the two answers tells that it won and the other that its type
+// stands there.
+fn winner_of(one: Option<Claimed>, other: Option<Claimed>) -> Option<TypeId> {
+    match (one, other) {
+        (Some(Claimed::Won), Some(Claimed::Held(TypeId(1)))) => Some(TypeId(1)),
+        (Some(Claimed::Held(TypeId(2))), Some(Claimed::Won)) => Some(TypeId(2)),
+        _ => None,
+    }
+}
+
+// A race from the seeds on: who won, and what the table leaves.
+fn raced<R: Threads>(
+    rt: &R,
+    alloc: Global,
+    sys: &System,
+) -> Result<(Option<TypeId>, Grown), NoMemory> {
+    let mut seen = seeds_of(alloc, sys)?;
+    let (table, seat) = SiteTable::make(alloc, sys)?;
+    let (first, second) = split(&table, seat, &seen);
+    let (seat, one, other) = race(rt, sys, &table, first, second, &seen);
+    seen.clear();
+    Ok((winner_of(one, other), table.close(seat, seen)))
+}
+
+// Whether the winner stands beside the seed, and its seat's number alone has won.
+fn is_won_by(grown: &Grown, winner: TypeId) -> bool {
+    let won = (grown.won(0), grown.won(63));
+    let wanted = if winner == TypeId(1) { (1, 0) } else { (0, 1) };
+    grown.grid().count() == 2 && grown.grid().at(BESIDE) == Some(winner) && won == wanted
+}
+
 #[test]
 fn two_threads_race_for_a_site(rt: HostRuntime) -> Result<(), Fail> {
     let sys = system(rt.alloc(), RIVALS)?;
-    let mut seen = seeds_of(rt.alloc(), &sys)?;
-    let (table, seat) = SiteTable::make(rt.alloc(), &sys)?;
-    let (first, second) = split(&table, seat, &seen);
-    let (seat, one, other) = race(&rt, &sys, &table, first, second, &seen);
-    let first_won = one == Some(Claimed::Won) && other == Some(Claimed::Held(TypeId(1)));
-    let second_won = other == Some(Claimed::Won) && one == Some(Claimed::Held(TypeId(2)));
-    assert!(rt; first_won != second_won);
-    seen.clear();
-    let grown = table.close(seat, seen);
-    assert_eq!(rt; grown.grid().count(), 2);
-    let winner = if first_won { TypeId(1) } else { TypeId(2) };
-    assert_eq!(rt; grown.grid().at(BESIDE), Some(winner));
-    let won = (grown.won(0), grown.won(63));
-    assert_eq!(rt; won, if first_won { (1, 0) } else { (0, 1) });
+    let (winner, grown) = raced(&rt, rt.alloc(), &sys)?;
+    assert!(rt; winner.is_some_and(|winner| is_won_by(&grown, winner)));
     Ok(())
 }
 
@@ -142,16 +185,27 @@ fn look_at(sys: &System, table: &SiteTable, seat: &mut SiteSeat, site: Site) -> 
     table.look(seat, site)
 }
 
+// The answer to a claim at the site beside the seed, what another seat then sees there and at the
+// third site, and the numbers of both seats.
+fn read_back(
+    alloc: Global,
+    sys: &System,
+) -> Result<(Option<Claimed>, [Option<TypeId>; 2], [u32; 2]), NoMemory> {
+    let seeds = seeds_of(alloc, sys)?;
+    let (table, seat) = SiteTable::make(alloc, sys)?;
+    let (first, mut second) = split(&table, seat, &seeds);
+    let (first, claimed) = claim_alone(sys, &table, first, &seeds, TypeId(1));
+    let beside = look_at(sys, &table, &mut second, BESIDE);
+    let third = look_at(sys, &table, &mut second, THIRD);
+    Ok((claimed, [beside, third], [first.number(), second.number()]))
+}
+
 #[test]
 fn a_claim_is_read_back(rt: HostRuntime) -> Result<(), Fail> {
     let sys = system(rt.alloc(), CHAIN)?;
-    let seeds = seeds_of(rt.alloc(), &sys)?;
-    let (table, seat) = SiteTable::make(rt.alloc(), &sys)?;
-    let (first, mut second) = split(&table, seat, &seeds);
-    let (first, claimed) = claim_alone(&sys, &table, first, &seeds, TypeId(1));
+    let (claimed, seen, numbers) = read_back(rt.alloc(), &sys)?;
     assert_eq!(rt; claimed, Some(Claimed::Won));
-    assert_eq!(rt; look_at(&sys, &table, &mut second, BESIDE), Some(TypeId(1)));
-    assert_eq!(rt; look_at(&sys, &table, &mut second, THIRD), None);
-    assert_eq!(rt; (first.number(), second.number()), (0, 63));
+    assert!(rt; seen == [Some(TypeId(1)), None]);
+    assert!(rt; numbers == [0, 63]);
     Ok(())
 }

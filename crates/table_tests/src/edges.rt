@@ -1,9 +1,12 @@
 // A scout at the edges of its bands.
-ghost use Rattle.std.specs.Prelude.{◌≡◌, ◌<◌};
+ghost use Rattle.std.specs.Prelude.{◌≡◌, ◌<◌, IfOk};
+ghost use Rattle.atam.specs.Placements.{SamePlacements};
+ghost use Rattle.site_table.specs.Seats.{IsSeatOf};
 
 use crate::claims::split;
+use assembly::Grid;
 use frontier_seat::{First, Scout};
-use site_table::SiteTable;
+use site_table::{SiteSeat, SiteTable};
 use std::alloc::Global;
 use std::marker::Brand;
 use std::sync::ledger::{Blank, Ledger};
@@ -12,35 +15,80 @@ use tile_io::Steps;
 use tile_system::{NoMemory, System};
 use worked_systems::{WIDE, seeds_of, system};
 
-// How many sites the second of two scouts has seen once the first has filled the box, how many after
-// a look at the edges of its bands, and whether it has sites of its own then.
-fn edges_counted<L: Ledger>(
+// A scout of the seat.
+fn scout_of<'i>(
     alloc: Global,
     sys: &System,
-    blank: Blank,
-) -> Result<(u32, u32, bool), NoMemory>
-    requires blank { (blank.name ≡ L.name) × (blank.parts ≡ L.parts) × (0 < blank.parts) }
+    seat: SiteSeat,
+    seen: Grid,
+) -> Result<Scout<'i>, NoMemory>
+    requires system { seat.sys ≡ sys.now }
+    requires area { seen.area ≡ sys.now.area }
+    requires seen { SamePlacements seat.scout.seen seen.tiles }
+    ensures { IfOk result (λ scout. scout.seat ≡ seat) }
 {
+    match Scout::make(alloc, sys, seat, seen) {
+        Ok(scout) => Ok(scout),
+        Err(_parts) => Err(NoMemory),
+    }
+}
+
+// The scout fills the box.
+fn fill_counted<L: Ledger>(sys: &System, table: &SiteTable, scout: &mut Scout<'_>, blank: Blank)
+    requires blank { (blank.name ≡ L.name) × (blank.parts ≡ L.parts) × (0 < blank.parts) }
+    requires seat { IsSeatOf table.now scout.old.seat }
+    requires system { table.now.sys ≡ sys.now }
+{
+    let mut steps: Steps<L> = Steps::open(blank);
+    scout.sweep(sys, table, &mut First, &mut steps);
+}
+
+// A scout of the seat fills the box. It picks the ledger.
+fn fill(
+    alloc: Global,
+    sys: &System,
+    table: &SiteTable,
+    seat: SiteSeat,
+    seen: Grid,
+) -> Result<(), NoMemory>
+    requires seat { IsSeatOf table.now seat }
+    requires system { table.now.sys ≡ sys.now }
+    requires area { seen.area ≡ sys.now.area }
+    requires seen { SamePlacements seat.scout.seen seen.tiles }
+{
+    let mut scout = scout_of(alloc, sys, seat, seen)?;
+    fill_counted::<Brand>(sys, table, &mut scout, Blank::new(1));
+    Ok(())
+}
+
+// How many sites a scout of the seat has seen before and after a look at the edges of its bands, and
+// whether it has sites of its own then.
+fn looked(
+    alloc: Global,
+    sys: &System,
+    table: &SiteTable,
+    seat: SiteSeat,
+    seen: Grid,
+) -> Result<(u32, u32, bool), NoMemory>
+    requires seat { IsSeatOf table.now seat }
+    requires system { table.now.sys ≡ sys.now }
+    requires area { seen.area ≡ sys.now.area }
+    requires seen { SamePlacements seat.scout.seen seen.tiles }
+{
+    let mut scout = scout_of(alloc, sys, seat, seen)?;
+    let before = scout.seen().count();
+    scout.see_edges(sys, table, 1, 2);
+    Ok((before, scout.seen().count(), scout.has_own()))
+}
+
+// What the second of two scouts tells once the first has filled the box.
+fn edges(alloc: Global, sys: &System) -> Result<(u32, u32, bool), NoMemory> {
     let seeds = seeds_of(alloc, sys)?;
     let copy = seeds.copy()?;
     let (table, seat) = SiteTable::make(alloc, sys)?;
     let (first, second) = split(&table, seat, &seeds);
-    let Ok(mut one) = Scout::make(alloc, sys, first, seeds) else {
-        return Err(NoMemory);
-    };
-    let Ok(mut other) = Scout::make(alloc, sys, second, copy) else {
-        return Err(NoMemory);
-    };
-    let mut steps: Steps<L> = Steps::open(blank);
-    one.sweep(sys, &table, &mut First, &mut steps);
-    let before = other.seen().count();
-    other.see_edges(sys, &table, 1, 2);
-    Ok((before, other.seen().count(), other.has_own()))
-}
-
-// It picks the ledger.
-fn edges(alloc: Global, sys: &System) -> Result<(u32, u32, bool), NoMemory> {
-    edges_counted::<Brand>(alloc, sys, Blank::new(1))
+    fill(alloc, sys, &table, first, seeds)?;
+    looked(alloc, sys, &table, second, copy)
 }
 
 // The second of two workers has the rows from 32 to 63 and from 96 to 127: beside them are three rows

@@ -1,16 +1,8 @@
 // The words of a line, by index, and what a word is.
-ghost use Rattle.std.specs.Prelude.{◌≡◌, ◌<◌, ◌≤◌, Some, length, slice_get, bytes_eq};
+ghost use Rattle.std.specs.Prelude.{◌≡◌, ◌<◌, Some, length, slice_get, bytes_eq};
 ghost use Rattle.tile_io.specs.Lines.{words_of};
 
-use crate::{LONGEST_LINE, words};
-
-/// The number of words of a line.
-pub fn word_count(line: &[u8]) -> usize
-    requires { length line.now ≤ LONGEST_LINE }
-    ensures { result ≡ length (words_of line.now) }
-{
-    words(line).count()
-}
+use crate::words;
 
 /// A word of a line, in time that grows with the length of the line.
 pub fn word_at(line: &[u8], index: usize) -> &[u8]

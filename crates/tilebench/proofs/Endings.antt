@@ -1,5 +1,5 @@
 -- How runs end.
-use Rattle.std.proofs.Common.{◌≡◌, ◌≢◌, ◌⊎◌, ◌≤◌, ℕ, Bool, true, false, true≢false, ◌∙◌, List, Option, None, Result, Ok, Err, refl, sym, ap, subst, arith, inl, inr}
+use Rattle.std.proofs.Common.{◌≡◌, ◌≢◌, ◌⊎◌, ◌≤◌, ℕ, Bool, true, false, ◌∙◌, List, Option, None, Result, Ok, Err, IfErr, refl, sym, ap, subst, arith, inl, inr}
 use Rattle.tile_io.specs.declared.fault.TextFault.{TextFault}
 use Rattle.tile_io.specs.Faults.{Rose}
 use Rattle.site_table.specs.Seats.{GrownValue}
@@ -13,11 +13,11 @@ use Rattle.tilebench.specs.Headline.{Ends}
 use Rattle.counter_compile.specs.declared.stop.CounterStop.{CounterStop}
 use Rattle.tilebench.specs.Refusals.{refused_counter, refused_text}
 use Rattle.tilebench.specs.Statuses.{IsAnswered, answer_status}
-use Rattle.tilebench.specs.Inputs.{AnswersUnread, FailsInput, HoldsInput}
-use Rattle.tilebench.specs.Inner.Gives.{GivesFromSource, GivesUnread}
+use Rattle.tilebench.specs.Rows.{AnswersLeft, RoomRow, FailsLeft}
+use Rattle.tilebench.specs.Inner.Gives.{GivesFromSource}
 use Rattle.tilebench.specs.Inner.Runs.{EndsCommand, IsFaultLine, IsNumbersLine}
 use Rattle.tilebench.specs.Inner.Tells.{Tells, Writes, WritesAnswer}
-use Rattle.tilebench.proofs.Sources.{from_unread, held_or_faulty}
+use Rattle.tilebench.proofs.Sources.{held_or_faulty}
 
 -- the statuses of answers
 answered : (is_yes : Bool) → IsAnswered (answer_status is_yes)
@@ -152,54 +152,38 @@ module _ {S K E : Type 0} (read_faults : S → ℕ) (written : K → Option (Lis
 module _ {S K E A : Type 0} (left : S → Option (List ℕ)) (read_faults : S → ℕ) (written : K → Option (List ℕ)) (out_faults : K → ℕ) (told : E → Option (List ℕ)) (err_faults : E → ℕ)
     (positive : A → Bool) (text : A → List ℕ) (printable : A → Type 0) (out out_after : K) (err err_after : E) (result : Result (A × Option GrownValue) Stop) (ran : Ran)
     (tells : Tells positive text written out_faults told err_faults out out_after err err_after result ran) where
-  module _ (reads : Bool) (Answers : Option GrownValue → Option (List ℕ) → Option (List ℕ) → Bool → List ℕ → Type 0) (Takes : Option (List ℕ) → Type 0) (Refuses : CounterStop → Type 0)
-      (Fails : Option (List ℕ) → Option (List ℕ) → TextFault → Type 0) (source after : S) where
+  -- no answer and no other stop is told as a fault of the source
+  told_no_read_fault : (r : Result (A × Option GrownValue) Stop) → IfErr r (λ stop. stop ≢ ReadFault) → Tells positive text written out_faults told err_faults out out_after err err_after r ran →
+      ran.status ≢ status.ReadFault
+  told_no_read_fault (Ok found) other (inl (whole, handed), same) is = no_read_fault (positive found.0) (sym whole.is ∙ is)
+  told_no_read_fault (Ok found) other (inr (cut, none), same) is = let e = cut.is in cc
+  told_no_read_fault (Err (Words stop)) other (inl whole, none, same) is = let e = whole.is in cc
+  told_no_read_fault (Err (Words stop)) other (inr cut, none, same) is = let e = cut.is in cc
+  told_no_read_fault (Err (Counter stop)) other (inl whole, none, same) is = let e = whole.is in cc
+  told_no_read_fault (Err (Counter stop)) other (inr cut, none, same) is = let e = cut.is in cc
+  told_no_read_fault (Err (Text fault)) other (inl whole, none, same) is = let e = whole.is in cc
+  told_no_read_fault (Err (Text fault)) other (inr cut, none, same) is = let e = cut.is in cc
+  told_no_read_fault (Err ReadFault) other t is = other refl
+  told_no_read_fault (Err NoMemory) other ((e, same_err), none, same_out) is = cc
+
+  module _ (row : RoomRow) (source after : S) where
     -- what it gave is an answer to what is left, which has no fault where it is taken
-    ends_as : GivesFromSource read_faults positive text printable (λ grown. Answers grown (left source) (left after)) Refuses (Fails (left source) (left after)) source after result
-        → ((fault : TextFault) → Takes (left source) → Fails (left source) (left after) fault → ⊥) → (reads ≡ false → (after ≡ source) × (ran.status ≢ status.ReadFault))
-        → read_faults source ≤ read_faults after
-        → EndsCommand left read_faults written out_faults told err_faults reads Answers Takes Refuses Fails source after out out_after err err_after ran
-    ends_as given one_of_two unread later =
-        let answers : Option GrownValue → Bool → List ℕ → Type 0 = λ grown. Answers grown (left source) (left after) in
-        let fails : TextFault → Type 0 = Fails (left source) (left after) in
+    pub run_ends : ((input : List ℕ) (fault : TextFault) → row.takes input → row.fails input fault → ⊥)
+        → GivesFromSource read_faults positive text printable (λ grown. AnswersLeft row grown (left source) (left after)) row.refuses (FailsLeft row (left source) (left after)) source after result
+        → (row.reads ≡ false → after ≡ source) → (row.reads ≡ false → IfErr result (λ stop. stop ≢ ReadFault)) → read_faults source ≤ read_faults after
+        → EndsCommand left read_faults written out_faults told err_faults row source after out out_after err err_after ran
+    run_ends one_of_two given unread unfailing later =
+        let answers : Option GrownValue → Bool → List ℕ → Type 0 = λ grown. AnswersLeft row grown (left source) (left after) in
+        let fails : TextFault → Type 0 = FailsLeft row (left source) (left after) in
         record {
-          ends = run_ended read_faults written out_faults told err_faults source after out out_after err err_after positive text printable answers Refuses fails result ran given tells;
-          unread = unread;
-          quiet = run_quiet read_faults written out_faults told err_faults source after out out_after err err_after positive text printable answers Refuses fails result ran given tells;
+          ends = run_ended read_faults written out_faults told err_faults source after out out_after err err_after positive text printable answers row.refuses fails result ran given tells;
+          unread = λ reads. (unread reads, told_no_read_fault result (unfailing reads) tells);
+          quiet = run_quiet read_faults written out_faults told err_faults source after out out_after err err_after positive text printable answers row.refuses fails result ran given tells;
           source_later = later;
-          out_later = run_out_later read_faults written out_faults told err_faults source after out out_after err err_after positive text printable answers Refuses fails result ran given tells;
-          err_later = run_err_later read_faults written out_faults told err_faults source after out out_after err err_after positive text printable answers Refuses fails result ran given tells;
-          complete = λ taken unrefused source_quiet out_quiet err_quiet.
-              run_complete read_faults written out_faults told err_faults source after out out_after err err_after positive text printable answers Refuses fails
-              (λ fault faulty. one_of_two fault taken faulty) unrefused source_quiet out_quiet err_quiet result ran given tells;
+          out_later = run_out_later read_faults written out_faults told err_faults source after out out_after err err_after positive text printable answers row.refuses fails result ran given tells;
+          err_later = run_err_later read_faults written out_faults told err_faults source after out out_after err err_after positive text printable answers row.refuses fails result ran given tells;
+          complete = λ ready source_quiet out_quiet err_quiet.
+              run_complete read_faults written out_faults told err_faults source after out out_after err err_after positive text printable answers row.refuses fails
+              (λ fault faulty. held_or_faulty row.takes row.fails one_of_two (left source) (left after) fault (ready.takes faulty.reads) faulty.fails)
+              ready.accepts source_quiet out_quiet err_quiet result ran given tells;
         }
-
-  -- of a command that reads the input
-  pub run_ends : (Answers : Option GrownValue → Option (List ℕ) → Option (List ℕ) → Bool → List ℕ → Type 0) (Takes : List ℕ → Type 0) (Fails : List ℕ → TextFault → Type 0)
-      → ((input : List ℕ) (fault : TextFault) → Takes input → Fails input fault → ⊥) → (source after : S)
-      → GivesFromSource read_faults positive text printable (λ grown. Answers grown (left source) (left after)) (λ stop. ⊥) (FailsInput Fails (left source) (left after)) source after result
-      → read_faults source ≤ read_faults after
-      → EndsCommand left read_faults written out_faults told err_faults true Answers (HoldsInput Takes) (λ stop. ⊥) (FailsInput Fails) source after out out_after err err_after ran
-  run_ends Answers Takes Fails one_of_two source after given later =
-      ends_as true Answers (HoldsInput Takes) (λ stop. ⊥) (FailsInput Fails) source after given
-      (λ fault taken faulty. held_or_faulty Takes Fails one_of_two (left source) (left after) fault taken faulty) (λ never. absurd (true≢false never)) later
-
-  -- of one that does not
-  told_no_read_fault : (Answers : Option GrownValue → Bool → List ℕ → Type 0) (Refuses : CounterStop → Type 0) (r : Result (A × Option GrownValue) Stop)
-      → GivesUnread positive text printable Answers Refuses r → Tells positive text written out_faults told err_faults out out_after err err_after r ran → ran.status ≢ status.ReadFault
-  told_no_read_fault Answers Refuses (Ok found) given (inl (whole, handed), same) is = no_read_fault (positive found.0) (sym whole.is ∙ is)
-  told_no_read_fault Answers Refuses (Ok found) given (inr (cut, none), same) is = let e = cut.is in cc
-  told_no_read_fault Answers Refuses (Err (Counter stop)) given (inl whole, none, same) is = let e = whole.is in cc
-  told_no_read_fault Answers Refuses (Err (Counter stop)) given (inr cut, none, same) is = let e = cut.is in cc
-  told_no_read_fault Answers Refuses (Err NoMemory) given ((e, same_err), none, same_out) is = cc
-  told_no_read_fault Answers Refuses (Err (Words stop)) given t is = absurd given
-  told_no_read_fault Answers Refuses (Err (Text fault)) given t is = absurd given
-  told_no_read_fault Answers Refuses (Err ReadFault) given t is = absurd given
-
-  pub unread_ends : (Answers : Option GrownValue → Bool → List ℕ → Type 0) (Refuses : CounterStop → Type 0) (source : S) → GivesUnread positive text printable Answers Refuses result
-      → EndsCommand left read_faults written out_faults told err_faults false (λ grown. AnswersUnread (Answers grown)) (λ left. Unit {0}) Refuses (λ left left_after fault. ⊥) source source
-      out out_after err err_after ran
-  unread_ends Answers Refuses source given =
-      ends_as false (λ grown. AnswersUnread (Answers grown)) (λ left. Unit {0}) Refuses (λ left left_after fault. ⊥) source source
-      (from_unread read_faults positive text printable Answers Refuses (left source) source result given) (λ fault taken faulty. faulty)
-      (λ _. (refl, told_no_read_fault Answers Refuses result given tells)) (omega arith)

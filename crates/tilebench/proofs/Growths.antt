@@ -17,8 +17,9 @@ use Rattle.local_check.specs.declared.verdict.Verdict.{Verdict}
 use Rattle.local_check.specs.declared.verdict.Verdict.TheVariants.{Yes, NotExact, Rival, NotTerminal}
 use Rattle.local_check.specs.Judgement.{IsVerdict}
 use Rattle.seq_text.specs.VerdictLines.{NamesTypes}
-use Rattle.tilebench.specs.declared.commands.grow.Growth.{Growth}
-use Rattle.tilebench.specs.Commands.Grow.{IsGrowth, IsGrowthText, growth_text, is_unique}
+use Rattle.tilebench.specs.declared.growth.Growth.{Growth}
+use Rattle.tilebench.specs.Commands.Grow.{IsGrowthText}
+use Rattle.tilebench.specs.Growths.{IsGrowth, growth_text, is_unique}
 use Rattle.tilebench.specs.Inner.Rooms.{GrowsTo, IsVerdictOn, outcome_of}
 
 -- a producible assembly in the box is of types of its system

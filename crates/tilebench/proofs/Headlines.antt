@@ -17,7 +17,8 @@ use Rattle.atam.proofs.Canon.{canonical_too}
 use Rattle.unique_law.proofs.OneOutcome.{one_full_growth, one_outcome, yes_in_some_order, grows_into_outcome}
 use Rattle.site_table.specs.Seats.{GrownValue}
 use Rattle.tilebench.specs.Growing.{TellsGrowth}
-use Rattle.tilebench.specs.Commands.Grow.{IsGrowth, IsGrowthText, growth_text, is_unique}
+use Rattle.tilebench.specs.Commands.Grow.{IsGrowthText}
+use Rattle.tilebench.specs.Growths.{IsGrowth, growth_text, is_unique}
 use Rattle.tilebench.specs.Headline.{IsHeadline}
 use Rattle.tilebench.proofs.ReadingBack.{growth_may, sequence_back}
 

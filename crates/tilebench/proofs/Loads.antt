@@ -30,13 +30,13 @@ use Rattle.counter_compile.specs.Inner.Accepted.{IsAccepted}
 use Rattle.counter_compile.proofs.Limits.{accepted, is_counter_box, is_valid_counter}
 use Rattle.counter_compile.proofs.Counting.{deterministic_count, row_counts}
 use Rattle.site_table.specs.Seats.{GrownValue}
-use Rattle.grow_workers.specs.Workers as workers
+use Rattle.grow_workers.specs.Workers.{IsGrownBy}
 use Rattle.local_check.specs.declared.verdict.Verdict.{Verdict}
 use Rattle.local_check.specs.declared.verdict.Verdict.TheVariants.{Yes}
 use Rattle.unique_law.specs.Outcomes.{Outcome}
 use Rattle.unique_law.proofs.OneOutcome.{one_full_growth, yes_in_some_order}
-use Rattle.tilebench.specs.declared.commands.grow.Growth.{Growth}
-use Rattle.tilebench.specs.Commands.Grow.{IsGrowth, is_unique}
+use Rattle.tilebench.specs.declared.growth.Growth.{Growth}
+use Rattle.tilebench.specs.Growths.{IsGrowth, is_unique}
 use Rattle.tilebench.specs.Commands.Load.{IsLoadAnswer, load_bits, load_start, load_system, load_tiles, numbers_after_start, summary}
 use Rattle.tilebench.specs.Inner.Rooms.{GrowsTo, outcome_of}
 use Rattle.tilebench.proofs.Headlines.{growth_of_deterministic}
@@ -203,7 +203,7 @@ module _ (sys : TileSystem) (seeds : HasDistinctSites sys.seeds) (found : HasDet
 -- ---- what is told of it
 
 pub load_told : (number bits start tiles : ℕ) (sys : TileSystem) (table : GrownValue) (growth : Growth) → bits ≡ load_bits number → start ≡ load_start number → sys ≡ counter_system bits start →
-    workers.IsGrowth sys 4 table → GrowsTo sys table.grid.tiles growth → tiles ≡ length table.grid.tiles →
+    IsGrownBy sys 4 table → GrowsTo sys table.grid.tiles growth → tiles ≡ length table.grid.tiles →
     IsLoadAnswer number (Some table) (is_unique growth.verdict) (summary number bits start tiles growth.sys growth.outside growth.verdict)
 load_told number bits start tiles sys table growth bits_are start_is is_system grew grows count =
     let Bits = load_bits number in
@@ -225,7 +225,7 @@ load_told number bits start tiles sys table growth bits_are start_is is_system g
       accepted = load_accepted number;
       table = table;
       handed_out = refl;
-      grew = subst (λ (s : TileSystem). workers.IsGrowth s 4 table) here grew;
+      grew = subst (λ (s : TileSystem). IsGrownBy s 4 table) here grew;
       outcome = outcome;
       into = into;
       all = all;

@@ -16,14 +16,14 @@ use Rattle.replay_order.specs.ReplayAnswers as answers
 use Rattle.tile_system.specs.declared.memory.NoMemory.{NoMemory}
 use Rattle.seq_text.specs.GrowthLines.{place_lines}
 use Rattle.tilebench.specs.declared.commands.replay.Reordering.{Reordering}
-use Rattle.tilebench.specs.Commands.Replay.{IsAssemblyOf, IsReordering, IsReplayAnswer, IsSystemThenPlacements, is_whole, reordering_text}
+use Rattle.tilebench.specs.Commands.Replay.{IsReordering, IsReplayAnswer, is_whole, reordering_text}
 use Rattle.tilebench.proofs.ReadingBack.{placements_back}
 use Rattle.tile_io.specs.declared.mark.Mark.{Mark}
 use Rattle.tile_io.specs.declared.fault.TextStop.{TextStop}
 use Rattle.tile_io.specs.Formats.{Format, ReadsOrStops}
 use Rattle.tile_text.specs.SystemText.{ReadsAny}
 use Rattle.tile_text.proofs.Eithers.{any_valid}
-use Rattle.tilebench.specs.Inputs.{FailsWithin, first_mark}
+use Rattle.tilebench.specs.Inputs.{FailsWithin, IsAssemblyOf, IsSystemThenPlacements, first_mark}
 use Rattle.tilebench.specs.Inner.Gives.{Gives}
 use Rattle.tilebench.specs.Inner.Stops.{stop_of_text}
 use Rattle.tile_io.specs.declared.fault.TextStop.TheVariants as stops

@@ -1,5 +1,5 @@
 -- What workers win, one after another and together.
-use Rattle.std.proofs.Common.{◌≡◌, All, Bool, true, ◌∙◌, ◌<◌, ◌≤◌, ◌+◌, ◌-◌, ◌++◌, ℕ, zero, suc, List, [], ◌∷◌, length, drop, Some, refl, sym, ap, subst, arith, inl, inr, add-one}
+use Rattle.std.proofs.Common.{◌≡◌, ◌≢◌, All, Bool, true, ◌∙◌, ◌<◌, ◌≤◌, ◌+◌, ◌-◌, ◌++◌, ℕ, zero, suc, List, [], ◌∷◌, length, drop, Some, refl, sym, ap, subst, arith, inl, inr, add-one}
 use Rattle.std.specs.Prelude.{slice_get, slice_index, sum, sum_by}
 use Rattle.std.proofs.lemmas.Bool.{cases_lt}
 use Rattle.std.proofs.lemmas.List.Sums.{sum_by-append, sum_by-cons}
@@ -7,11 +7,12 @@ use Rattle.atam.specs.declared.area.BoxArea.{BoxArea}
 use Rattle.atam.specs.Sites.{InBox}
 use Rattle.atam.specs.TileSystem.{TileSystem}
 use Rattle.site_table.specs.Seats.{GrownValue}
-use Rattle.grow_workers.specs.Workers.{IsGrowth}
-use Rattle.tilebench.specs.declared.commands.race.Win.{Win}
-use Rattle.tilebench.specs.Commands.Race.{AreShares, AreWins, IsRaceText, race_text, won_by}
-use Rattle.tilebench.specs.declared.commands.grow.Growth.{Growth}
-use Rattle.tilebench.specs.Commands.Grow.{IsGrowth as IsGrown, is_unique}
+use Rattle.grow_workers.specs.Workers.{IsGrownBy, worker_number}
+use Rattle.tilebench.specs.declared.wins.Win.{Win}
+use Rattle.tilebench.specs.Wins.{AreShares, AreWins, won_by}
+use Rattle.tilebench.specs.Commands.Race.{IsRaceText, race_text}
+use Rattle.tilebench.specs.declared.growth.Growth.{Growth}
+use Rattle.tilebench.specs.Growths.{IsGrowth, is_unique}
 use Rattle.tilebench.specs.Commands.Report.{IsReportText, report_of}
 use Rattle.tilebench.specs.Inner.Races.{won_together}
 use Rattle.tilebench.specs.Inner.Rooms.{GrowsTo, outcome_of}
@@ -93,16 +94,21 @@ won_in_all counts (suc j) many some few idle =
     let last : sum (drop (1 + (63 - j)) counts) ≡ sum (drop (64 - j) counts) = ap (λ (k : ℕ). sum (drop k counts)) at in
     omega (arith, wins, whole, past, last)
 
+-- a number that no worker has
+no_number : (n workers : ℕ) → 0 < n → n + workers ≤ 64 → (w : ℕ) → w < workers → n ≢ worker_number w
+no_number n workers above below zero within e = omega (arith, e, above)
+no_number n workers above below (suc w) within e = omega (arith, e, within, below)
+
 -- the wins of all workers are the tiles but for the seeds
-pub shares_of : (workers : ℕ) (sys : TileSystem) (table : GrownValue) (wins : List Win) → 1 ≤ workers → workers ≤ 16 → IsGrowth sys workers table → AreWins workers table.won wins →
+pub shares_of : (workers : ℕ) (sys : TileSystem) (table : GrownValue) (wins : List Win) → 1 ≤ workers → workers ≤ 16 → IsGrownBy sys workers table → AreWins workers table.won wins →
     sum_by (λ (win : Win). win.count) wins ≡ won_together table.won workers → AreShares workers sys table wins
 shares_of workers sys table wins some few grew won together =
-    let sums = won_in_all table.won workers grew.numbers some few grew.idle in
+    let sums = won_in_all table.won workers grew.numbers some few (λ n above below. grew.idle n (omega (arith, below, some)) (no_number n workers above below)) in
     let tiles = grew.total in
     record { won = won; all = omega (arith, together, sums, tiles) }
 
 -- the wins of all workers are told by their text
-pub race_told : (workers : ℕ) (sys : TileSystem) (table : GrownValue) (area : BoxArea) (wins : List Win) (total : ℕ) → 1 ≤ workers → workers ≤ 16 → IsGrowth sys workers table →
+pub race_told : (workers : ℕ) (sys : TileSystem) (table : GrownValue) (area : BoxArea) (wins : List Win) (total : ℕ) → 1 ≤ workers → workers ≤ 16 → IsGrownBy sys workers table →
     area ≡ sys.area → All (λ p. InBox area p.site) table.grid.tiles → AreWins workers table.won wins → sum_by (λ (win : Win). win.count) wins ≡ won_together table.won workers →
     total + length sys.seeds ≡ length table.grid.tiles → IsRaceText workers sys table true (race_text wins total)
 race_told workers sys table area wins total some few grew same inside won together all =
@@ -125,11 +131,11 @@ race_told workers sys table area wins total some few grew same inside won togeth
 
 -- the report of a growth tells what it grew into, and the wins of all workers
 pub report_told : (workers : ℕ) (sys : TileSystem) (table : GrownValue) (growth : Growth) (wins : List Win) (tiles : ℕ) (text : List ℕ) (is_yes : Bool) → 1 ≤ workers → workers ≤ 16 →
-    IsGrowth sys workers table → GrowsTo sys table.grid.tiles growth → AreWins workers table.won wins → sum_by (λ (win : Win). win.count) wins ≡ won_together table.won workers →
+    IsGrownBy sys workers table → GrowsTo sys table.grid.tiles growth → AreWins workers table.won wins → sum_by (λ (win : Win). win.count) wins ≡ won_together table.won workers →
     tiles ≡ length table.grid.tiles → text ≡ report_of growth.sys tiles (outcome_of growth) wins → is_yes ≡ is_unique growth.verdict → IsReportText workers sys table is_yes text
 report_told workers sys table growth wins tiles text is_yes some few grew grows won together count printed answer = record {
   outcome = outcome_of growth;
-  grown = subst (λ (s : TileSystem). IsGrown s table.grid.tiles (outcome_of growth)) grows.same grows.grown;
+  grown = subst (λ (s : TileSystem). IsGrowth s table.grid.tiles (outcome_of growth)) grows.same grows.grown;
   wins = wins;
   shares = shares_of workers sys table wins some few grew won together;
   printed = printed ∙ ap (λ (s : TileSystem). report_of s tiles (outcome_of growth) wins) grows.same ∙ ap (λ (n : ℕ). report_of sys n (outcome_of growth) wins) count;

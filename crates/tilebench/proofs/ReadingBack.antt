@@ -28,8 +28,7 @@ use Rattle.tile_text.proofs.PrintLemmas.{has_version}
 use Rattle.tile_text.proofs.SystemSpelled.{printed_any}
 use Rattle.seq_text.specs.PrintedGrowths.{MayBeOpen, MayBePrinted, MayBeTold, growth_lines, start_mark}
 use Rattle.seq_text.proofs.Printed.{printed_reads, behind_system}
-use Rattle.tilebench.specs.Commands.Check.{IsSystemThenSequence}
-use Rattle.tilebench.specs.Commands.Replay.{IsSystemThenPlacements}
+use Rattle.tilebench.specs.Inputs.{IsSystemThenPlacements, IsSystemThenSequence}
 
 module _ (sys : TileSystem) (valid : IsValid sys) where
   -- ---- a pull is a number of the machine

@@ -1,38 +1,8 @@
--- From what was read of a source to the answer.
-use Rattle.std.proofs.Common.{◌≡◌, ◌≤◌, ◌+◌, ◌++◌, ◌∙◌, ℕ, Bool, List, length, Option, Some, None, Result, Ok, Err, refl, ap, subst, arith, inl, inr, append-nil, length-append}
+-- What is held of a source, and what was read of it.
+use Rattle.std.proofs.Common.{◌≡◌, ◌≤◌, ◌+◌, ◌++◌, ◌∙◌, ℕ, List, length, Option, Some, None, ap, subst, arith, inl, inr, append-nil, length-append}
 use Rattle.std.specs.Io.KnownBytes.{Consumes, IsAtEnd}
 use Rattle.tile_io.specs.declared.fault.TextFault.{TextFault}
-use Rattle.site_table.specs.Seats.{GrownValue}
-use Rattle.tilebench.specs.declared.stop.Stop.{Stop}
-use Rattle.tilebench.specs.declared.stop.Stop.TheVariants.{Words, Counter, Text, ReadFault, NoMemory}
-use Rattle.counter_compile.specs.declared.stop.CounterStop.{CounterStop}
-use Rattle.tilebench.specs.Inputs.{AnswersInput, AnswersUnread, FailsInput, HoldsInput, IsWholeInput}
-use Rattle.tilebench.specs.Inner.Gives.{GivesFromSource, GivesGrowth, GivesUnread}
-
--- an answer to the input is one to what was left of the source
-module _ {S A : Type 0} (faults : S → ℕ) (positive : A → Bool) (text : A → List ℕ) (printable : A → Type 0) (Answers : Option GrownValue → List ℕ → Bool → List ℕ → Type 0)
-    (Fails : List ℕ → TextFault → Type 0) (left left_after : Option (List ℕ)) (source after : S) (input : List ℕ) (whole : IsWholeInput left left_after input)
-    (quiet : faults after ≡ faults source) where
-  pub from_source : (result : Result (A × Option GrownValue) Stop) → GivesGrowth positive text printable (λ grown. Answers grown input) (Fails input) result →
-      GivesFromSource faults positive text printable (λ grown. AnswersInput (Answers grown) left left_after) (λ stop. ⊥) (FailsInput Fails left left_after) source after result
-  from_source (Ok found) given = (record { answer = record { input = input; whole = whole; answer = given.answer }; prints = given.prints }, quiet)
-  from_source (Err (Text fault)) given = (inr (record { input = input; whole = whole; fails = given }), quiet)
-  from_source (Err NoMemory) given = quiet
-  from_source (Err (Words stop)) given = given
-  from_source (Err (Counter stop)) given = absurd given
-  from_source (Err ReadFault) given = absurd given
-
--- an answer for which nothing is read leaves the source as it was
-module _ {S A : Type 0} (faults : S → ℕ) (positive : A → Bool) (text : A → List ℕ) (printable : A → Type 0) (Answers : Option GrownValue → Bool → List ℕ → Type 0)
-    (Refuses : CounterStop → Type 0) (left : Option (List ℕ)) (source : S) where
-  pub from_unread : (result : Result (A × Option GrownValue) Stop) → GivesUnread positive text printable Answers Refuses result →
-      GivesFromSource faults positive text printable (λ grown. AnswersUnread (Answers grown) left left) Refuses (λ fault. ⊥) source source result
-  from_unread (Ok found) given = (record { answer = record { unread = refl; answer = given.answer }; prints = given.prints }, refl)
-  from_unread (Err (Counter stop)) given = (given, refl)
-  from_unread (Err NoMemory) given = refl
-  from_unread (Err (Words stop)) given = given
-  from_unread (Err (Text fault)) given = absurd given
-  from_unread (Err ReadFault) given = absurd given
+use Rattle.tilebench.specs.Inputs.{FailsInput, HoldsInput}
 
 -- what was taken of known bytes is at most these
 taken_within : (left : List ℕ) (left_after : Option (List ℕ)) (taken : List ℕ) → Consumes (Some left) left_after taken → length taken ≤ length left

@@ -1,8 +1,9 @@
 -- From the run of a command, or a stop at the words, to the clauses of the top call.
-use Rattle.std.proofs.Common.{◌≡◌, ◌≢◌, ◌⊎◌, ◌≤◌, ◌∙◌, ℕ, Bool, true, false, List, Option, Some, None, Result, Err, refl, sym, ap, subst, arith, unwrap_or, inl, inr}
+use Rattle.std.proofs.Common.{◌≡◌, ◌≢◌, ◌⊎◌, ◌≤◌, ◌∙◌, ℕ, Bool, true, false, List, Option, Some, None, Result, Err, refl, sym, ap, subst, arith, inl, inr}
 use Rattle.tile_io.specs.Faults.{Rose}
+use Rattle.fan_out.specs.declared.worker_count.WorkerCount.{WorkerCount}
 use Rattle.command_line.specs.declared.commands.Command.{Command}
-use Rattle.command_line.specs.declared.commands.Command.TheVariants.{Grow, Race, Report, Check, Replay, Schedule, Format, Upgrade, Turing, Picture, Counter, Load}
+use Rattle.command_line.specs.declared.commands.Command.TheVariants.{Grow}
 use Rattle.command_line.specs.declared.commands.CommandName.{CommandName}
 use Rattle.command_line.specs.declared.words_stop.WordsStop.{WordsStop}
 use Rattle.command_line.specs.declared.words_stop.WordsStop.TheVariants.{NoCommand, Usage, NoMemory}
@@ -14,12 +15,10 @@ use Rattle.tilebench.specs.declared.status.Status.{Status}
 use Rattle.tilebench.specs.declared.status.Status.TheVariants as status
 use Rattle.tilebench.specs.Gains.{Gains}
 use Rattle.tilebench.specs.Headline.{Ends, IsAnswer, IsDue, IsHeadline, IsTextRefusal, IsWordsRefusal}
-use Rattle.counter_compile.specs.declared.stop.CounterStop.{CounterStop}
-use Rattle.counter_compile.specs.Counters.{counter_refusal}
 use Rattle.tilebench.specs.Inputs.{AnswersInput}
-use Rattle.tilebench.specs.Commands.{Answers, Fails, RefusesNumbers, Takes, reads_input}
-use Rattle.tilebench.specs.Growing.{TellsGrowth}
-use Rattle.tilebench.specs.Commands.Grow.{IsGrowthText}
+use Rattle.tilebench.specs.Rows.{AnswersLeft, FailsLeft}
+use Rattle.tilebench.specs.Commands.{room_of}
+use Rattle.tilebench.specs.Commands.Grow.{grow_row}
 use Rattle.tilebench.specs.Refusals.{IsReadingCall, IsRefusedAs, refused_words}
 use Rattle.tilebench.specs.Inner.Stops.{stop_of_words}
 use Rattle.tilebench.specs.Statuses.{IsAnswered, answer_status}
@@ -30,29 +29,9 @@ use Rattle.tilebench.proofs.Headlines.{headline}
 
 -- the growth answer to what was left of the source
 headline_of : (workers : ℕ) (grown : Option GrownValue) (left left_after : Option (List ℕ)) (is_yes : Bool) (text : List ℕ) →
-    AnswersInput (TellsGrowth IsGrowthText workers grown) left left_after is_yes text → AnswersInput IsHeadline left left_after is_yes text
+    AnswersLeft (grow_row workers) grown left left_after is_yes text → AnswersInput IsHeadline left left_after is_yes text
 headline_of workers grown left left_after is_yes text answer =
-    record { input = answer.input; whole = answer.whole; answer = headline workers grown answer.input is_yes text answer.answer }
-
--- a name that the words name
-same_name : (words : List (List ℕ)) (a b : CommandName) → command_named words ≡ Some a → command_named words ≡ Some b → a ≡ b
-same_name words a b is other = ap (λ (o : Option CommandName). unwrap_or o a) (sym is ∙ other)
-
--- where no counter that the words call for is refused, the command that they call for refuses no numbers
-unrefused : (words : List (List ℕ)) → ((bits start : ℕ) → IsCallOf words (Counter bits start) → counter_refusal bits start ≡ None) → (command : Command) → IsCallOf words command →
-    (stop : CounterStop) → RefusesNumbers command stop → ⊥
-unrefused words accepted (Counter bits start) called stop refuses = let fine = accepted bits start called in cc
-unrefused words accepted (Grow workers choice) called stop refuses = refuses
-unrefused words accepted (Race workers choice) called stop refuses = refuses
-unrefused words accepted (Report workers choice) called stop refuses = refuses
-unrefused words accepted Check called stop refuses = refuses
-unrefused words accepted Replay called stop refuses = refuses
-unrefused words accepted Schedule called stop refuses = refuses
-unrefused words accepted Format called stop refuses = refuses
-unrefused words accepted Upgrade called stop refuses = refuses
-unrefused words accepted Turing called stop refuses = refuses
-unrefused words accepted Picture called stop refuses = refuses
-unrefused words accepted (Load number) called stop refuses = refuses
+    record { input = answer.input; whole = answer.read.whole refl; answer = headline workers grown answer.input is_yes text answer.answer }
 
 module _ {S K E : Type 0} (left : S → Option (List ℕ)) (read_faults : S → ℕ) (written : K → Option (List ℕ)) (out_faults : K → ℕ) (told : E → Option (List ℕ)) (err_faults : E → ℕ)
     (words : List (List ℕ)) (source after : S) (out out_after : K) (err err_after : E) where
@@ -62,34 +41,33 @@ module _ {S K E : Type 0} (left : S → Option (List ℕ)) (read_faults : S → 
 
   -- where the words call for a command
   module _ (command : Command) (called : IsCallOf words command) (ran : Ran)
-      (run : EndsCommand left read_faults written out_faults told err_faults (reads_input (name_of command)) (Answers command) (Takes (name_of command)) (RefusesNumbers command)
-      (Fails (name_of command)) source after out out_after err err_after ran) where
+      (run : EndsCommand left read_faults written out_faults told err_faults (room_of command) source after out out_after err err_after ran) where
     pub call_ended : Ended after ran.status ran.grown
     call_ended =
         Ends-map read_faults written out_faults told err_faults source after out out_after err err_after
-        (λ grown. Answers command grown (left source) (left after)) (IsAnswer words (left source) (left after))
-        (IsFaultLine (Fails (name_of command) (left source) (left after))) (IsTextRefusal words (left source) (left after)) (IsNumbersLine (RefusesNumbers command)) (IsWordsRefusal words)
+        (λ grown. AnswersLeft (room_of command) grown (left source) (left after)) (IsAnswer words (left source) (left after))
+        (IsFaultLine (FailsLeft (room_of command) (left source) (left after))) (IsTextRefusal words (left source) (left after)) (IsNumbersLine (room_of command).refuses) (IsWordsRefusal words)
         (λ grown is_yes text answer. record { command = command; called = called; answer = answer })
         (λ text line. record { command = command; called = called; fault = line.fault; fails = line.is; told = line.told })
         (λ text line. inr (record { command = command; called = called; stop = line.stop; refuses = line.is; told = line.told })) ran.status ran.grown run.ends
 
     abbrev Run : Status → Type 0
-    Run s = Ends read_faults written out_faults told err_faults (λ grown. Answers command grown (left source) (left after)) (IsFaultLine (Fails (name_of command) (left source) (left after)))
-        (IsNumbersLine (RefusesNumbers command))
+    Run s = Ends read_faults written out_faults told err_faults (λ grown. AnswersLeft (room_of command) grown (left source) (left after))
+        (IsFaultLine (FailsLeft (room_of command) (left source) (left after))) (IsNumbersLine (room_of command).refuses)
         source after out out_after err err_after s ran.grown
 
-    pub call_grown : (workers choice : ℕ) (is_yes : Bool) → IsCallOf words (Grow workers choice) → ran.status ≡ answer_status is_yes →
+    pub call_grown : (workers : WorkerCount) (choice : ℕ) (is_yes : Bool) → IsCallOf words (Grow workers choice) → ran.status ≡ answer_status is_yes →
         Gains written out_faults (AnswersInput IsHeadline (left source) (left after) is_yes) out out_after
     call_grown workers choice is_yes grows is = go is_yes (subst Run is run.ends)
       where
-        grown : (is_yes : Bool) → Gains written out_faults (Answers command ran.grown (left source) (left after) is_yes) out out_after →
+        grown : (is_yes : Bool) → Gains written out_faults (AnswersLeft (room_of command) ran.grown (left source) (left after) is_yes) out out_after →
             Gains written out_faults (AnswersInput IsHeadline (left source) (left after) is_yes) out out_after
         grown is_yes gained =
             let same : command ≡ Grow workers choice = call_once words command (Grow workers choice) called grows in
-            let Said : Command → Type 0 = λ c. Answers c ran.grown (left source) (left after) is_yes gained.text in
+            let Said : Command → Type 0 = λ c. AnswersLeft (room_of c) ran.grown (left source) (left after) is_yes gained.text in
             record {
               text = gained.text;
-              said = headline_of workers ran.grown (left source) (left after) is_yes gained.text (subst Said same gained.said);
+              said = headline_of workers.count ran.grown (left source) (left after) is_yes gained.text (subst Said same gained.said);
               whole = gained.whole;
               quiet = gained.quiet;
             }
@@ -104,15 +82,13 @@ module _ {S K E : Type 0} (left : S → Option (List ℕ)) (read_faults : S → 
     pub call_complete : IsDue words (left source) → ¬ Rose (read_faults source) (read_faults after) → ¬ Rose (out_faults out) (out_faults out_after) →
         ¬ Rose (err_faults err) (err_faults err_after) → IsAnswered ran.status ⊎ (ran.status ≡ status.NoMemory)
     call_complete due source_quiet out_quiet err_quiet =
-        let same = same_name words due.name (name_of command) due.taken.named called.named in
-        let Taken : CommandName → Type 0 = λ name. Takes name (left source) in
-        run.complete (subst Taken same due.takes) (unrefused words due.accepted command called) source_quiet out_quiet err_quiet
+        run.complete (due.ready command called) source_quiet out_quiet err_quiet
 
     -- a command that does not read leaves the source as it was
     call_reads : ((after ≡ source) × (ran.status ≢ status.ReadFault)) ⊎ IsReadingCall words
-    call_reads = go (reads_input (name_of command)) refl
+    call_reads = go (room_of command).reads refl
       where
-        go : (reads : Bool) → reads_input (name_of command) ≡ reads → ((after ≡ source) × (ran.status ≢ status.ReadFault)) ⊎ IsReadingCall words
+        go : (reads : Bool) → (room_of command).reads ≡ reads → ((after ≡ source) × (ran.status ≢ status.ReadFault)) ⊎ IsReadingCall words
         go true is = inr (command, called, is)
         go false is = inl (run.unread is)
 

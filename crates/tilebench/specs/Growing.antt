@@ -2,7 +2,7 @@
 use Rattle.std.specs.Prelude.{◌≡◌, ℕ, Bool, List, Option, Some, None}
 use Rattle.atam.specs.TileSystem.{TileSystem}
 use Rattle.site_table.specs.Seats.{GrownValue}
-use Rattle.grow_workers.specs.Workers.{IsGrowth}
+use Rattle.grow_workers.specs.Workers.{IsGrownBy}
 use Rattle.tilebench.specs.Inputs.{IsSystemAlone}
 
 -- The input is the text of one system, which so many workers grew. What it grew into is handed out, and this is told of it.
@@ -11,7 +11,7 @@ pub record TellsGrowth (Tells : TileSystem → GrownValue → Bool → List ℕ 
   pub read : IsSystemAlone input sys
   pub table : GrownValue
   pub handed_out : grown ≡ Some table
-  pub grew : IsGrowth sys workers table
+  pub grew : IsGrownBy sys workers table
   pub told : Tells sys table is_yes text
 
 -- this is told of the input, and no growth is handed out

@@ -1,8 +1,8 @@
 -- What the top call promises.
 use Rattle.std.specs.Prelude.{◌≡◌, ◌↔◌, ◌⊎◌, ◌++◌, ℕ, Bool, true, false, List, Option, None}
 use Rattle.tilebench.specs.declared.status.Status.TheVariants.{Done, No, Words, Text, ReadFault, WriteFault, NoMemory}
-use Rattle.tilebench.specs.Terms.{Command, CommandName, Counter, CounterStop, WordsStop, IsCallOf, IsTaken, IsRefusedAs, RefusesNumbers, counter_refusal, name_of, refused_counter, refused_words}
-use Rattle.tilebench.specs.Terms.{Status, TextFault, Rose, Gains, GainsFront, Answers, Fails, Takes, refused_text}
+use Rattle.tilebench.specs.Terms.{Command, CommandName, CounterStop, WordsStop, IsCallOf, IsTaken, IsRefusedAs, refused_counter, refused_words, room_of}
+use Rattle.tilebench.specs.Terms.{Status, TextFault, Rose, Gains, GainsFront, AnswersLeft, FailsLeft, IsReadyFor, refused_text}
 use Rattle.tilebench.specs.Terms.{GrownValue, Outcome, IsOutcome, IsSystemThenSequence, spelling, Place, TileSystem, IsSystemAlone, IsGrowth, IsLegal, SamePlacements, growth_text}
 use Rattle.tilebench.specs.Terms.{IsClosedInBox, IsLeastOpenOutside, IsLocallyDeterministic, IsDeterministicInBox, IsDeterministicInSomeOrder, GrowsInto}
 
@@ -10,7 +10,7 @@ use Rattle.tilebench.specs.Terms.{IsClosedInBox, IsLeastOpenOutside, IsLocallyDe
 pub record IsAnswer (words : List (List ℕ)) (left left_after : Option (List ℕ)) (grown : Option GrownValue) (is_yes : Bool) (text : List ℕ) : Type 0 where
   pub command : Command
   pub called : IsCallOf words command
-  pub answer : Answers command grown left left_after is_yes text
+  pub answer : AnswersLeft (room_of command) grown left left_after is_yes text
 
 -- A refusal of the list of words: the first names no command, or clap finds a fault in the list and does not promise to take it.
 pub record IsListRefusal (words : List (List ℕ)) (text : List ℕ) : Type 0 where
@@ -23,7 +23,7 @@ pub record IsNumbersRefusal (words : List (List ℕ)) (text : List ℕ) : Type 0
   pub command : Command
   pub called : IsCallOf words command
   pub stop : CounterStop
-  pub refuses : RefusesNumbers command stop
+  pub refuses : (room_of command).refuses stop
   pub told : text ≡ refused_counter stop
 
 abbrev pub IsWordsRefusal : List (List ℕ) → List ℕ → Type 0
@@ -34,7 +34,7 @@ pub record IsTextRefusal (words : List (List ℕ)) (left left_after : Option (Li
   pub command : Command
   pub called : IsCallOf words command
   pub fault : TextFault
-  pub fails : Fails (name_of command) left left_after fault
+  pub fails : FailsLeft (room_of command) left left_after fault
   pub told : text ≡ refused_text fault
 
 -- How a run ends, by its status: `out` gained an answer, with which a growth may be handed out; or `err` gained a refusal, or a count of faults rose, or memory was wanting.
@@ -56,13 +56,12 @@ module _ {S K E : Type 0} (read_faults : S → ℕ) (written : K → Option (Lis
   Ends No grown = Gains written out_faults (Answer grown false) out out_after × (err_after ≡ err)
   Ends status grown = EndsUnanswered status × (grown ≡ None)
 
--- An answer is due: clap promises to take the words, a counter that they call for is not refused, and what is left of the source is taken by a command that reads it: it is known, short,
+-- An answer is due: clap promises to take the words, and the command that they call for refuses none of its numbers and, if it reads the source, takes what is left of it: that is known, short,
 -- and reads as the command's input.
 pub record IsDue (words : List (List ℕ)) (left : Option (List ℕ)) : Type 0 where
   pub name : CommandName
   pub taken : IsTaken words name
-  pub accepted : (bits start : ℕ) → IsCallOf words (Counter bits start) → counter_refusal bits start ≡ None
-  pub takes : Takes name left
+  pub ready : (command : Command) → IsCallOf words command → IsReadyFor (room_of command) left
 
 -- The growth answer: the input is the text of one system, and the text is that of a growth of it, of which this holds.
 pub record IsHeadline (input : List ℕ) (is_yes : Bool) (text : List ℕ) : Type 0 where

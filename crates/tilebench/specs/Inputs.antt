@@ -9,10 +9,15 @@ use Rattle.tile_io.specs.declared.limits.TheConstants.{MOST_INPUT}
 use Rattle.tile_io.specs.Checks.{nothing_more}
 use Rattle.tile_io.specs.Formats.{Format, Fault, IsRead}
 use Rattle.tile_io.specs.Rest.{HasNoMore}
+use Rattle.atam.specs.declared.place.Place.{Place}
 use Rattle.atam.specs.TileSystem.{TileSystem}
+use Rattle.atam.specs.Placements.{HasDistinctSites, SamePlacements}
 use Rattle.tile_text.specs.SystemText.{FaultAny, ReadsAny}
+use Rattle.seq_text.specs.GrowthText.{ReadsPlacements, ReadsSequence}
 use Rattle.machine_text.specs.Machines.{TuringMachine}
 use Rattle.machine_text.specs.MachineText.{ReadsMachine, machine_format}
+use Rattle.quadrant_compile.specs.Weaves.{Weave}
+use Rattle.quadrant_compile.specs.WeaveText.{ReadsQuadrant, quadrant_format}
 
 -- the start of an input
 abbrev pub first_mark : Mark
@@ -27,12 +32,28 @@ pub record IsTextThen {Value : Type 0} (IsText : List ℕ → Mark → Value →
 abbrev pub IsSystemThen : (TileSystem → Mark → Type 0) → List ℕ → TileSystem → Type 0
 IsSystemThen IsRest input sys = IsTextThen ReadsAny IsRest input sys
 
--- the input is the text of this system, or of this machine, and only empty lines and remarks follow it
+-- the input is the text of this system, of this machine or of this two-input rule, and only empty lines and remarks follow it
 abbrev pub IsSystemAlone : List ℕ → TileSystem → Type 0
 IsSystemAlone input sys = IsSystemThen (λ sys end. HasNoMore input end) input sys
 
 abbrev pub IsMachineAlone : List ℕ → TuringMachine → Type 0
 IsMachineAlone input M = IsTextThen ReadsMachine (λ M end. HasNoMore input end) input M
+
+abbrev pub IsQuadrantAlone : List ℕ → Weave → Type 0
+IsQuadrantAlone input w = IsTextThen ReadsQuadrant (λ w end. HasNoMore input end) input w
+
+-- the input is the text of a system and then of a sequence
+abbrev pub IsSystemThenSequence : List ℕ → TileSystem → List Place → Type 0
+IsSystemThenSequence input sys sequence = IsSystemThen (λ s end. ReadsSequence s input end sequence) input sys
+
+-- the input is the text of a system and then of these placements, with one line for a site at most
+abbrev pub IsSystemThenPlacements : List ℕ → TileSystem → List Place → Type 0
+IsSystemThenPlacements input sys places = IsSystemThen (λ s end. ReadsPlacements s input end places) input sys
+
+-- the assembly has exactly the placements, one at each site
+pub record IsAssemblyOf (places tiles : List Place) : Type 0 where
+  pub same : SamePlacements places tiles
+  pub distinct : HasDistinctSites tiles
 
 -- of a kind of text, by what it reads as and by its faults, followed by a text of another format
 module _ {Value Item : Type 0} (IsText : List ℕ → Mark → Value → Mark → Type 0) (IsFault : List ℕ → Mark → ℕ → Cause → Type 0) (format : Value → Format Item) (input : List ℕ) where
@@ -58,6 +79,13 @@ IsReadableMachine format input = IsReadableAs ReadsMachine (Fault machine_format
 
 abbrev pub FailsWithinMachine : {Item : Type 0} → (TuringMachine → Format Item) → List ℕ → TextFault → Type 0
 FailsWithinMachine format input fault = FailsWithinAs ReadsMachine (Fault machine_format) format input fault
+
+-- of the text of a two-input rule
+abbrev pub IsReadableQuadrant : {Item : Type 0} → (Weave → Format Item) → List ℕ → Type 0
+IsReadableQuadrant format input = IsReadableAs ReadsQuadrant (Fault quadrant_format) format input
+
+abbrev pub FailsWithinQuadrant : {Item : Type 0} → (Weave → Format Item) → List ℕ → TextFault → Type 0
+FailsWithinQuadrant format input fault = FailsWithinAs ReadsQuadrant (Fault quadrant_format) format input fault
 
 -- what follows where nothing may
 abbrev pub alone : {Value : Type 0} → Value → Format ⊥
@@ -97,8 +125,3 @@ pub record HoldsInput (Takes : List ℕ → Type 0) (left : Option (List ℕ)) :
   pub known : left ≡ Some input
   pub short : length input ≤ MOST_INPUT
   pub takes : Takes input
-
--- an answer for which nothing is read
-pub record AnswersUnread (Answers : Bool → List ℕ → Type 0) (left left_after : Option (List ℕ)) (is_yes : Bool) (text : List ℕ) : Type 0 where
-  pub unread : left_after ≡ left
-  pub answer : Answers is_yes text

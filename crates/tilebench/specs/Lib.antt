@@ -1,10 +1,13 @@
 pub mod Commands
 pub mod Gains
 pub mod Growing
+pub mod Growths
 pub mod Headline
 pub mod Inner
 pub mod Inputs
 pub mod Refusals
+pub mod Rows
 pub mod Spelled
 pub mod Statuses
 pub mod Terms
+pub mod Wins

@@ -8,12 +8,12 @@ use Rattle.counter_compile.specs.declared.stop.CounterStop.TheVariants as counte
 use Rattle.command_line.specs.declared.commands.Command.{Command}
 use Rattle.command_line.specs.declared.words_stop.WordsStop.{WordsStop}
 use Rattle.command_line.specs.declared.words_stop.WordsStop.TheVariants as refusal
-use Rattle.command_line.specs.Commands.{IsCallOf, IsUsage, command_named, name_of, words_stop_name}
-use Rattle.tilebench.specs.Commands.{reads_input}
+use Rattle.command_line.specs.Commands.{IsCallOf, IsUsage, command_named, words_stop_name}
+use Rattle.tilebench.specs.Commands.{room_of}
 
 -- the words call for a command that reads the input
 abbrev pub IsReadingCall : List (List ℕ) → Type 0
-IsReadingCall words = (command : Command) × IsCallOf words command × (reads_input (name_of command) ≡ true)
+IsReadingCall words = (command : Command) × IsCallOf words command × ((room_of command).reads ≡ true)
 
 -- why the words are refused: the first names no command, or clap finds a fault in the list; want of memory is no refusal
 abbrev pub IsRefusedAs : List (List ℕ) → WordsStop → Type 0

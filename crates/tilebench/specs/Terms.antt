@@ -11,16 +11,14 @@ pub use Rattle.site_table.specs.Seats.{GrownValue}
 pub use Rattle.unique_law.specs.Outcomes.{Outcome, IsOutcome, IsDeterministicInSomeOrder}
 pub use Rattle.tile_text.specs.Spelling.{spelling}
 pub use Rattle.counter_compile.specs.declared.stop.CounterStop.{CounterStop}
-pub use Rattle.counter_compile.specs.Counters.{counter_refusal}
 pub use Rattle.command_line.specs.declared.commands.Command.{Command}
-pub use Rattle.command_line.specs.declared.commands.Command.TheVariants.{Counter}
 pub use Rattle.command_line.specs.declared.commands.CommandName.{CommandName}
 pub use Rattle.command_line.specs.declared.words_stop.WordsStop.{WordsStop}
-pub use Rattle.command_line.specs.Commands.{IsCallOf, IsTaken, name_of}
+pub use Rattle.command_line.specs.Commands.{IsCallOf, IsTaken}
 pub use Rattle.tilebench.specs.declared.status.Status.{Status}
-pub use Rattle.tilebench.specs.Commands.{Answers, Fails, RefusesNumbers, Takes}
-pub use Rattle.tilebench.specs.Commands.Grow.{IsGrowth, growth_text}
-pub use Rattle.tilebench.specs.Commands.Check.{IsSystemThenSequence}
-pub use Rattle.tilebench.specs.Inputs.{IsSystemAlone}
+pub use Rattle.tilebench.specs.Commands.{room_of}
+pub use Rattle.tilebench.specs.Rows.{AnswersLeft, FailsLeft, IsReadyFor}
+pub use Rattle.tilebench.specs.Growths.{IsGrowth, growth_text}
+pub use Rattle.tilebench.specs.Inputs.{IsSystemAlone, IsSystemThenSequence}
 pub use Rattle.tilebench.specs.Gains.{Gains, GainsFront}
 pub use Rattle.tilebench.specs.Refusals.{IsRefusedAs, refused_counter, refused_words, refused_text}

@@ -1,7 +1,8 @@
 // The table of commands.
-ghost use Rattle.command_line.specs.Commands.{arguments_of, name_of, values_of};
-ghost use Rattle.command_line.specs.Numbers.{AreInRange};
-ghost use Rattle.tilebench.specs.Commands.{Answers, Fails, RefusesNumbers, Takes, reads_input};
+ghost use Rattle.std.specs.Prelude.{◌≤◌, length};
+ghost use Rattle.std.specs.Thread.{IsSync};
+ghost use Rattle.tile_io.specs.declared.limits.TheConstants.{MOST_INPUT};
+ghost use Rattle.tilebench.specs.Commands.{room_of};
 ghost use Rattle.tilebench.specs.Inner.Runs.{EndsCommand};
 
 mod check;
@@ -10,59 +11,77 @@ mod format;
 mod grow;
 mod load;
 mod pictures;
+mod quadrant;
 mod race;
 mod replay;
 mod reports;
 mod schedule;
-mod spelled;
 mod turing;
 mod upgrade;
 
-use crate::run::{run, run_growth};
+use crate::resources::{Crew, Resources};
+use crate::run::{run, run_by};
 use crate::status::Ran;
-use crate::telling::tell;
 use command_line::Command;
-use std::alloc::Global;
 use std::thread::Threads;
 use tile_io::{Gate, Sink, Source};
 
 /// Runs a command.
-pub fn run_command<R: Threads + Sync, S: Source, K: Sink, E: Sink, G: Gate>(
-    rt: &R,
-    alloc: Global,
+pub fn run_command<R: Threads + Sync, G: Gate, S: Source, K: Sink, E: Sink>(
+    resources: &Resources<'_, R, G>,
     command: Command,
     source: &mut S,
     out: &mut K,
     err: &mut E,
-    gate: &G,
 ) -> Ran
-    requires { AreInRange (arguments_of (name_of command)) (values_of command) }
-    ensures { EndsCommand S.left S.faults K.written K.faults E.written E.faults
-        (reads_input (name_of command)) (Answers command) (Takes (name_of command))
-        (RefusesNumbers command) (Fails (name_of command))
+    ensures { EndsCommand S.left S.faults K.written K.faults E.written E.faults (room_of command)
         source.old source.new out.old out.new err.old err.new result }
 {
     match command {
         Command::Grow { workers, choice } => {
-            let room = grow::Grow;
-            run_growth(rt, alloc, &room, workers, choice, source, out, err, gate)
+            let room = grow::Grow(Crew { workers, choice });
+            let answer = |input: Vec<u8>|
+                requires { IsSync R.row × IsSync G.row × (length input.items ≤ MOST_INPUT) }
+            { room.answer(resources, input) };
+            run_by(resources.alloc, &room, answer, source, out, err)
         }
         Command::Race { workers, choice } => {
-            let room = race::Race;
-            run_growth(rt, alloc, &room, workers, choice, source, out, err, gate)
+            let room = race::Race(Crew { workers, choice });
+            let answer = |input: Vec<u8>|
+                requires { IsSync R.row × IsSync G.row × (length input.items ≤ MOST_INPUT) }
+            { room.answer(resources, input) };
+            run_by(resources.alloc, &room, answer, source, out, err)
         }
         Command::Report { workers, choice } => {
-            let room = reports::Report;
-            run_growth(rt, alloc, &room, workers, choice, source, out, err, gate)
+            let room = reports::Report(Crew { workers, choice });
+            let answer = |input: Vec<u8>|
+                requires { IsSync R.row × IsSync G.row × (length input.items ≤ MOST_INPUT) }
+            { room.answer(resources, input) };
+            run_by(resources.alloc, &room, answer, source, out, err)
         }
-        Command::Check => run(alloc, &check::Check, source, out, err),
-        Command::Replay => run(alloc, &replay::Replay, source, out, err),
-        Command::Schedule => run(alloc, &schedule::Schedule, source, out, err),
-        Command::Format => run(alloc, &format::Format, source, out, err),
-        Command::Upgrade => run(alloc, &upgrade::Upgrade, source, out, err),
-        Command::Turing => run(alloc, &turing::Turing, source, out, err),
-        Command::Picture => run(alloc, &pictures::Picture, source, out, err),
-        Command::Counter { bits, start } => tell(counter::answer(alloc, bits, start), out, err),
-        Command::Load { number } => tell(load::answer(rt, alloc, number, gate), out, err),
+        Command::Check => run(resources, &check::Check, source, out, err),
+        Command::Replay => run(resources, &replay::Replay, source, out, err),
+        Command::Schedule => run(resources, &schedule::Schedule, source, out, err),
+        Command::Format => run(resources, &format::Format, source, out, err),
+        Command::Upgrade => run(resources, &upgrade::Upgrade, source, out, err),
+        Command::Turing => run(resources, &turing::Turing, source, out, err),
+        Command::Quadrant => run(resources, &quadrant::Quadrant, source, out, err),
+        Command::Picture => run(resources, &pictures::Picture, source, out, err),
+        Command::Counter { bits, start } => {
+            run(
+                resources,
+                &counter::Counter { bits, start },
+                source,
+                out,
+                err,
+            )
+        }
+        Command::Load { number } => {
+            let room = load::Load { number };
+            let answer = |input: Vec<u8>|
+                requires { IsSync R.row × IsSync G.row }
+            { room.answer(resources, input) };
+            run_by(resources.alloc, &room, answer, source, out, err)
+        }
     }
 }

@@ -1,14 +1,21 @@
-// The system at the front of an input, or the machine that it is.
-ghost use Rattle.std.specs.Prelude.{◌≡◌, ◌≤◌, length, IfOk};
+// The system at the front of an input with what follows it, or the machine or two-input rule that it is.
+ghost use Rattle.std.specs.Prelude.{◌≡◌, ◌<◌, ◌≤◌, ◌^◌, List, length, IfOk};
 ghost use Rattle.tile_io.specs.declared.limits.TheConstants.{MOST_INPUT};
 ghost use Rattle.tile_io.specs.NextLine.{IsMark};
 ghost use Rattle.tile_text.specs.SystemText.{FaultAny, ReadsAny};
 ghost use Rattle.tilebench.specs.Inner.Gives.{Gives};
 ghost use Rattle.machine_text.specs.Machines.{IsMachine};
-ghost use Rattle.tilebench.specs.Inputs.{FailsWithin, FailsWithinMachine, IsMachineAlone, IsSystemAlone, alone, first_mark};
+ghost use Rattle.quadrant_compile.specs.Weaves.{IsWeave};
+ghost use Rattle.atam.specs.declared.place.Place.{Place};
+ghost use Rattle.atam.specs.Assembly.{Fits};
+ghost use Rattle.seq_text.specs.GrowthText.{grid_format, sequence_format};
+ghost use Rattle.tilebench.specs.Inputs.{FailsWithin, FailsWithinMachine, FailsWithinQuadrant, IsAssemblyOf, IsMachineAlone, IsQuadrantAlone, IsSystemAlone, IsSystemThenPlacements, IsSystemThenSequence, alone, first_mark};
 
 use crate::stop::Stop;
+use assembly::{Grid, Sequence};
 use machine_text::{Machine, read_machine};
+use quadrant_compile::{Quadrant, read_quadrant};
+use seq_text::{read_grid_once, read_sequence_once};
 use std::alloc::Global;
 use tile_io::{Mark, check_rest};
 use tile_system::System;
@@ -43,4 +50,42 @@ pub fn read_machine_alone(alloc: Global, input: &[u8]) -> Result<Machine, Stop>
     let (machine, end) = read_machine(alloc, input, Mark::start())?;
     check_rest(input, end)?;
     Ok(machine)
+}
+
+/// The two-input rule whose text the input is.
+pub fn read_quadrant_alone(alloc: Global, input: &[u8]) -> Result<Quadrant, Stop>
+    requires { length input.now ≤ MOST_INPUT }
+    ensures read { Gives (IsQuadrantAlone input.now) (FailsWithinQuadrant alone input.now) result }
+    ensures valid { IfOk result IsWeave }
+{
+    let (quadrant, end) = read_quadrant(alloc, input, Mark::start())?;
+    check_rest(input, end)?;
+    Ok(quadrant)
+}
+
+/// The system and the sequence whose texts the input is.
+pub fn system_and_sequence(alloc: Global, input: Vec<u8>) -> Result<(System, Sequence), Stop>
+    requires { length input.items ≤ MOST_INPUT }
+    ensures read { Gives (λ found. IsSystemThenSequence input.items found.0 found.1)
+        (FailsWithin sequence_format input.items) result }
+    ensures fits { IfOk result (λ found. Fits found.0 found.1) }
+    ensures short { IfOk result (λ found. length found.1 < 2 ^ 32) }
+{
+    let (sys, end) = read_front(alloc, &input)?;
+    let sequence = read_sequence_once(alloc, &sys, input, end)?;
+    Ok((sys, sequence))
+}
+
+/// The system and the assembly whose texts the input is.
+pub fn system_and_grid(alloc: Global, input: Vec<u8>) -> Result<(System, Grid), Stop>
+    requires { length input.items ≤ MOST_INPUT }
+    ensures read { Gives (λ found. (places : List Place)
+        × IsSystemThenPlacements input.items found.0 places × IsAssemblyOf places found.1.tiles)
+        (FailsWithin grid_format input.items) result }
+    ensures area { IfOk result (λ found. found.1.area ≡ found.0.area) }
+    ensures fits { IfOk result (λ found. Fits found.0 found.1.tiles) }
+{
+    let (sys, end) = read_front(alloc, &input)?;
+    let grid = read_grid_once(alloc, &sys, input, end)?;
+    Ok((sys, grid))
 }

@@ -5,15 +5,19 @@
 #![tactic(auto)]
 
 mod commands;
+mod growth;
 mod input;
 mod judged;
 mod order;
+mod resources;
 mod room;
 mod run;
+mod spelled;
 mod status;
 mod stop;
 mod telling;
 mod top;
+mod wins;
 
 pub use status::{Ran, Status};
 pub use top::tilebench;

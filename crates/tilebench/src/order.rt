@@ -1,13 +1,15 @@
 // The canonical order of a producible assembly, and growth that goes in it.
-ghost use Rattle.std.specs.Prelude.{◌≡◌, ◌≤◌, Ok, IfOk, IfErr, IfSome, IsErr};
+ghost use Rattle.std.specs.Prelude.{◌≡◌, Ok, IfOk, IfErr, IfSome, IsErr};
 ghost use Rattle.atam.specs.Assembly.{Fits};
 ghost use Rattle.atam.specs.Canonical.{IsCanonical};
 ghost use Rattle.atam.specs.Growth.{IsProducible};
 ghost use Rattle.type_index.specs.Indexes.{IsIndexOf};
-ghost use Rattle.grow_workers.specs.Workers.{IsGrowth};
+ghost use Rattle.grow_workers.specs.Workers.{IsGrownBy};
 ghost use Rattle.replay_order.specs.ReplayAnswers.{IsWholeOrder};
 
+use crate::resources::{Crew, Resources};
 use assembly::{Grid, Sequence};
+use fan_out::WorkerCount;
 use grow_workers::{grow_by_index, grow_in_order_by_index};
 use replay_order::{ReplayStop, replay, replay_by};
 use site_table::Grown;
@@ -18,53 +20,63 @@ use tile_system::{NoMemory, System};
 use type_index::TypeIndex;
 
 /// Grows a system, and tells its canonical order too where growth went in it, as by one worker
-/// with the choice 0. Where no order is wanted none is kept. The index of the types is lent.
+/// with the choice 0. The index of the types is lent.
 pub fn grow_ordered<R: Threads + Sync, G: Gate>(
-    rt: &R,
-    alloc: Global,
+    resources: &Resources<'_, R, G>,
     sys: &System,
     types: &TypeIndex,
-    workers: u32,
-    choice: u64,
-    wants_order: bool,
-    gate: &G,
+    crew: Crew,
 ) -> Result<(Grown, Option<Sequence>), NoMemory>
-    requires index { IsIndexOf sys.now types.now }
-    requires some { 1 ≤ workers }
-    requires few { workers ≤ 16 }
-    ensures grew { IfOk result (λ r. IsGrowth sys.now workers r.0) }
+    requires { IsIndexOf sys.now types.now }
+    ensures grew { IfOk result (λ r. IsGrownBy sys.now crew.workers.count r.0) }
     ensures order { IfOk result (λ r. IfSome r.1 (IsCanonical sys.now r.0.grid.tiles)) }
 {
-    if wants_order && workers == 1 && choice == 0 {
-        let (grown, order) = grow_in_order_by_index(alloc, sys, types, gate)?;
-        return Ok((grown, Some(order)));
+    let alloc = resources.alloc;
+    let gate = resources.gate;
+    let Crew { workers, choice } = crew;
+    if workers.get() == 1 && choice == 0 {
+        return grow_alone(alloc, sys, types, workers, gate);
     }
-    let grown = grow_by_index(rt, alloc, sys, types, workers, choice, gate)?;
+    let grown = grow_by_index(resources.rt, alloc, sys, types, workers, choice, gate)?;
     Ok((grown, None))
 }
 
-/// The canonical sequence of a producible grid, which may be known, by so many workers.
-pub fn order_of<R: Threads + Sync>(
-    rt: &R,
+// Grows a system by one worker, which goes in canonical order.
+fn grow_alone<G: Gate>(
     alloc: Global,
+    sys: &System,
+    types: &TypeIndex,
+    workers: WorkerCount,
+    gate: &G,
+) -> Result<(Grown, Option<Sequence>), NoMemory>
+    requires index { IsIndexOf sys.now types.now }
+    requires one { workers.count ≡ 1 }
+    ensures grew { IfOk result (λ r. IsGrownBy sys.now workers.count r.0) }
+    ensures order { IfOk result (λ r. IfSome r.1 (IsCanonical sys.now r.0.grid.tiles)) }
+{
+    let (grown, order) = grow_in_order_by_index(alloc, sys, types, gate)?;
+    Ok((grown, Some(order)))
+}
+
+/// The canonical sequence of a producible grid, which may be known, by so many workers.
+pub fn order_of<R: Threads + Sync, G: Gate>(
+    resources: &Resources<'_, R, G>,
     sys: &System,
     grid: &Grid,
     known: Option<Sequence>,
-    workers: u32,
+    workers: WorkerCount,
 ) -> Result<Sequence, NoMemory>
     requires area { grid.now.area ≡ sys.now.area }
     requires fits { Fits sys.now grid.now.tiles }
     requires producible { IsProducible sys.now grid.now.tiles }
     requires known { IfSome known (IsCanonical sys.now grid.now.tiles) }
-    requires some { 1 ≤ workers }
-    requires few { workers ≤ 16 }
     ensures { IfOk result (IsWholeOrder sys.now grid.now.tiles) }
 {
-    let _seeds = sys.seeds();
-    let _area = grid.area();
+    sys.recall_valid();
+    grid.recall_sites();
     match known {
         Some(order) => Ok(order),
-        None => whole_order(replay_by(rt, alloc, sys, grid, workers)),
+        None => whole_order(replay_by(resources.rt, resources.alloc, sys, grid, workers)),
     }
 }
 

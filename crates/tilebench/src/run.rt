@@ -1,14 +1,13 @@
-// The runs of commands that read the whole input.
-ghost use Rattle.std.specs.Prelude.{◌≡◌, ◌≤◌, true, length, IfOk};
+// The run of a command: its input is read, and its answer is told.
+ghost use Rattle.std.specs.Prelude.{◌≡◌, ◌≢◌, ◌≤◌, false, length, IfErr, IfOk};
+ghost use Rattle.std.specs.Thread.{IsSync};
 ghost use Rattle.tile_io.specs.declared.limits.TheConstants.{MOST_INPUT};
-ghost use Rattle.tilebench.specs.Growing.{TellsGrowth, TellsNoGrowth};
-ghost use Rattle.tilebench.specs.Inner.Gives.{GivesFromSource, GivesGrowth};
+ghost use Rattle.tilebench.specs.Inner.Gives.{GivesAnswer, GivesFromSource};
 ghost use Rattle.tilebench.specs.Inner.Runs.{EndsCommand};
-ghost use Rattle.tilebench.specs.Inputs.{AnswersInput, FailsInput, FailsWithin, HoldsInput, IsReadable, alone};
+ghost use Rattle.tilebench.specs.Rows.{AnswersLeft, FailsLeft};
 
-use crate::input::read_alone;
-use crate::judged::grow_judged;
-use crate::room::{GrowthRoom, Room};
+use crate::resources::Resources;
+use crate::room::{PlainRoom, Room};
 use crate::status::Ran;
 use crate::stop::Stop;
 use crate::telling::tell;
@@ -17,125 +16,68 @@ use std::alloc::Global;
 use std::thread::Threads;
 use tile_io::{Gate, Sink, Source, read_whole};
 
-/// Reads the input, and writes the command's answer to it, or the refusal.
-pub fn run<C: Room, S: Source, K: Sink, E: Sink>(
-    alloc: Global,
+/// Reads the input of a command if it has one, and writes its answer, or the refusal.
+pub fn run<C: PlainRoom, R: Threads + Sync, G: Gate, S: Source, K: Sink, E: Sink>(
+    resources: &Resources<'_, R, G>,
     room: &C,
     source: &mut S,
     out: &mut K,
     err: &mut E,
 ) -> Ran
-    ensures { EndsCommand S.left S.faults K.written K.faults E.written E.faults true
-        (λ grown. AnswersInput (TellsNoGrowth (C.answers room.now) grown))
-        (HoldsInput (C.takes room.now)) (λ stop. ⊥) (FailsInput (C.fails room.now))
+    ensures { EndsCommand S.left S.faults K.written K.faults E.written E.faults
+        (C.room_row room.now)
         source.old source.new out.old out.new err.old err.new result }
 {
-    tell(answer_to(alloc, room, source), out, err)
+    let answer = |input: Vec<u8>|
+        requires { IsSync R.row × IsSync G.row × (length input.items ≤ MOST_INPUT) }
+    { room.answer(resources, input) };
+    run_by(resources.alloc, room, answer, source, out, err)
 }
 
-// The command's answer to all that is left of the source.
-fn answer_to<C: Room, S: Source>(
+/// The same for a command that is answered by this.
+pub fn run_by<
+    C: Room,
+    F: FnOnce(Vec<u8>) -> Result<(C::Answer, Option<Grown>), Stop>,
+    S: Source,
+    K: Sink,
+    E: Sink,
+>(alloc: Global, room: &C, answer: F, source: &mut S, out: &mut K, err: &mut E) -> Ran
+    requires can { (input : _) → length input.items ≤ MOST_INPUT → F.pre answer input }
+    requires gives { (input : _) (given : _) → F.post answer input given
+        → GivesAnswer C.Answer.yes C.Answer.text C.Answer.printable
+        (C.room_row room.now) input.items given }
+    ensures { EndsCommand S.left S.faults K.written K.faults E.written E.faults
+        (C.room_row room.now)
+        source.old source.new out.old out.new err.old err.new result }
+{
+    tell(answer_from(alloc, room, answer, source), out, err)
+}
+
+// The command's answer to all that is left of the source, or to nothing.
+fn answer_from<C: Room, F: FnOnce(Vec<u8>) -> Result<(C::Answer, Option<Grown>), Stop>, S: Source>(
     alloc: Global,
     room: &C,
+    answer: F,
     source: &mut S,
 ) -> Result<(C::Answer, Option<Grown>), Stop>
+    requires can { (input : _) → length input.items ≤ MOST_INPUT → F.pre answer input }
+    requires gives { (input : _) (given : _) → F.post answer input given
+        → GivesAnswer C.Answer.yes C.Answer.text C.Answer.printable
+        (C.room_row room.now) input.items given }
     ensures answer { GivesFromSource S.faults C.Answer.yes C.Answer.text C.Answer.printable
-        (λ grown. AnswersInput (TellsNoGrowth (C.answers room.now) grown)
-        (S.left source.old) (S.left source.new)) (λ stop. ⊥)
-        (FailsInput (C.fails room.now) (S.left source.old) (S.left source.new))
+        (λ grown. AnswersLeft (C.room_row room.now) grown (S.left source.old) (S.left source.new))
+        (C.room_row room.now).refuses
+        (FailsLeft (C.room_row room.now) (S.left source.old) (S.left source.new))
         source.old source.new result }
+    ensures unread { (C.room_row room.now).reads ≡ false → source.new ≡ source.old }
+    ensures read_fault { (C.room_row room.now).reads ≡ false
+        → IfErr result (λ stop. stop ≢ Stop.ReadFault) }
     ensures later { S.faults source.old ≤ S.faults source.new }
     ensures printable { IfOk result (λ found. C.Answer.printable found.0) }
 {
-    let input = read_whole(alloc, source)?;
-    plain_answer(alloc, room, input)
-}
-
-// The command's answer to an input, with no growth.
-fn plain_answer<C: Room>(
-    alloc: Global,
-    room: &C,
-    input: Vec<u8>,
-) -> Result<(C::Answer, Option<Grown>), Stop>
-    requires { length input.items ≤ MOST_INPUT }
-    ensures { GivesGrowth C.Answer.yes C.Answer.text C.Answer.printable
-        (λ grown. TellsNoGrowth (C.answers room.now) grown input.items)
-        (C.fails room.now input.items) result }
-{
-    match room.answer(alloc, input) {
-        Ok(reply) => Ok((reply, None)),
-        Err(stop) => Err(stop),
+    if !room.reads_input() {
+        return answer(Vec::new(alloc));
     }
-}
-
-/// Reads the input, grows its system with so many workers, and writes what the command tells of the
-/// growth, or the refusal.
-pub fn run_growth<R: Threads + Sync, C: GrowthRoom, S: Source, K: Sink, E: Sink, G: Gate>(
-    rt: &R,
-    alloc: Global,
-    room: &C,
-    workers: u32,
-    choice: u64,
-    source: &mut S,
-    out: &mut K,
-    err: &mut E,
-    gate: &G,
-) -> Ran
-    requires some { 1 ≤ workers }
-    requires few { workers ≤ 16 }
-    ensures { EndsCommand S.left S.faults K.written K.faults E.written E.faults true
-        (λ grown. AnswersInput (TellsGrowth (C.tells workers) workers grown))
-        (HoldsInput (IsReadable alone)) (λ stop. ⊥) (FailsInput (FailsWithin alone))
-        source.old source.new out.old out.new err.old err.new result }
-{
-    let answer = growth_from(rt, alloc, room, workers, choice, source, gate);
-    tell(answer, out, err)
-}
-
-// What the command tells of a growth of the system whose text is left of the source.
-fn growth_from<R: Threads + Sync, C: GrowthRoom, S: Source, G: Gate>(
-    rt: &R,
-    alloc: Global,
-    room: &C,
-    workers: u32,
-    choice: u64,
-    source: &mut S,
-    gate: &G,
-) -> Result<(C::Answer, Option<Grown>), Stop>
-    requires some { 1 ≤ workers }
-    requires few { workers ≤ 16 }
-    ensures answer { GivesFromSource S.faults C.Answer.yes C.Answer.text C.Answer.printable
-        (λ grown. AnswersInput (TellsGrowth (C.tells workers) workers grown)
-        (S.left source.old) (S.left source.new)) (λ stop. ⊥)
-        (FailsInput (FailsWithin alone) (S.left source.old) (S.left source.new))
-        source.old source.new result }
-    ensures later { S.faults source.old ≤ S.faults source.new }
-    ensures printable { IfOk result (λ found. C.Answer.printable found.0) }
-{
     let input = read_whole(alloc, source)?;
-    growth_answer(rt, alloc, room, workers, choice, &input, gate)
-}
-
-// What the command tells of a growth of the system whose text the input is.
-fn growth_answer<R: Threads + Sync, C: GrowthRoom, G: Gate>(
-    rt: &R,
-    alloc: Global,
-    room: &C,
-    workers: u32,
-    choice: u64,
-    input: &[u8],
-    gate: &G,
-) -> Result<(C::Answer, Option<Grown>), Stop>
-    requires some { 1 ≤ workers }
-    requires few { workers ≤ 16 }
-    requires short { length input.now ≤ MOST_INPUT }
-    ensures { GivesGrowth C.Answer.yes C.Answer.text C.Answer.printable
-        (λ grown. TellsGrowth (C.tells workers) workers grown input.now)
-        (FailsWithin alone input.now) result }
-{
-    let sys = read_alone(alloc, input)?;
-    let wanted = room.wants_verdict();
-    let (grown, judged) = grow_judged(rt, alloc, &sys, workers, choice, wanted, gate)?;
-    let reply = room.answer(alloc, sys, workers, &grown, judged)?;
-    Ok((reply, Some(grown)))
+    answer(input)
 }

@@ -1,6 +1,7 @@
 // The top call: all that the program does, over any source, sinks and gate.
 ghost use Rattle.std.specs.Prelude.{◌≡◌, ◌≢◌, ◌⊎◌, ◌≤◌, ℕ, Bool, None, map, string_bytes};
 ghost use Rattle.tile_io.specs.Faults.{Rose};
+ghost use Rattle.fan_out.specs.declared.worker_count.WorkerCount.{WorkerCount};
 ghost use Rattle.command_line.specs.declared.commands.Command.TheVariants.{Grow};
 ghost use Rattle.command_line.specs.Commands.{IsCallOf, command_named};
 ghost use Rattle.tilebench.specs.Gains.{Gains};
@@ -10,6 +11,7 @@ ghost use Rattle.tilebench.specs.Refusals.{IsReadingCall};
 ghost use Rattle.tilebench.specs.Statuses.{IsAnswered, answer_status};
 
 use crate::commands::run_command;
+use crate::resources::Resources;
 use crate::status::{Ran, Status};
 use crate::stop::Stop;
 use crate::telling::refuse;
@@ -39,7 +41,7 @@ pub fn tilebench<R: Threads + Sync, S: Source, K: Sink, E: Sink, G: Gate>(
         source.old source.new out.old out.new err.old err.new result.status result.grown }
 
     // What `grow` printed.
-    ensures growth { (workers choice : ℕ) (is_yes : Bool)
+    ensures growth { (workers : WorkerCount) (choice : ℕ) (is_yes : Bool)
         → IsCallOf (map string_bytes words.now) (Grow workers choice)
         → result.status ≡ answer_status is_yes
         → Gains K.written K.faults
@@ -68,8 +70,9 @@ pub fn tilebench<R: Threads + Sync, S: Source, K: Sink, E: Sink, G: Gate>(
         → ¬ Rose (E.faults err.old) (E.faults err.new)
         → IsAnswered result.status ⊎ (result.status ≡ Status.NoMemory) }
 {
+    let resources = Resources { rt, alloc, gate };
     match command_of(alloc, words) {
-        Ok(command) => run_command(rt, alloc, command, source, out, err, gate),
+        Ok(command) => run_command(&resources, command, source, out, err),
         Err(stop) => Ran {
             status: refuse(Stop::from(stop), err),
             grown: None,

@@ -23,7 +23,8 @@ use Rattle.turing_compile.specs.Tiles.{cell_of, plain, headed, action_row, shown
 use Rattle.turing_compile.specs.Compiled.{kinds}
 use Rattle.turing_compile.specs.Rows.{type_shown, tile_shown, all_of, row_shown, head_shown, heads_from, shown_config, row_config}
 use Rattle.turing_compile.specs.Inner.Members.{IsKind}
-use Rattle.turing_compile.proofs.MachineFacts.{some_is, rule_bounds, symbol_below, first_config}
+use Rattle.machine_text.proofs.Finding.{some_is}
+use Rattle.turing_compile.proofs.MachineFacts.{rule_bounds, symbol_below, first_config}
 use Rattle.turing_compile.proofs.Listed.{listed_kind}
 use Rattle.turing_compile.proofs.RowReading.{front_of, length-row_shown}
 

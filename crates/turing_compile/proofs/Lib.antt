@@ -7,7 +7,6 @@ pub mod ActingRows
 pub mod Running
 pub mod RowReading
 pub mod Runs
-pub mod ShortNames
 pub mod Named
 pub mod TypesShown
 pub mod ConfigsShown

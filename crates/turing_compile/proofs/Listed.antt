@@ -24,7 +24,8 @@ use Rattle.turing_compile.specs.declared.kind.Row.{Row}
 use Rattle.turing_compile.specs.Tiles.{top, cell_of, upward, state_in, action_row, label_on, side}
 use Rattle.turing_compile.specs.Compiled.{pairs, has_rule, ruled_pairs, kinds, labels, pair_number, rules_before, kind_number, label_number, tiles_of}
 use Rattle.turing_compile.specs.Inner.Members.{IsKind, IsLabel}
-use Rattle.turing_compile.proofs.MachineFacts.{some_is, rule_bounds, symbol_below, first_config}
+use Rattle.machine_text.proofs.Finding.{some_is}
+use Rattle.turing_compile.proofs.MachineFacts.{rule_bounds, symbol_below, first_config}
 use Rattle.turing_compile.proofs.Sides.{action_side}
 
 -- what a filter keeps passes

@@ -1,5 +1,5 @@
 -- What a machine's rules and configurations keep to.
-use Rattle.std.proofs.Common.{◌≡◌, ◌<◌, ◌≤◌, ◌-◌, true≢false, is_some, ℕ, zero, suc, true, List, [], ◌∷◌, length, replicate, get_or, Option, Some, None, IfSome, option_and_then, option_map, refl, sym, ◌∙◌, ap, subst, inl, inr, arith, length-append}
+use Rattle.std.proofs.Common.{◌≡◌, ◌<◌, ◌≤◌, ◌-◌, is_some, ℕ, zero, suc, true, List, [], ◌∷◌, length, replicate, get_or, Option, Some, None, IfSome, option_and_then, option_map, refl, sym, ◌∙◌, ap, subst, inl, inr, arith, length-append}
 use Rattle.std.specs.Prelude.{find}
 use Rattle.std.proofs.lemmas.List.{length-replicate}
 use Rattle.std.proofs.lemmas.List.Elements.{All-append, All-replicate, All-get_or}
@@ -10,7 +10,7 @@ use Rattle.atam.proofs.Lists.{some_or_none}
 use Rattle.machine_text.specs.declared.rule.Rule.{Rule}
 use Rattle.machine_text.specs.declared.rule.Transition.{Transition}
 use Rattle.machine_text.specs.declared.config.Head.{Head}
-use Rattle.machine_text.proofs.Finding.{find_has, find_passes}
+use Rattle.machine_text.proofs.Finding.{some_is, find_has, find_passes}
 use Rattle.machine_text.proofs.Steps.{IsConfigOf-acted}
 use Rattle.machine_text.specs.Machines.{TuringMachine, Configuration, symbol_at, is_for, rule_of, last_cell, first, acted, action, next, after, IsTransition, IsMachine, IsConfigOf}
 
@@ -31,10 +31,6 @@ head_in_cells M c config head there =
     let less = h.0 in
     let long = config.cells in
     omega (arith, less, long)
-
-pub some_is : {X : Type 0} (o : Option X) → is_some o ≡ true → (x : X) × (o ≡ Some x)
-some_is None h = absurd (true≢false (sym h))
-some_is (Some x) h = (x, refl)
 
 module _ (M : TuringMachine) (is_machine : IsMachine M) where
   pub rule_bounds : (q a : ℕ) (rule : Rule) → rule_of M q a ≡ Some rule → IsRuleOf M q a rule

@@ -15,7 +15,7 @@ use Rattle.turing_compile.specs.Compiled.{kinds, state_name, symbol_name, pair_n
 use Rattle.turing_compile.specs.Inner.Members.{IsKind, IsLabel}
 use Rattle.turing_compile.proofs.MachineFacts.{pair_bounds}
 use Rattle.turing_compile.proofs.Listed.{kind_listed, listed_kind, listed_label, label_count, kind_count, is_tile_set}
-use Rattle.turing_compile.proofs.ShortNames.{IsShort, IsRest, short_name, one_name, rest-short, rest-pair, named, named_byte, one_pair}
+use Rattle.machine_text.proofs.ShortNames.{IsShort, IsRest, short_name, one_name, rest-short, rest-pair, named, named_byte, one_pair}
 
 -- the first byte of a name tells its kind, or its sort of label
 kind_code : Kind → ℕ

@@ -38,7 +38,7 @@ impl BearerLists {
     pub(crate) fn build(alloc: Global, sys: &System, side: Side) -> Result<BearerLists, NoMemory>
         ensures { IfOk result (AreListsOf sys.now side) }
     {
-        let _valid = sys.tau();
+        sys.recall_valid();
         let count = sys.type_count();
         let mut lists = BearerLists {
             first: Vec::from_elem(alloc, count as u16, sys.glue_count() as usize)?,
@@ -94,7 +94,7 @@ impl BearerLists {
         requires known { glue.0 < length sys.now.glues }
         ensures { IsNextBearer sys.now side glue 0 result }
     {
-        let _valid = sys.tau();
+        sys.recall_valid();
         self.first[glue.0 as usize] as usize
     }
 
@@ -106,7 +106,7 @@ impl BearerLists {
         requires bears { Bears sys.now side glue (record { 0 = tile }) }
         ensures { IsNextBearer sys.now side glue (tile + 1) result }
     {
-        let _valid = sys.tau();
+        sys.recall_valid();
         self.next[tile] as usize
     }
 }

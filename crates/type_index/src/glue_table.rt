@@ -68,7 +68,7 @@ impl GlueTable {
         ensures value { result ≡ strength_of sys.now glue }
         ensures bound { result ≤ MOST_STRENGTH }
     {
-        let _valid = sys.tau();
+        sys.recall_valid();
         u32::from(self.strengths[glue.0 as usize])
     }
 
@@ -80,7 +80,7 @@ impl GlueTable {
         ensures each { (other : GlueId) → strength_between sys.now other glue ≤ result }
         ensures bound { result ≤ MOST_STRENGTH }
     {
-        let _valid = sys.tau();
+        sys.recall_valid();
         u32::from(self.mosts[glue.0 as usize])
     }
 
@@ -90,7 +90,7 @@ impl GlueTable {
         requires known { glue.0 < length sys.now.glues }
         ensures { slice_get self.now.kinds glue.0 ≡ Some result }
     {
-        let _valid = sys.tau();
+        sys.recall_valid();
         self.kinds[glue.0 as usize]
     }
 }
@@ -112,7 +112,7 @@ fn mosts_of(alloc: Global, sys: &System, strengths: &[u8]) -> Result<Vec<u8>, No
     requires { AreStrengthsOf sys.now strengths.now }
     ensures { IfOk result (λ mosts. AreMostsOf sys.now mosts.items) }
 {
-    let _valid = sys.tau();
+    sys.recall_valid();
     let mut mosts = strengths.to_vec(alloc)?;
     for pair in sys.pairs() {
         raise(&mut mosts, pair.first, pair.strength);

@@ -79,7 +79,7 @@ impl MeetingLists {
         requires links { ArePairLinks sys.now 0 links.now }
         ensures { IfOk result (AreMeetings sys.now side glues.now.kinds 0) }
     {
-        let _valid = sys.tau();
+        sys.recall_valid();
         let count = sys.type_count();
         let mut lists = MeetingLists::ended(alloc, sys)?;
         for passed in 0..count {
@@ -93,7 +93,7 @@ impl MeetingLists {
     fn ended(alloc: Global, sys: &System) -> Result<MeetingLists, NoMemory>
         ensures { IfOk result (HasNoMeetings sys.now) }
     {
-        let _valid = sys.tau();
+        sys.recall_valid();
         let end = Meeting {
             next: 0,
             tile: sys.type_count() as u16,
@@ -151,7 +151,7 @@ impl MeetingLists {
         ensures first { length self.new.first ≡ length sys.now.glues }
         ensures few { length self.new.meetings ≤ length self.old.meetings + 65537 }
     {
-        let _valid = sys.tau();
+        sys.recall_valid();
         let pairs = sys.pairs();
         let count = sys.pair_count();
         self.meet(sys, glues, glue, tile, glues.strength(sys, glue))?;
@@ -207,7 +207,7 @@ impl MeetingLists {
         ensures cursor { IsCursor sys.now side (Some glue) 0 result }
         ensures way { GoesBy sys.now side self.now.meetings (Some glue) result result.way }
     {
-        let _valid = sys.tau();
+        sys.recall_valid();
         let most = glues.most(sys, glue);
         self.cursor(sys, side, glue, 0, self.first[glue.0 as usize], most)
     }
@@ -229,7 +229,7 @@ impl MeetingLists {
         ensures cursor { IsCursor sys.now side (Some glue) from result }
         ensures way { GoesBy sys.now side self.now.meetings (Some glue) result result.way }
     {
-        let _valid = sys.tau();
+        sys.recall_valid();
         let meeting = self.meetings[place as usize];
         Cursor {
             at: meeting.tile as usize,

@@ -34,7 +34,7 @@ impl PairLinks {
     pub(crate) fn build(alloc: Global, sys: &System) -> Result<PairLinks, NoMemory>
         ensures { IfOk result (ArePairLinks sys.now 0) }
     {
-        let _valid = sys.tau();
+        sys.recall_valid();
         let pairs = sys.pairs();
         let count = sys.pair_count();
         let mut links = PairLinks {
@@ -73,7 +73,7 @@ impl PairLinks {
         requires known { glue.0 < length sys.now.glues }
         ensures { IsNextPair sys.now.pairs glue 0 result }
     {
-        let _valid = sys.tau();
+        sys.recall_valid();
         self.first[glue.0 as usize]
     }
 
@@ -85,7 +85,7 @@ impl PairLinks {
         requires glue { HasGlue glue pair }
         ensures { IsNextPair sys.now.pairs glue (number + 1) result }
     {
-        let _valid = sys.tau();
+        sys.recall_valid();
         if pair.first == glue {
             self.behind_first[number as usize]
         } else {

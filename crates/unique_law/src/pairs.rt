@@ -15,7 +15,7 @@ pub fn law_part(sys: &System, a: &Sequence, b: &Sequence)
     ensures { IsMatchedIn sys.now a.now b.now }
 {
     // The seeds of a system have distinct sites.
-    let _seeds = sys.seeds();
+    sys.recall_valid();
 }
 
 /// `a` is locally deterministic exactly where `b` is. It takes no memory and no time.
@@ -26,5 +26,5 @@ pub fn law_same_verdict(sys: &System, a: &Sequence, b: &Sequence)
     ensures { IsLocallyDeterministic sys.now a.now ↔ IsLocallyDeterministic sys.now b.now }
 {
     // The seeds of a system have distinct sites.
-    let _seeds = sys.seeds();
+    sys.recall_valid();
 }

@@ -10,12 +10,10 @@ use Rattle.grow_workers.specs.declared.shared.Shared.{Shared}
 use Rattle.grow_workers.specs.declared.starts.Start.{Start}
 use Rattle.grow_workers.specs.Inner.Wins.{IsParted, PartedGrowth}
 
--- the table and the index are the system's, and there are 1 to 16 workers
+-- the table and the index are the system's
 pub record IsShared {G : Type 0} (shared : Shared G) : Type 0 where
   pub system : shared.table.now.sys ≡ shared.sys.now
   pub types : IsIndexOf shared.sys.now shared.types.now
-  pub some : 1 ≤ shared.workers
-  pub few : shared.workers ≤ 16
 
 -- a seat of the table, and a grid of what it has seen
 pub record HasSeen {G : Type 0} (shared : Shared G) (seat : SeatValue) (grid : TileGrid) : Type 0 where
@@ -25,7 +23,7 @@ pub record HasSeen {G : Type 0} (shared : Shared G) (seat : SeatValue) (grid : T
 
 -- one of the workers begins with this
 pub record IsStart {G : Type 0} (shared : Shared G) (start : Start) : Type 0 where
-  pub worker : start.worker < shared.workers
+  pub worker : start.worker < shared.workers.count
   pub seen : HasSeen shared start.seat start.seen
 
 -- and leaves that

@@ -8,7 +8,7 @@ use Rattle.grow_core.specs.Core.{Owns, least, greatest, OwnsTwoOrMore, placed_by
 use Rattle.grow_core.specs.Steps.{IsKeptPart, IsGivenPart}
 use Rattle.site_table.specs.Seats.{SeatValue, GoesOn}
 use Rattle.site_table.specs.Rule.{IsPossible}
-use Rattle.grow_workers.specs.Workers.{Gains}
+use Rattle.grow_workers.specs.Workers.{WinsUnder}
 
 -- the numbers suffice for so many workers: all but the first have the greatest one that is left
 abbrev pub HasNumbers : ℕ → ℕ → Type 0
@@ -23,7 +23,7 @@ Rests old new n = placed_by n new ≡ placed_by n old
 -- the workers from 1 on have won so many, each under the greatest number that is left, and nothing else was won but under the least number
 abbrev pub OthersWin : List PlacedTile → List PlacedTile → ℕ → List ℕ → Type 0
 OthersWin old new owned [] = (n : ℕ) → Owns owned n → n ≢ least owned → Rests old new n
-OthersWin old new owned (k ∷ wins) = OwnsTwoOrMore owned × Gains old new (greatest owned) k × OthersWin old new (owned - 2 ^ greatest owned) wins
+OthersWin old new owned (k ∷ wins) = OwnsTwoOrMore owned × WinsUnder old new (greatest owned) k × OthersWin old new (owned - 2 ^ greatest owned) wins
 
 -- a seat that was parted: one worker has the greatest number, and the rest is what the others have
 pub record IsParted (seat kept given : SeatValue) : Type 0 where
@@ -40,5 +40,5 @@ pub record PartedGrowth (sys : TileSystem) (old : SeatValue) (start : TileGrid) 
   pub area : grid.area ≡ sys.area
   pub seen : SamePlacements new.scout.seen grid.tiles
   pub kept : IsPartOf start.tiles grid.tiles
-  pub first_wins : Gains old.scout.mine new.scout.mine (least old.scout.owned) first
+  pub first_wins : WinsUnder old.scout.mine new.scout.mine (least old.scout.owned) first
   pub others_win : OthersWin old.scout.mine new.scout.mine old.scout.owned others

@@ -1,6 +1,5 @@
 -- What the reader of a machine text holds of the lines that it took.
-use Rattle.std.specs.Prelude.{◌≡◌, ℕ, ◌+◌, ◌-◌, ◌<◌, ◌≤◌, Vec, IsTrue, false, List, [], ◌∷◌, ◌++◌, length, option_map, Option, Some, None, Result, Ok, Err, All, AllPairs, bytes_eq}
-use Rattle.std.specs.Global.{Global}
+use Rattle.std.specs.Prelude.{◌≡◌, ℕ, ◌+◌, ◌-◌, ◌<◌, ◌≤◌, IsTrue, false, List, [], ◌∷◌, ◌++◌, length, option_map, Option, Some, None, Result, Ok, Err, All, AllPairs, bytes_eq}
 use Rattle.std.specs.List.{list_any}
 use Rattle.tile_io.specs.declared.fault.Cause.{Cause}
 use Rattle.tile_io.specs.declared.line_reader.LineStop.{LineStop}
@@ -107,14 +106,3 @@ abbrev pub Gets : LineKind → Result MachineItem Cause → TuringMachine → Tu
 Gets kind check old new (Ok done) = (item : MachineItem) × (kind_of item ≡ kind) × (check ≡ Ok item) × (new ≡ with_item old item)
 Gets kind check old new (Err (stops.Fault cause)) = (check ≡ Err cause) × (new ≡ old)
 Gets kind check old new (Err stops.NoMemory) = new ≡ old
-
--- a check of a name that is declared here answers its fault, or that it passed
-abbrev pub Declares : Result (List ℕ) Cause → List ℕ → Result (Unit {0}) Cause → Type 0
-Declares check name (Ok done) = check ≡ Ok name
-Declares check name (Err cause) = check ≡ Err cause
-
--- numbers by this check, or its fault, or want of memory
-abbrev pub Refers : Result (List ℕ) Cause → Result (Vec ℕ Global) LineStop → Type 0
-Refers check (Ok numbers) = check ≡ Ok numbers.items
-Refers check (Err (stops.Fault cause)) = check ≡ Err cause
-Refers check (Err stops.NoMemory) = Unit {0}

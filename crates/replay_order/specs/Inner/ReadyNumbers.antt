@@ -19,8 +19,8 @@ abbrev pub AreInOrder : ReadyNumbers → Type 0
 AreInOrder ready = IfSome ready.least (IsBelowOthers ready.others)
 
 -- the numbers of the one and this one
-abbrev pub Gains : ReadyNumbers → ReadyNumbers → ℕ → Type 0
-Gains old new n = (m : ℕ) → IsAmong new m ↔ (IsAmong old m ⊎ (m ≡ n))
+abbrev pub Receives : ReadyNumbers → ReadyNumbers → ℕ → Type 0
+Receives old new n = (m : ℕ) → IsAmong new m ↔ (IsAmong old m ⊎ (m ≡ n))
 
 -- the numbers of the one but for this one
 abbrev pub Loses : ReadyNumbers → ReadyNumbers → ℕ → Type 0

@@ -1,18 +1,20 @@
--- What `check` answers.
-use Rattle.std.specs.Prelude.{◌≡◌, ◌≢◌, ℕ, Bool, false, List, ◌++◌}
+-- `check`: whether a sequence is legal, and the verdict on it.
+use Rattle.std.specs.Prelude.{◌≡◌, ◌≢◌, ℕ, Bool, true, false, List, ◌++◌}
 use Rattle.atam.specs.declared.place.Place.{Place}
 use Rattle.atam.specs.TileSystem.{TileSystem}
 use Rattle.atam.specs.Growth.{IsLegal}
 use Rattle.replay_order.specs.declared.legal.Legality.TheVariants as legality
 use Rattle.replay_order.specs.Legalities.{IsLegalityAnswer}
 use Rattle.local_check.specs.Judgement.{IsVerdict}
-use Rattle.seq_text.specs.GrowthText.{ReadsSequence}
+use Rattle.seq_text.specs.GrowthText.{sequence_format}
 use Rattle.seq_text.specs.LegalityLines.{legality_line}
 use Rattle.seq_text.specs.VerdictLines.{verdict_line}
 use Rattle.tilebench.specs.declared.commands.check.Judgement.{Judgement}
 use Rattle.tilebench.specs.declared.commands.check.Judgement.TheVariants.{Legal, Breach}
-use Rattle.tilebench.specs.Inputs.{IsSystemThen}
-use Rattle.tilebench.specs.Commands.Grow.{is_unique}
+use Rattle.tilebench.specs.Growing.{TellsNoGrowth}
+use Rattle.tilebench.specs.Growths.{is_unique}
+use Rattle.tilebench.specs.Inputs.{FailsWithin, IsReadable, IsSystemThenSequence}
+use Rattle.tilebench.specs.Rows.{RoomRow, refuses_none}
 
 -- the judgement on a sequence: the verdict on a legal one, or what breaks legality first
 abbrev pub IsJudgement : TileSystem → List Place → Judgement → Type 0
@@ -29,11 +31,7 @@ abbrev pub is_judged_unique : Judgement → Bool
 is_judged_unique (Legal verdict) = is_unique verdict
 is_judged_unique (Breach breach) = false
 
--- the input is the text of a system and then of a sequence
-abbrev pub IsSystemThenSequence : List ℕ → TileSystem → List Place → Type 0
-IsSystemThenSequence input sys sequence = IsSystemThen (λ s end. ReadsSequence s input end sequence) input sys
-
--- and this is the text of the judgement on it
+-- the input is the text of a system and then of a sequence, and this is the text of the judgement on it
 pub record IsCheckAnswer (input : List ℕ) (is_yes : Bool) (text : List ℕ) : Type 0 where
   pub sys : TileSystem
   pub sequence : List Place
@@ -42,3 +40,12 @@ pub record IsCheckAnswer (input : List ℕ) (is_yes : Bool) (text : List ℕ) : 
   pub judged : IsJudgement sys sequence judgement
   pub printed : text ≡ judgement_text sys judgement
   pub answer : is_yes ≡ is_judged_unique judgement
+
+abbrev pub check_row : RoomRow
+check_row = record {
+  reads = true;
+  answers = TellsNoGrowth IsCheckAnswer;
+  takes = IsReadable sequence_format;
+  fails = FailsWithin sequence_format;
+  refuses = refuses_none;
+}

@@ -1,18 +1,19 @@
--- What `load` answers.
-use Rattle.std.specs.Prelude.{◌≡◌, ℕ, ◌+◌, ◌-◌, ◌*◌, ◌/◌, ◌%◌, ◌^◌, min, Bool, true, List, [], ◌∷◌, ◌++◌, codes, decimal, length, Option, Some, None}
+-- `load`: a counter made from a number, and the summary of what it grows into.
+use Rattle.std.specs.Prelude.{◌≡◌, ℕ, ◌+◌, ◌-◌, ◌*◌, ◌/◌, ◌%◌, ◌^◌, min, Bool, true, false, List, [], ◌∷◌, ◌++◌, codes, decimal, length, Option, Some, None}
 use Rattle.atam.specs.declared.site.Site.{Site}
 use Rattle.atam.specs.declared.place.TypeId.{TypeId}
 use Rattle.atam.specs.TileSystem.{TileSystem}
 use Rattle.tile_io.specs.Lines.{line_of}
 use Rattle.site_table.specs.Seats.{GrownValue}
-use Rattle.grow_workers.specs.Workers as workers
+use Rattle.grow_workers.specs.Workers.{IsGrownBy}
 use Rattle.local_check.specs.declared.verdict.Verdict.{Verdict}
 use Rattle.local_check.specs.declared.verdict.Verdict.TheVariants.{Yes}
 use Rattle.counter_compile.specs.Counters.{counter_refusal, counter_system, row_count}
 use Rattle.seq_text.specs.GrowthLines.{closed_line}
 use Rattle.seq_text.specs.VerdictLines.{verdict_line}
 use Rattle.unique_law.specs.Outcomes.{Outcome}
-use Rattle.tilebench.specs.Commands.Grow.{IsGrowth}
+use Rattle.tilebench.specs.Growths.{IsGrowth}
+use Rattle.tilebench.specs.Rows.{RoomRow, refuses_none}
 
 -- The counter of a load: 2 to 32 bits, and at most 512 numbers from its start to the last one of so many bits.
 abbrev pub load_bits : ℕ → ℕ
@@ -51,7 +52,7 @@ pub record IsLoadAnswer (number : ℕ) (grown : Option GrownValue) (is_yes : Boo
   pub accepted : counter_refusal (load_bits number) (load_start number) ≡ None
   pub table : GrownValue
   pub handed_out : grown ≡ Some table
-  pub grew : workers.IsGrowth (load_system number) 4 table
+  pub grew : IsGrownBy (load_system number) 4 table
   pub outcome : Outcome
   pub into : IsGrowth (load_system number) table.grid.tiles outcome
   pub all : length table.grid.tiles ≡ load_tiles number
@@ -59,3 +60,12 @@ pub record IsLoadAnswer (number : ℕ) (grown : Option GrownValue) (is_yes : Boo
   pub unique : outcome.verdict ≡ Yes
   pub printed : text ≡ load_text number
   pub answer : is_yes ≡ true
+
+abbrev pub load_row : ℕ → RoomRow
+load_row number = record {
+  reads = false;
+  answers = λ grown input. IsLoadAnswer number grown;
+  takes = λ input. Unit {0};
+  fails = λ input fault. ⊥;
+  refuses = refuses_none;
+}

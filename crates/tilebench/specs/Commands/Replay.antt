@@ -1,17 +1,19 @@
--- What `replay` answers.
+-- `replay`: an assembly in canonical order.
 use Rattle.std.specs.Prelude.{◌≡◌, ◌≢◌, ◌<◌, ℕ, Bool, true, false, List, ◌++◌, Some, slice_get}
 use Rattle.atam.specs.declared.place.Place.{Place}
 use Rattle.atam.specs.declared.site.Site.{Site}
 use Rattle.atam.specs.TileSystem.{TileSystem}
-use Rattle.atam.specs.Placements.{HasDistinctSites, SamePlacements, tile_at}
+use Rattle.atam.specs.Placements.{tile_at}
 use Rattle.replay_order.specs.ReplayAnswers.{IsWholeOrder, IsStuckAt}
 use Rattle.tile_text.specs.Spelling.{spelling}
-use Rattle.seq_text.specs.GrowthText.{ReadsPlacements}
+use Rattle.seq_text.specs.GrowthText.{grid_format}
 use Rattle.seq_text.specs.GrowthLines.{place_lines}
 use Rattle.seq_text.specs.StuckLines.{stuck_line, stuck_seed_line}
 use Rattle.tilebench.specs.declared.commands.replay.Reordering.{Reordering}
 use Rattle.tilebench.specs.declared.commands.replay.Reordering.TheVariants.{Whole, SeedMissing, Stuck}
-use Rattle.tilebench.specs.Inputs.{IsSystemThen}
+use Rattle.tilebench.specs.Growing.{TellsNoGrowth}
+use Rattle.tilebench.specs.Inputs.{FailsWithin, IsAssemblyOf, IsReadable, IsSystemThenPlacements}
+use Rattle.tilebench.specs.Rows.{RoomRow, refuses_none}
 
 -- the first seed that isn't there, in the system's order, is of this site
 pub record LacksSeedAt (sys : TileSystem) (tiles : List Place) (site : Site) : Type 0 where
@@ -40,16 +42,7 @@ abbrev pub is_whole : Reordering → Bool
 is_whole (Whole order) = true
 is_whole _ = false
 
--- the input is the text of a system and then of these placements, with one line for a site at most
-abbrev pub IsSystemThenPlacements : List ℕ → TileSystem → List Place → Type 0
-IsSystemThenPlacements input sys places = IsSystemThen (λ s end. ReadsPlacements s input end places) input sys
-
--- the assembly has exactly the placements, one at each site
-pub record IsAssemblyOf (places tiles : List Place) : Type 0 where
-  pub same : SamePlacements places tiles
-  pub distinct : HasDistinctSites tiles
-
--- and this is the text of their canonical order, or of what keeps them from having one
+-- the input is the text of a system and then of placements, and this is the text of their canonical order, or of what keeps them from having one
 pub record IsReplayAnswer (input : List ℕ) (is_yes : Bool) (text : List ℕ) : Type 0 where
   pub sys : TileSystem
   pub places : List Place
@@ -62,3 +55,12 @@ pub record IsReplayAnswer (input : List ℕ) (is_yes : Bool) (text : List ℕ) :
   pub answer : is_yes ≡ is_whole reordering
   -- the order that was printed reads back, behind the spelling of the system
   pub reads_back : (order : List Place) → reordering ≡ Whole order → IsSystemThenPlacements (spelling sys ++ text) sys order
+
+abbrev pub replay_row : RoomRow
+replay_row = record {
+  reads = true;
+  answers = TellsNoGrowth IsReplayAnswer;
+  takes = IsReadable grid_format;
+  fails = FailsWithin grid_format;
+  refuses = refuses_none;
+}

@@ -1,13 +1,16 @@
--- What `report` answers.
-use Rattle.std.specs.Prelude.{◌≡◌, ℕ, Bool, List, [], ◌∷◌, length, map, is_some}
+-- `report`: what is to be told of a growth, as one line of JSON.
+use Rattle.std.specs.Prelude.{◌≡◌, ℕ, Bool, true, List, [], ◌∷◌, length, map, is_some}
 use Rattle.atam.specs.TileSystem.{TileSystem}
 use Rattle.tile_io.specs.Lines.{line_of}
 use Rattle.site_table.specs.Seats.{GrownValue}
 use Rattle.report.specs.Reports.{report_line}
 use Rattle.unique_law.specs.Outcomes.{Outcome}
-use Rattle.tilebench.specs.declared.commands.race.Win.{Win}
-use Rattle.tilebench.specs.Commands.Grow.{IsGrowth, is_unique}
-use Rattle.tilebench.specs.Commands.Race.{AreShares}
+use Rattle.tilebench.specs.declared.wins.Win.{Win}
+use Rattle.tilebench.specs.Growing.{TellsGrowth}
+use Rattle.tilebench.specs.Growths.{IsGrowth, is_unique}
+use Rattle.tilebench.specs.Inputs.{FailsWithin, IsReadable, alone}
+use Rattle.tilebench.specs.Rows.{RoomRow, refuses_none}
+use Rattle.tilebench.specs.Wins.{AreShares}
 
 -- the line that reports so many tiles with this outcome, and what each worker won
 abbrev pub report_of : TileSystem → ℕ → Outcome → List Win → List ℕ
@@ -21,3 +24,12 @@ pub record IsReportText (workers : ℕ) (sys : TileSystem) (table : GrownValue) 
   pub shares : AreShares workers sys table wins
   pub printed : text ≡ report_of sys (length table.grid.tiles) outcome wins
   pub answer : is_yes ≡ is_unique outcome.verdict
+
+abbrev pub report_row : ℕ → RoomRow
+report_row workers = record {
+  reads = true;
+  answers = TellsGrowth (IsReportText workers) workers;
+  takes = IsReadable alone;
+  fails = FailsWithin alone;
+  refuses = refuses_none;
+}

@@ -1,5 +1,5 @@
--- What `schedule` answers.
-use Rattle.std.specs.Prelude.{◌≡◌, ◌++◌, ℕ, Bool, List, map, All, Result, is_ok}
+-- `schedule`: steps of several scouts, run on a growth core.
+use Rattle.std.specs.Prelude.{◌≡◌, ◌++◌, ℕ, Bool, true, List, map, All, Result, is_ok}
 use Rattle.std.specs.List.{list_all}
 use Rattle.atam.specs.declared.place.Place.{Place}
 use Rattle.atam.specs.TileSystem.{TileSystem}
@@ -10,9 +10,11 @@ use Rattle.grow_core.specs.declared.event.CoreStop.{CoreStop}
 use Rattle.grow_core.specs.Core.{CoreState, places}
 use Rattle.grow_core.specs.Steps.{CoreRun, IsStart}
 use Rattle.seq_text.specs.GrowthLines.{place_lines}
-use Rattle.seq_text.specs.ScheduleText.{ReadsEvents}
+use Rattle.seq_text.specs.ScheduleText.{ReadsEvents, schedule_format}
 use Rattle.seq_text.specs.SeenLines.{seen_lines, HasLine}
-use Rattle.tilebench.specs.Inputs.{IsSystemThen}
+use Rattle.tilebench.specs.Growing.{TellsNoGrowth}
+use Rattle.tilebench.specs.Inputs.{FailsWithin, IsReadable, IsSystemThen}
+use Rattle.tilebench.specs.Rows.{RoomRow, refuses_none}
 
 -- the events one after another on the growth core, each with its reply
 pub record IsRunOf (sys : TileSystem) (start : CoreState) (events : List Event) (replies : List (Result Seen CoreStop)) (end : CoreState) : Type 0 where
@@ -22,12 +24,12 @@ pub record IsRunOf (sys : TileSystem) (start : CoreState) (events : List Event) 
   pub run : CoreRun sys start answered end
 
 -- the replies to the events of a schedule, and the tiles that came of them
-pub record Replies : Type 0 where
+pub record ScheduleOutcome : Type 0 where
   pub replies : List (Result Seen CoreStop)
   pub order : List Place
 
 -- From the start of the core, the replies to the events, none of which is want of memory; and then the canonical sequence of the core's tiles.
-pub record AreReplies (sys : TileSystem) (events : List Event) (schedule : Replies) : Type 0 where
+pub record AreReplies (sys : TileSystem) (events : List Event) (schedule : ScheduleOutcome) : Type 0 where
   pub start : CoreState
   pub starts : IsStart sys start
   pub end : CoreState
@@ -36,7 +38,7 @@ pub record AreReplies (sys : TileSystem) (events : List Event) (schedule : Repli
   pub canonical : IsCanonical sys (places end.tiles) schedule.order
 
 -- their text
-abbrev pub schedule_text : TileSystem → Replies → List ℕ
+abbrev pub schedule_text : TileSystem → ScheduleOutcome → List ℕ
 schedule_text sys schedule = seen_lines sys schedule.replies ++ place_lines sys schedule.order
 
 -- no event was refused
@@ -52,7 +54,16 @@ pub record IsScheduleAnswer (input : List ℕ) (is_yes : Bool) (text : List ℕ)
   pub sys : TileSystem
   pub events : List Event
   pub read : IsSystemThenEvents input sys events
-  pub schedule : Replies
+  pub schedule : ScheduleOutcome
   pub replied : AreReplies sys events schedule
   pub printed : text ≡ schedule_text sys schedule
   pub answer : is_yes ≡ are_answered schedule.replies
+
+abbrev pub schedule_row : RoomRow
+schedule_row = record {
+  reads = true;
+  answers = TellsNoGrowth IsScheduleAnswer;
+  takes = IsReadable schedule_format;
+  fails = FailsWithin schedule_format;
+  refuses = refuses_none;
+}

@@ -1,6 +1,6 @@
 -- What workers won together.
 use Rattle.std.specs.Prelude.{ℕ, zero, suc, ◌+◌, List}
-use Rattle.tilebench.specs.Commands.Race.{won_by}
+use Rattle.tilebench.specs.Wins.{won_by}
 
 -- what the first so many workers won
 abbrev pub won_together : List ℕ → ℕ → ℕ

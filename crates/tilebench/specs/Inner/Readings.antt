@@ -10,7 +10,9 @@ use Rattle.tile_text.specs.SystemText.{FaultAny, ReadsAny}
 use Rattle.tile_text.proofs.Eithers.{any_not_both, any_one_system}
 use Rattle.machine_text.specs.Machines.{TuringMachine}
 use Rattle.machine_text.specs.MachineText.{ReadsMachine, machine_format, machine_of}
-use Rattle.tilebench.specs.Inputs.{FailsWithin, FailsWithinAs, FailsWithinMachine, IsReadable, IsReadableAs, IsReadableMachine, first_mark}
+use Rattle.quadrant_compile.specs.Weaves.{Weave}
+use Rattle.quadrant_compile.specs.WeaveText.{ReadsQuadrant, quadrant_format, weave_of}
+use Rattle.tilebench.specs.Inputs.{FailsWithin, FailsWithinAs, FailsWithinMachine, FailsWithinQuadrant, IsReadable, IsReadableAs, IsReadableMachine, IsReadableQuadrant, first_mark}
 
 -- where a text of some kind has no fault, and is that of one value
 module _ {Value : Type 0} (IsText : List ℕ → Mark → Value → Mark → Type 0) (IsFault : List ℕ → Mark → ℕ → Cause → Type 0)
@@ -34,6 +36,14 @@ one_machine text from to end M N reads other =
     let same = reads_once machine_format text from reads.items other.items to end reads.reads other.reads in
     (reads.machine ∙ ap machine_of same.0 ∙ sym other.machine, same.1)
 
+quadrant_faultless : (text : List ℕ) (from to : Mark) (w : Weave) (number : ℕ) (cause : Cause) → ReadsQuadrant text from w to → Fault quadrant_format text from number cause → ⊥
+quadrant_faultless text from to w number cause reads fails = not_both quadrant_format text from reads.items to number cause reads.reads fails
+
+one_quadrant : (text : List ℕ) (from to end : Mark) (w v : Weave) → ReadsQuadrant text from w to → ReadsQuadrant text from v end → (w ≡ v) × (to ≡ end)
+one_quadrant text from to end w v reads other =
+    let same = reads_once quadrant_format text from reads.items other.items to end reads.reads other.reads in
+    (reads.weave ∙ ap weave_of same.0 ∙ sym other.weave, same.1)
+
 -- of the text of a system
 pub taken_or_faulty : {Item : Type 0} (format : TileSystem → Format Item) (input : List ℕ) (fault : TextFault) → IsReadable format input → FailsWithin format input fault → ⊥
 taken_or_faulty format input fault taken fails = taken_or_faulty_as ReadsAny FaultAny any_not_both any_one_system format input fault taken fails
@@ -41,3 +51,7 @@ taken_or_faulty format input fault taken fails = taken_or_faulty_as ReadsAny Fau
 -- of the text of a machine
 pub taken_or_faulty_machine : {Item : Type 0} (format : TuringMachine → Format Item) (input : List ℕ) (fault : TextFault) → IsReadableMachine format input → FailsWithinMachine format input fault → ⊥
 taken_or_faulty_machine format input fault taken fails = taken_or_faulty_as ReadsMachine (Fault machine_format) machine_faultless one_machine format input fault taken fails
+
+-- of the text of a two-input rule
+pub taken_or_faulty_quadrant : {Item : Type 0} (format : Weave → Format Item) (input : List ℕ) (fault : TextFault) → IsReadableQuadrant format input → FailsWithinQuadrant format input fault → ⊥
+taken_or_faulty_quadrant format input fault taken fails = taken_or_faulty_as ReadsQuadrant (Fault quadrant_format) quadrant_faultless one_quadrant format input fault taken fails

@@ -9,7 +9,7 @@ use Rattle.seq_text.specs.VerdictLines.{NamesTypes}
 use Rattle.unique_law.specs.Outcomes.{Outcome}
 use Rattle.tilebench.specs.declared.commands.check.Judgement.{Judgement}
 use Rattle.tilebench.specs.declared.commands.check.Judgement.TheVariants.{Legal, Breach}
-use Rattle.tilebench.specs.declared.commands.grow.Growth.{Growth}
+use Rattle.tilebench.specs.declared.growth.Growth.{Growth}
 use Rattle.tilebench.specs.declared.judged.Judged.{Judged}
 use Rattle.replay_order.specs.ReplayAnswers.{IsWholeOrder}
 use Rattle.local_check.specs.declared.verdict.Verdict.{Verdict}
@@ -18,11 +18,11 @@ use Rattle.tilebench.specs.declared.commands.replay.Reordering.{Reordering}
 use Rattle.tilebench.specs.declared.commands.replay.Reordering.TheVariants.{Whole}
 use Rattle.tilebench.specs.declared.commands.schedule.Scheduled.{Scheduled}
 use Rattle.tile_io.specs.Lines.{line_of}
-use Rattle.tilebench.specs.declared.commands.race.Win.{Win}
+use Rattle.tilebench.specs.declared.wins.Win.{Win}
 use Rattle.tilebench.specs.declared.commands.reports.Reported.{Reported}
-use Rattle.tilebench.specs.Commands.Grow.{IsGrowth, is_unique}
+use Rattle.tilebench.specs.Growths.{IsGrowth, is_unique}
 use Rattle.tilebench.specs.Commands.Report.{report_of}
-use Rattle.tilebench.specs.Commands.Schedule.{AreReplies, Replies}
+use Rattle.tilebench.specs.Commands.Schedule.{AreReplies, ScheduleOutcome}
 
 -- the types of an outcome are those of the system
 pub record HasTypes (sys : TileSystem) (outcome : Outcome) : Type 0 where
@@ -66,12 +66,12 @@ OrdersTypes sys (Whole order) = All (λ p. IsType sys p.tile) order
 OrdersTypes sys _ = Unit {0}
 
 -- each reply has a line, and the tiles are of types of the system
-pub record HasLines (sys : TileSystem) (schedule : Replies) : Type 0 where
+pub record HasLines (sys : TileSystem) (schedule : ScheduleOutcome) : Type 0 where
   pub replies : All (HasLine sys) schedule.replies
   pub order : All (λ p. IsType sys p.tile) schedule.order
 
 -- the replies and the tiles of a schedule that was run
-abbrev pub replies_of : Scheduled → Replies
+abbrev pub replies_of : Scheduled → ScheduleOutcome
 replies_of scheduled = record { replies = scheduled.replies.items; order = scheduled.order }
 
 -- a run of these events on this system

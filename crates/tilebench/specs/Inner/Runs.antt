@@ -1,13 +1,13 @@
 -- How the run of one command ends.
-use Rattle.std.specs.Prelude.{◌≡◌, ◌≢◌, ◌⊎◌, ◌≤◌, ℕ, Bool, false, List, Option}
+use Rattle.std.specs.Prelude.{◌≡◌, ◌≢◌, ◌⊎◌, ◌≤◌, ℕ, false, List, Option}
 use Rattle.tile_io.specs.declared.fault.TextFault.{TextFault}
 use Rattle.tile_io.specs.Faults.{Rose}
-use Rattle.site_table.specs.Seats.{GrownValue}
 use Rattle.counter_compile.specs.declared.stop.CounterStop.{CounterStop}
 use Rattle.tilebench.specs.declared.status.Ran.{Ran}
 use Rattle.tilebench.specs.declared.status.Status.TheVariants.{ReadFault, NoMemory}
 use Rattle.tilebench.specs.Headline.{Ends}
 use Rattle.tilebench.specs.Refusals.{refused_counter, refused_text}
+use Rattle.tilebench.specs.Rows.{RoomRow, AnswersLeft, FailsLeft, IsReadyFor}
 use Rattle.tilebench.specs.Statuses.{IsAnswered}
 
 -- the line that tells a fault of this kind
@@ -23,15 +23,14 @@ pub record IsNumbersLine (Refuses : CounterStop → Type 0) (text : List ℕ) : 
   pub told : text ≡ refused_counter stop
 
 module _ {S K E : Type 0} (left : S → Option (List ℕ)) (read_faults : S → ℕ) (written : K → Option (List ℕ)) (out_faults : K → ℕ) (told : E → Option (List ℕ)) (err_faults : E → ℕ)
-    (reads : Bool) (Answers : Option GrownValue → Option (List ℕ) → Option (List ℕ) → Bool → List ℕ → Type 0) (Takes : Option (List ℕ) → Type 0)
-    (Refuses : CounterStop → Type 0) (Fails : Option (List ℕ) → Option (List ℕ) → TextFault → Type 0) where
+    (row : RoomRow) where
   pub record EndsCommand (source source_after : S) (out out_after : K) (err err_after : E) (ran : Ran) : Type 0 where
-    pub ends : Ends read_faults written out_faults told err_faults (λ grown. Answers grown (left source) (left source_after))
-        (IsFaultLine (Fails (left source) (left source_after))) (IsNumbersLine Refuses) source source_after out out_after err err_after ran.status ran.grown
-    pub unread : reads ≡ false → (source_after ≡ source) × (ran.status ≢ ReadFault)
+    pub ends : Ends read_faults written out_faults told err_faults (λ grown. AnswersLeft row grown (left source) (left source_after))
+        (IsFaultLine (FailsLeft row (left source) (left source_after))) (IsNumbersLine row.refuses) source source_after out out_after err err_after ran.status ran.grown
+    pub unread : row.reads ≡ false → (source_after ≡ source) × (ran.status ≢ ReadFault)
     pub quiet : ran.status ≢ ReadFault → read_faults source_after ≡ read_faults source
     pub source_later : read_faults source ≤ read_faults source_after
     pub out_later : out_faults out ≤ out_faults out_after
     pub err_later : err_faults err ≤ err_faults err_after
-    pub complete : Takes (left source) → ((stop : CounterStop) → ¬ Refuses stop) → ¬ Rose (read_faults source) (read_faults source_after) → ¬ Rose (out_faults out) (out_faults out_after)
+    pub complete : IsReadyFor row (left source) → ¬ Rose (read_faults source) (read_faults source_after) → ¬ Rose (out_faults out) (out_faults out_after)
         → ¬ Rose (err_faults err) (err_faults err_after) → IsAnswered ran.status ⊎ (ran.status ≡ NoMemory)

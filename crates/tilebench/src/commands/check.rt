@@ -1,26 +1,26 @@
 // `check`: whether a sequence is legal, and the verdict on it.
-ghost use Rattle.std.specs.Prelude.{◌<◌, ◌≤◌, ◌^◌, length, IfOk};
-ghost use Rattle.tile_io.specs.declared.limits.TheConstants.{MOST_INPUT};
+ghost use Rattle.std.specs.Prelude.{◌<◌, ◌^◌, length, IfOk};
 ghost use Rattle.atam.specs.Assembly.{Fits};
 ghost use Rattle.tile_io.specs.Prints.{Prints};
 ghost use Rattle.seq_text.specs.GrowthText.{sequence_format};
 ghost use Rattle.seq_text.specs.VerdictLines.{NamesTypes};
-ghost use Rattle.tilebench.specs.Inner.Gives.{Gives};
-ghost use Rattle.tilebench.specs.Inputs.{FailsWithin, IsReadable};
-ghost use Rattle.tilebench.specs.Commands.Check.{IsCheckAnswer, IsJudgement, IsSystemThenSequence, is_judged_unique, judgement_text};
+ghost use Rattle.tilebench.specs.Commands.Check.{IsJudgement, check_row, is_judged_unique, judgement_text};
 ghost use Rattle.tilebench.specs.Inner.Rooms.{NamesItsTypes};
 ghost use Rattle.tilebench.specs.Inner.Readings.{taken_or_faulty};
 
-use crate::commands::grow::is_unique;
-use crate::input::read_front;
-use crate::room::{Reply, Room};
+use crate::input::system_and_sequence;
+use crate::judged::is_unique;
+use crate::resources::Resources;
+use crate::room::{PlainRoom, Reply, Room};
 use crate::stop::Stop;
 use assembly::{Grid, Sequence};
 use local_check::{Verdict, inputs_of_grid, judge};
 use replay_order::{Legality, check_legal};
-use seq_text::{print_legality, print_verdict, read_sequence_once};
+use seq_text::{print_legality, print_verdict};
+use site_table::Grown;
 use std::alloc::Global;
-use tile_io::{Failed, Sink};
+use std::thread::Threads;
+use tile_io::{Failed, Gate, Sink};
 use tile_system::{NoMemory, System};
 
 /// The command.
@@ -30,19 +30,25 @@ pub struct Check;
 impl Room for Check {
     type Answer = Checked;
 
-    ghost answers = { λ room. IsCheckAnswer };
+    ghost room_row = { λ room. check_row };
 
-    ghost takes = { λ room. IsReadable sequence_format };
-
-    ghost fails = { λ room. FailsWithin sequence_format };
-
-    fn answer(&self, alloc: Global, input: Vec<u8>) -> Result<Checked, Stop> {
-        let (sys, sequence) = system_and_sequence(alloc, input)?;
-        let judgement = judgement_of(alloc, &sys, &sequence)?;
-        Ok(Checked { sys, judgement })
+    fn reads_input(&self) -> bool {
+        true
     }
 
     ghost one_of_two = { λ room. taken_or_faulty sequence_format };
+}
+
+impl PlainRoom for Check {
+    fn answer<R: Threads + Sync, G: Gate>(
+        &self,
+        resources: &Resources<'_, R, G>,
+        input: Vec<u8>,
+    ) -> Result<(Checked, Option<Grown>), Stop> {
+        let (sys, sequence) = system_and_sequence(resources.alloc, input)?;
+        let judgement = judgement_of(resources.alloc, &sys, &sequence)?;
+        Ok((Checked { sys, judgement }, None))
+    }
 }
 
 /// The judgement on a sequence of a system.
@@ -89,19 +95,6 @@ fn print_legal<K: Sink>(sys: &System, verdict: &Verdict, out: &mut K) -> Result<
 {
     print_legality(&Legality::Legal, out)?;
     print_verdict(sys, verdict, out)
-}
-
-// The system and the sequence whose texts the input is.
-fn system_and_sequence(alloc: Global, input: Vec<u8>) -> Result<(System, Sequence), Stop>
-    requires { length input.items ≤ MOST_INPUT }
-    ensures read { Gives (λ found. IsSystemThenSequence input.items found.0 found.1)
-        (FailsWithin sequence_format input.items) result }
-    ensures fits { IfOk result (λ found. Fits found.0 found.1) }
-    ensures short { IfOk result (λ found. length found.1 < 2 ^ 32) }
-{
-    let (sys, end) = read_front(alloc, &input)?;
-    let sequence = read_sequence_once(alloc, &sys, input, end)?;
-    Ok((sys, sequence))
 }
 
 // Whether a sequence is legal, and the verdict on it then, by the grid into which its places went.

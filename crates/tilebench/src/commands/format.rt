@@ -1,13 +1,16 @@
 // `format`: the one spelling of a system.
-ghost use Rattle.tilebench.specs.Inputs.{FailsWithin, IsReadable, alone};
-ghost use Rattle.tilebench.specs.Commands.Format.{IsFormatAnswer};
+ghost use Rattle.tilebench.specs.Inputs.{alone};
+ghost use Rattle.tilebench.specs.Commands.Format.{format_row};
 ghost use Rattle.tilebench.specs.Inner.Readings.{taken_or_faulty};
 
-use crate::commands::spelled::Spelled;
 use crate::input::read_alone;
-use crate::room::Room;
+use crate::resources::Resources;
+use crate::room::{PlainRoom, Room};
+use crate::spelled::Spelled;
 use crate::stop::Stop;
-use std::alloc::Global;
+use site_table::Grown;
+use std::thread::Threads;
+use tile_io::Gate;
 
 /// The command.
 #[derive(Clone, Copy)]
@@ -16,16 +19,22 @@ pub struct Format;
 impl Room for Format {
     type Answer = Spelled;
 
-    ghost answers = { λ room. IsFormatAnswer };
+    ghost room_row = { λ room. format_row };
 
-    ghost takes = { λ room. IsReadable alone };
-
-    ghost fails = { λ room. FailsWithin alone };
-
-    fn answer(&self, alloc: Global, input: Vec<u8>) -> Result<Spelled, Stop> {
-        let sys = read_alone(alloc, &input)?;
-        Ok(Spelled { sys })
+    fn reads_input(&self) -> bool {
+        true
     }
 
     ghost one_of_two = { λ room. taken_or_faulty alone };
+}
+
+impl PlainRoom for Format {
+    fn answer<R: Threads + Sync, G: Gate>(
+        &self,
+        resources: &Resources<'_, R, G>,
+        input: Vec<u8>,
+    ) -> Result<(Spelled, Option<Grown>), Stop> {
+        let sys = read_alone(resources.alloc, &input)?;
+        Ok((Spelled { sys }, None))
+    }
 }

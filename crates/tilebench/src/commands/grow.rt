@@ -1,100 +1,51 @@
 // `grow`: what a system grows into within its box.
-ghost use Rattle.std.specs.Prelude.{◌≡◌, true};
-ghost use Rattle.atam.specs.Growth.{IsClosedInBox, IsProducible};
-ghost use Rattle.local_check.specs.declared.verdict.Verdict.{Verdict};
-ghost use Rattle.tilebench.specs.Commands.Grow.{IsGrowthText, growth_text, is_unique};
-ghost use Rattle.tilebench.specs.Inner.Rooms.{GrowsTo, HasTypes, IsJudged, outcome_of};
+ghost use Rattle.std.specs.Prelude.{◌≤◌, length};
+ghost use Rattle.tilebench.specs.Inner.Gives.{GivesAnswer};
+ghost use Rattle.tile_io.specs.declared.limits.TheConstants.{MOST_INPUT};
+ghost use Rattle.tilebench.specs.Commands.Grow.{grow_row};
+ghost use Rattle.tilebench.specs.Inner.Readings.{taken_or_faulty};
+ghost use Rattle.tilebench.specs.Inputs.{alone};
 
-use crate::judged::Judged;
-use crate::room::{GrowthRoom, Reply};
-use assembly::{Grid, Sequence};
-use local_check::Verdict;
-use seq_text::{print_closed, print_places, print_verdict};
+use crate::growth::{Growth, growth_of};
+use crate::input::read_alone;
+use crate::judged::grow_judged;
+use crate::resources::{Crew, Resources};
+use crate::room::{Reply, Room};
+use crate::stop::Stop;
 use site_table::Grown;
-use std::alloc::Global;
-use tile_io::{Failed, Sink};
-use tile_system::{NoMemory, Site, System, TypeId};
+use std::thread::Threads;
+use tile_io::Gate;
 
 /// The command.
 #[derive(Clone, Copy)]
-pub struct Grow;
+pub struct Grow(pub Crew);
 
-impl GrowthRoom for Grow {
+impl Room for Grow {
     type Answer = Growth;
 
-    ghost tells = { λ workers. IsGrowthText };
+    ghost room_row = { λ room. grow_row room.0.workers.count };
 
-    ghost wants = { λ room. true };
-
-    fn wants_verdict(&self) -> bool {
+    fn reads_input(&self) -> bool {
         true
     }
 
-    fn answer(
+    ghost one_of_two = { λ room. taken_or_faulty alone };
+}
+
+impl Grow {
+    /// Its answer to an input, with the growth that is to be handed out.
+    pub fn answer<R: Threads + Sync, G: Gate>(
         &self,
-        _alloc: Global,
-        sys: System,
-        _workers: u32,
-        grown: &Grown,
-        judged: Option<Judged>,
-    ) -> Result<Growth, NoMemory> {
-        Ok(growth_of(sys, grown.grid(), judged.unwrap()))
-    }
-}
-
-/// What a system grew into: its tiles in canonical order, what is open outside its box, and the
-/// verdict on this order.
-#[derive(Drop)]
-pub struct Growth {
-    pub sys: System,
-    pub order: Sequence,
-    pub outside: Option<(Site, TypeId)>,
-    pub verdict: Verdict,
-}
-
-impl Reply for Growth {
-    ghost text = { λ growth. growth_text growth.sys (outcome_of growth) };
-
-    ghost yes = { λ growth. is_unique growth.verdict };
-
-    ghost printable = { λ growth. HasTypes growth.sys (outcome_of growth) };
-
-    fn is_yes(&self) -> bool {
-        is_unique(self.verdict)
-    }
-
-    fn print<K: Sink>(&self, out: &mut K) -> Result<(), Failed> {
-        print_places(&self.sys, &self.order, out)?;
-        print_closed(&self.sys, self.outside, out)?;
-        print_verdict(&self.sys, &self.verdict, out)
-    }
-}
-
-/// Whether a verdict is a yes.
-pub fn is_unique(verdict: Verdict) -> bool
-    ensures { result ≡ is_unique verdict }
-{
-    matches!(verdict, Verdict::Yes)
-}
-
-/// What a system grew into, by the grid of a full growth and the verdict on it.
-pub fn growth_of(sys: System, grid: &Grid, judged: Judged) -> Growth
-    requires area { grid.now.area ≡ sys.area }
-    requires producible { IsProducible sys grid.now.tiles }
-    requires closed { IsClosedInBox sys grid.now.tiles }
-    requires judged { IsJudged sys grid.now.tiles judged }
-    ensures { GrowsTo sys grid.now.tiles result }
-{
-    let _box = grid.area();
-    let Judged {
-        order,
-        verdict,
-        outside,
-    } = judged;
-    Growth {
-        sys,
-        order,
-        outside,
-        verdict,
+        resources: &Resources<'_, R, G>,
+        input: Vec<u8>,
+    ) -> Result<(Growth, Option<Grown>), Stop>
+        requires { length input.items ≤ MOST_INPUT }
+        ensures { GivesAnswer ⟦<Growth as Reply>⟧.yes ⟦<Growth as Reply>⟧.text ⟦<Growth as Reply>⟧.printable
+            (grow_row self.now.0.workers.count) input.items result }
+    {
+        let sys = read_alone(resources.alloc, &input)?;
+        let (grown, judged) = grow_judged(resources, &sys, self.0)?;
+        let growth = growth_of(sys, grown.grid(), judged);
+        Ok((growth, Some(grown)))
     }
 }

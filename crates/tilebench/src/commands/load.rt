@@ -1,19 +1,21 @@
 // `load`: a counter made from a number, and the summary of what it grows into.
+ghost use Rattle.tilebench.specs.Inner.Gives.{GivesAnswer};
 ghost use Rattle.std.specs.Prelude.{◌≡◌, ◌+◌, ◌≤◌, ◌^◌, ◌++◌, None, IfOk};
 ghost use Rattle.tile_io.specs.Prints.{Prints};
 ghost use Rattle.counter_compile.specs.Counters.{counter_refusal, counter_system};
 ghost use Rattle.seq_text.specs.GrowthLines.{closed_line};
 ghost use Rattle.seq_text.specs.VerdictLines.{verdict_line};
-ghost use Rattle.tilebench.specs.Commands.Grow.{is_unique};
-ghost use Rattle.tilebench.specs.Commands.Load.{IsLoadAnswer, counter_line, load_bits, load_start, numbers_after_start, summary, tiles_line};
-ghost use Rattle.tilebench.specs.Inner.Gives.{GivesUnread};
+ghost use Rattle.tilebench.specs.Commands.Load.{counter_line, load_bits, load_row, load_start, numbers_after_start, summary, tiles_line};
+ghost use Rattle.tilebench.specs.Growths.{is_unique};
 ghost use Rattle.tilebench.specs.Inner.Rooms.{HasTypes, outcome_of};
 
-use crate::commands::grow::{Growth, growth_of, is_unique};
-use crate::judged::grow_judged;
-use crate::room::Reply;
+use crate::growth::{Growth, growth_of};
+use crate::judged::{grow_judged, is_unique};
+use crate::resources::{Crew, Resources};
+use crate::room::{Reply, Room};
 use crate::stop::Stop;
 use counter_compile::{CounterStop, compile_counter};
+use fan_out::WorkerCount;
 use itoa::Buffer;
 use seq_text::{print_closed, print_verdict};
 use site_table::Grown;
@@ -22,34 +24,53 @@ use std::thread::Threads;
 use tile_io::{Failed, Gate, Sink, print_line};
 use tile_system::{NoMemory, System};
 
+// By how many workers the counter is grown.
 const WORKERS: u32 = 4;
 
-/// What the counter of a number grows into, by four workers whose choices come from this number.
-pub fn answer<R: Threads + Sync, G: Gate>(
-    rt: &R,
-    alloc: Global,
-    number: u64,
-    gate: &G,
-) -> Result<(Loaded, Option<Grown>), Stop>
-    ensures answer { GivesUnread (λ loaded. is_unique loaded.growth.verdict)
-        (λ loaded. summary loaded.number loaded.counter.bits loaded.counter.start loaded.tiles
-        loaded.growth.sys loaded.growth.outside loaded.growth.verdict)
-        (λ loaded. HasTypes loaded.growth.sys (outcome_of loaded.growth))
-        (IsLoadAnswer number) (λ stop. ⊥) result }
-    ensures printable { IfOk result (λ found.
-        HasTypes found.0.growth.sys (outcome_of found.0.growth)) }
-{
-    let counter = counter_of(number);
-    let sys = system_of(alloc, counter)?;
-    let (grown, judged) = grow_judged(rt, alloc, &sys, WORKERS, number, true, gate)?;
-    let growth = growth_of(sys, grown.grid(), judged.unwrap());
-    let loaded = Loaded {
-        number,
-        counter,
-        tiles: grown.grid().count(),
-        growth,
-    };
-    Ok((loaded, Some(grown)))
+/// The command.
+#[derive(Clone, Copy)]
+pub struct Load {
+    pub number: u64,
+}
+
+impl Room for Load {
+    type Answer = Loaded;
+
+    ghost room_row = { λ room. load_row room.number };
+
+    fn reads_input(&self) -> bool {
+        false
+    }
+
+    ghost one_of_two = { λ room input fault takes fails. fails };
+}
+
+impl Load {
+    /// Its answer to an input, with the growth that is to be handed out.
+    pub fn answer<R: Threads + Sync, G: Gate>(
+        &self,
+        resources: &Resources<'_, R, G>,
+        _input: Vec<u8>,
+    ) -> Result<(Loaded, Option<Grown>), Stop>
+        ensures { GivesAnswer ⟦<Loaded as Reply>⟧.yes ⟦<Loaded as Reply>⟧.text ⟦<Loaded as Reply>⟧.printable
+            (load_row self.now.number) _input.items result }
+    {
+        let counter = counter_of(self.number);
+        let sys = system_of(resources.alloc, counter)?;
+        let crew = Crew {
+            workers: WorkerCount::new(WORKERS),
+            choice: self.number,
+        };
+        let (grown, judged) = grow_judged(resources, &sys, crew)?;
+        let growth = growth_of(sys, grown.grid(), judged);
+        let loaded = Loaded {
+            number: self.number,
+            counter,
+            tiles: grown.grid().count(),
+            growth,
+        };
+        Ok((loaded, Some(grown)))
+    }
 }
 
 /// A counter of so many bits, from a number on.

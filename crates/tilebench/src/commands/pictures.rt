@@ -3,17 +3,18 @@ ghost use Rattle.std.specs.Prelude.{◌≡◌, true, All};
 ghost use Rattle.atam.specs.TileSystem.{IsType};
 ghost use Rattle.seq_text.specs.GrowthText.{grid_format};
 ghost use Rattle.picture.specs.Pictures.{picture_text};
-ghost use Rattle.tilebench.specs.Inputs.{FailsWithin, IsReadable};
-ghost use Rattle.tilebench.specs.Commands.Picture.{IsPictureAnswer};
+ghost use Rattle.tilebench.specs.Commands.Picture.{picture_row};
 ghost use Rattle.tilebench.specs.Inner.Readings.{taken_or_faulty};
 
-use crate::commands::replay::system_and_grid;
-use crate::room::{Reply, Room};
+use crate::input::system_and_grid;
+use crate::resources::Resources;
+use crate::room::{PlainRoom, Reply, Room};
 use crate::stop::Stop;
 use assembly::Grid;
 use picture::print_picture;
-use std::alloc::Global;
-use tile_io::{Failed, Sink};
+use site_table::Grown;
+use std::thread::Threads;
+use tile_io::{Failed, Gate, Sink};
 use tile_system::System;
 
 /// The command.
@@ -23,18 +24,24 @@ pub struct Picture;
 impl Room for Picture {
     type Answer = Pictured;
 
-    ghost answers = { λ room. IsPictureAnswer };
+    ghost room_row = { λ room. picture_row };
 
-    ghost takes = { λ room. IsReadable grid_format };
-
-    ghost fails = { λ room. FailsWithin grid_format };
-
-    fn answer(&self, alloc: Global, input: Vec<u8>) -> Result<Pictured, Stop> {
-        let (sys, grid) = system_and_grid(alloc, input)?;
-        Ok(Pictured { sys, grid })
+    fn reads_input(&self) -> bool {
+        true
     }
 
     ghost one_of_two = { λ room. taken_or_faulty grid_format };
+}
+
+impl PlainRoom for Picture {
+    fn answer<R: Threads + Sync, G: Gate>(
+        &self,
+        resources: &Resources<'_, R, G>,
+        input: Vec<u8>,
+    ) -> Result<(Pictured, Option<Grown>), Stop> {
+        let (sys, grid) = system_and_grid(resources.alloc, input)?;
+        Ok((Pictured { sys, grid }, None))
+    }
 }
 
 /// An assembly of a system, to be pictured.

@@ -1,48 +1,85 @@
 // `race`: how many tiles each worker won.
-ghost use Rattle.std.specs.Prelude.{◌≡◌, ◌≤◌, ◌<◌, true, false, flat_map, sum_by, IfOk};
+ghost use Rattle.tilebench.specs.Inner.Gives.{GivesAnswer};
+ghost use Rattle.tile_io.specs.declared.limits.TheConstants.{MOST_INPUT};
+ghost use Rattle.std.specs.Prelude.{◌≡◌, ◌≤◌, length, true, flat_map, IfOk};
 ghost use Rattle.tile_io.specs.Chunks.{PassesOn};
-ghost use Rattle.tilebench.specs.Commands.Race.{AreWins, IsRaceText, race_text, win_line, won_by};
-ghost use Rattle.tilebench.specs.Inner.Races.{won_together};
+ghost use Rattle.grow_workers.specs.Workers.{IsGrownBy};
+ghost use Rattle.tilebench.specs.Commands.Race.{IsRaceText, race_row, race_text, win_line};
+ghost use Rattle.tilebench.specs.Inner.Readings.{taken_or_faulty};
+ghost use Rattle.tilebench.specs.Inputs.{alone};
 
-use crate::judged::Judged;
-use crate::room::{GrowthRoom, Reply};
+use crate::input::read_alone;
+use crate::resources::{Crew, Resources};
+use crate::room::{Reply, Room};
+use crate::stop::Stop;
+use crate::wins::{Win, wins_of};
+use fan_out::WorkerCount;
+use grow_workers::grow_by_index;
 use itoa::Buffer;
 use site_table::Grown;
 use std::alloc::Global;
-use tile_io::{Chunk, Failed, Sink};
+use std::thread::Threads;
+use tile_io::{Chunk, Failed, Gate, Sink};
 use tile_system::{NoMemory, System};
+use type_index::TypeIndex;
 
 /// The command.
 #[derive(Clone, Copy)]
-pub struct Race;
+pub struct Race(pub Crew);
 
-impl GrowthRoom for Race {
+impl Room for Race {
     type Answer = Raced;
 
-    ghost tells = { IsRaceText };
+    ghost room_row = { λ room. race_row room.0.workers.count };
 
-    ghost wants = { λ room. false };
-
-    fn wants_verdict(&self) -> bool {
-        false
+    fn reads_input(&self) -> bool {
+        true
     }
 
-    fn answer(
+    ghost one_of_two = { λ room. taken_or_faulty alone };
+}
+
+impl Race {
+    /// Its answer to an input, with the growth that is to be handed out.
+    pub fn answer<R: Threads + Sync, G: Gate>(
         &self,
-        alloc: Global,
-        sys: System,
-        workers: u32,
-        grown: &Grown,
-        _judged: Option<Judged>,
-    ) -> Result<Raced, NoMemory> {
-        let _area = grown.grid().area();
-        let seeds = sys.seeds().len() as u32;
-        let wins = wins_of(alloc, workers, grown)?;
-        Ok(Raced {
-            wins,
-            total: grown.grid().count() - seeds,
-        })
+        resources: &Resources<'_, R, G>,
+        input: Vec<u8>,
+    ) -> Result<(Raced, Option<Grown>), Stop>
+        requires { length input.items ≤ MOST_INPUT }
+        ensures { GivesAnswer ⟦<Raced as Reply>⟧.yes ⟦<Raced as Reply>⟧.text ⟦<Raced as Reply>⟧.printable
+            (race_row self.now.0.workers.count) input.items result }
+    {
+        let sys = read_alone(resources.alloc, &input)?;
+        let Crew { workers, choice } = self.0;
+        let alloc = resources.alloc;
+        let types = TypeIndex::build(alloc, &sys)?;
+        let gate = resources.gate;
+        let grown = grow_by_index(resources.rt, alloc, &sys, &types, workers, choice, gate)?;
+        let raced = raced_of(alloc, &sys, workers, &grown)?;
+        Ok((raced, Some(grown)))
     }
+}
+
+// What each worker won of a growth.
+fn raced_of(
+    alloc: Global,
+    sys: &System,
+    workers: WorkerCount,
+    grown: &Grown,
+) -> Result<Raced, NoMemory>
+    requires { IsGrownBy sys.now workers.count grown.now }
+    ensures { IfOk result (λ raced.
+        IsRaceText workers.count sys.now grown.now true (race_text raced.wins.items raced.total)) }
+{
+    sys.recall_valid();
+    grown.grid().recall_sites();
+    let seeds = sys.seeds().len() as u32;
+    let wins = wins_of(alloc, workers, grown)?;
+    Ok(Raced {
+        wins,
+        total: grown.grid().count() - seeds,
+    })
 }
 
 /// What each worker won, worker 0 first, and all tiles but the seeds.
@@ -50,13 +87,6 @@ impl GrowthRoom for Race {
 pub struct Raced {
     pub wins: Vec<Win>,
     pub total: u32,
-}
-
-/// How many tiles a worker won.
-#[derive(Clone, Copy, Debug, PartialEq, Eq)]
-pub struct Win {
-    pub worker: u32,
-    pub count: u32,
 }
 
 impl Reply for Raced {
@@ -74,33 +104,6 @@ impl Reply for Raced {
         let mut chunk = Chunk::new();
         put_race(&self.wins, self.total, &mut chunk, out)?;
         chunk.flush(out)
-    }
-}
-
-/// The wins of all workers in turn.
-pub fn wins_of(alloc: Global, workers: u32, grown: &Grown) -> Result<Vec<Win>, NoMemory>
-    requires { workers ≤ 64 }
-    ensures wins { IfOk result (λ wins. AreWins workers grown.now.won wins.items) }
-    ensures together { IfOk result (λ wins.
-        sum_by (λ win. win.count) wins.items ≡ won_together grown.now.won workers) }
-{
-    let mut wins = Vec::with_capacity(alloc, workers as usize)?;
-    for worker in 0..workers {
-        let count = won_by(grown, worker);
-        wins.push(Win { worker, count })?;
-    }
-    Ok(wins)
-}
-
-// How many tiles a worker won, under its number.
-fn won_by(grown: &Grown, worker: u32) -> u32
-    requires { worker < 64 }
-    ensures { result ≡ won_by grown.now.won worker }
-{
-    if worker == 0 {
-        grown.won(0)
-    } else {
-        grown.won(64 - worker)
     }
 }
 

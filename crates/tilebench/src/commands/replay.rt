@@ -1,24 +1,23 @@
 // `replay`: an assembly in canonical order.
-ghost use Rattle.std.specs.Prelude.{◌≡◌, ◌≤◌, List, length, IfOk};
-ghost use Rattle.tile_io.specs.declared.limits.TheConstants.{MOST_INPUT};
-ghost use Rattle.atam.specs.declared.place.Place.{Place};
+ghost use Rattle.std.specs.Prelude.{◌≡◌, IfOk};
 ghost use Rattle.atam.specs.Assembly.{Fits};
 ghost use Rattle.replay_order.specs.ReplayAnswers.{LacksSeed};
 ghost use Rattle.seq_text.specs.GrowthText.{grid_format};
-ghost use Rattle.tilebench.specs.Inner.Gives.{Gives};
-ghost use Rattle.tilebench.specs.Inputs.{FailsWithin, IsReadable};
-ghost use Rattle.tilebench.specs.Commands.Replay.{IsAssemblyOf, IsReordering, IsReplayAnswer, LacksSeedAt, IsSystemThenPlacements, is_whole, reordering_text};
+ghost use Rattle.tilebench.specs.Commands.Replay.{IsReordering, LacksSeedAt, is_whole, reordering_text, replay_row};
 ghost use Rattle.tilebench.specs.Inner.Rooms.{OrdersTypes};
 ghost use Rattle.tilebench.specs.Inner.Readings.{taken_or_faulty};
 
-use crate::input::read_front;
-use crate::room::{Reply, Room};
+use crate::input::system_and_grid;
+use crate::resources::Resources;
+use crate::room::{PlainRoom, Reply, Room};
 use crate::stop::Stop;
 use assembly::{Grid, Sequence};
 use replay_order::{ReplayStop, replay};
-use seq_text::{print_places, print_stuck, print_stuck_seed, read_grid_once};
+use seq_text::{print_places, print_stuck, print_stuck_seed};
+use site_table::Grown;
 use std::alloc::Global;
-use tile_io::{Failed, Sink};
+use std::thread::Threads;
+use tile_io::{Failed, Gate, Sink};
 use tile_system::{NoMemory, Placed, Site, System};
 
 /// The command.
@@ -28,19 +27,25 @@ pub struct Replay;
 impl Room for Replay {
     type Answer = Replayed;
 
-    ghost answers = { λ room. IsReplayAnswer };
+    ghost room_row = { λ room. replay_row };
 
-    ghost takes = { λ room. IsReadable grid_format };
-
-    ghost fails = { λ room. FailsWithin grid_format };
-
-    fn answer(&self, alloc: Global, input: Vec<u8>) -> Result<Replayed, Stop> {
-        let (sys, grid) = system_and_grid(alloc, input)?;
-        let reordering = reordering_of(alloc, &sys, &grid)?;
-        Ok(Replayed { sys, reordering })
+    fn reads_input(&self) -> bool {
+        true
     }
 
     ghost one_of_two = { λ room. taken_or_faulty grid_format };
+}
+
+impl PlainRoom for Replay {
+    fn answer<R: Threads + Sync, G: Gate>(
+        &self,
+        resources: &Resources<'_, R, G>,
+        input: Vec<u8>,
+    ) -> Result<(Replayed, Option<Grown>), Stop> {
+        let (sys, grid) = system_and_grid(resources.alloc, input)?;
+        let reordering = reordering_of(resources.alloc, &sys, &grid)?;
+        Ok((Replayed { sys, reordering }, None))
+    }
 }
 
 /// The canonical order of an assembly of a system, or what keeps it from having one.
@@ -81,20 +86,6 @@ impl Reply for Replayed {
     }
 }
 
-/// The system and the assembly whose texts the input is.
-pub fn system_and_grid(alloc: Global, input: Vec<u8>) -> Result<(System, Grid), Stop>
-    requires { length input.items ≤ MOST_INPUT }
-    ensures read { Gives (λ found. (places : List Place)
-        × IsSystemThenPlacements input.items found.0 places × IsAssemblyOf places found.1.tiles)
-        (FailsWithin grid_format input.items) result }
-    ensures area { IfOk result (λ found. found.1.area ≡ found.0.area) }
-    ensures fits { IfOk result (λ found. Fits found.0 found.1.tiles) }
-{
-    let (sys, end) = read_front(alloc, &input)?;
-    let grid = read_grid_once(alloc, &sys, input, end)?;
-    Ok((sys, grid))
-}
-
 // The canonical order of an assembly, or what keeps it from having one.
 fn reordering_of(alloc: Global, sys: &System, grid: &Grid) -> Result<Reordering, NoMemory>
     requires area { grid.now.area ≡ sys.now.area }
@@ -102,7 +93,7 @@ fn reordering_of(alloc: Global, sys: &System, grid: &Grid) -> Result<Reordering,
     ensures reordered { IfOk result (IsReordering sys.now grid.now.tiles) }
     ensures types { IfOk result (OrdersTypes sys.now) }
 {
-    let _area = sys.area();
+    sys.recall_valid();
     match replay(alloc, sys, grid) {
         Ok(order) => Ok(Reordering::Whole(order)),
         Err(ReplayStop::NoSeedThere) => Ok(Reordering::SeedMissing(missing_seed(sys, grid))),

@@ -1,45 +1,60 @@
 // `report`: what is to be told of a growth, as one line of JSON.
-ghost use Rattle.std.specs.Prelude.{◌≡◌, true, [], ◌∷◌, map, string_bytes, IfOk};
+ghost use Rattle.tilebench.specs.Inner.Gives.{GivesAnswer};
+ghost use Rattle.tile_io.specs.declared.limits.TheConstants.{MOST_INPUT};
+ghost use Rattle.std.specs.Prelude.{◌≡◌, ◌≤◌, length, [], ◌∷◌, map, string_bytes, IfOk};
 ghost use Rattle.tile_io.specs.Lines.{line_of};
-ghost use Rattle.tilebench.specs.Commands.Report.{IsReportText};
+ghost use Rattle.tilebench.specs.Commands.Report.{report_row};
+ghost use Rattle.tilebench.specs.Inner.Readings.{taken_or_faulty};
 ghost use Rattle.tilebench.specs.Inner.Rooms.{Reports};
+ghost use Rattle.tilebench.specs.Inputs.{alone};
 
-use crate::commands::grow::{Growth, growth_of, is_unique};
-use crate::commands::race::{Win, wins_of};
-use crate::judged::Judged;
-use crate::room::{GrowthRoom, Reply};
+use crate::growth::{Growth, growth_of};
+use crate::input::read_alone;
+use crate::judged::{grow_judged, is_unique};
+use crate::resources::{Crew, Resources};
+use crate::room::{Reply, Room};
+use crate::stop::Stop;
+use crate::wins::{Win, wins_of};
 use report::report_text;
 use site_table::Grown;
 use std::alloc::Global;
-use tile_io::{Failed, Sink, print_line};
-use tile_system::{NoMemory, System};
+use std::thread::Threads;
+use tile_io::{Failed, Gate, Sink, print_line};
+use tile_system::NoMemory;
 
 /// The command.
 #[derive(Clone, Copy)]
-pub struct Report;
+pub struct Report(pub Crew);
 
-impl GrowthRoom for Report {
+impl Room for Report {
     type Answer = Reported;
 
-    ghost tells = { IsReportText };
+    ghost room_row = { λ room. report_row room.0.workers.count };
 
-    ghost wants = { λ room. true };
-
-    fn wants_verdict(&self) -> bool {
+    fn reads_input(&self) -> bool {
         true
     }
 
-    fn answer(
+    ghost one_of_two = { λ room. taken_or_faulty alone };
+}
+
+impl Report {
+    /// Its answer to an input, with the growth that is to be handed out.
+    pub fn answer<R: Threads + Sync, G: Gate>(
         &self,
-        alloc: Global,
-        sys: System,
-        workers: u32,
-        grown: &Grown,
-        judged: Option<Judged>,
-    ) -> Result<Reported, NoMemory> {
-        let wins = wins_of(alloc, workers, grown)?;
-        let growth = growth_of(sys, grown.grid(), judged.unwrap());
-        report_of(alloc, &growth, grown.grid().count(), &wins)
+        resources: &Resources<'_, R, G>,
+        input: Vec<u8>,
+    ) -> Result<(Reported, Option<Grown>), Stop>
+        requires { length input.items ≤ MOST_INPUT }
+        ensures { GivesAnswer ⟦<Reported as Reply>⟧.yes ⟦<Reported as Reply>⟧.text ⟦<Reported as Reply>⟧.printable
+            (report_row self.now.0.workers.count) input.items result }
+    {
+        let sys = read_alone(resources.alloc, &input)?;
+        let (grown, judged) = grow_judged(resources, &sys, self.0)?;
+        let wins = wins_of(resources.alloc, self.0.workers, &grown)?;
+        let growth = growth_of(sys, grown.grid(), judged);
+        let reported = report_of(resources.alloc, &growth, grown.grid().count(), &wins)?;
+        Ok((reported, Some(grown)))
     }
 }
 

@@ -6,20 +6,23 @@ ghost use Rattle.grow_core.specs.Steps.{CoreStep};
 ghost use Rattle.seq_text.specs.ScheduleText.{schedule_format};
 ghost use Rattle.seq_text.specs.SeenLines.{HasLine};
 ghost use Rattle.tilebench.specs.Inner.Gives.{Gives};
-ghost use Rattle.tilebench.specs.Inputs.{FailsWithin, IsReadable};
-ghost use Rattle.tilebench.specs.Commands.Schedule.{IsRunOf, IsScheduleAnswer, IsSystemThenEvents, are_answered, schedule_text};
+ghost use Rattle.tilebench.specs.Inputs.{FailsWithin};
+ghost use Rattle.tilebench.specs.Commands.Schedule.{IsRunOf, IsSystemThenEvents, are_answered, schedule_row, schedule_text};
 ghost use Rattle.tilebench.specs.Inner.Rooms.{HasLines, Schedules, replies_of};
 ghost use Rattle.tilebench.specs.Inner.Readings.{taken_or_faulty};
 
 use crate::input::read_front;
 use crate::order::canonical_order;
-use crate::room::{Reply, Room};
+use crate::resources::Resources;
+use crate::room::{PlainRoom, Reply, Room};
 use crate::stop::Stop;
 use assembly::Sequence;
 use grow_core::{Core, CoreStop, Event, Seen};
 use seq_text::{print_places, print_replies, read_events};
+use site_table::Grown;
 use std::alloc::Global;
-use tile_io::{Failed, Sink};
+use std::thread::Threads;
+use tile_io::{Failed, Gate, Sink};
 use tile_system::{NoMemory, System};
 
 /// The command.
@@ -29,18 +32,24 @@ pub struct Schedule;
 impl Room for Schedule {
     type Answer = Scheduled;
 
-    ghost answers = { λ room. IsScheduleAnswer };
+    ghost room_row = { λ room. schedule_row };
 
-    ghost takes = { λ room. IsReadable schedule_format };
-
-    ghost fails = { λ room. FailsWithin schedule_format };
-
-    fn answer(&self, alloc: Global, input: Vec<u8>) -> Result<Scheduled, Stop> {
-        let (sys, events) = system_and_events(alloc, &input)?;
-        Ok(schedule_of(alloc, sys, &events)?)
+    fn reads_input(&self) -> bool {
+        true
     }
 
     ghost one_of_two = { λ room. taken_or_faulty schedule_format };
+}
+
+impl PlainRoom for Schedule {
+    fn answer<R: Threads + Sync, G: Gate>(
+        &self,
+        resources: &Resources<'_, R, G>,
+        input: Vec<u8>,
+    ) -> Result<(Scheduled, Option<Grown>), Stop> {
+        let (sys, events) = system_and_events(resources.alloc, &input)?;
+        Ok((schedule_of(resources.alloc, sys, &events)?, None))
+    }
 }
 
 /// What the events of a schedule were answered, and the tiles that came of them in canonical order.

@@ -1,13 +1,16 @@
 // `turing`: the system of a machine.
-ghost use Rattle.tilebench.specs.Inputs.{FailsWithinMachine, IsReadableMachine, alone};
-ghost use Rattle.tilebench.specs.Commands.Turing.{IsTuringAnswer};
+ghost use Rattle.tilebench.specs.Inputs.{alone};
+ghost use Rattle.tilebench.specs.Commands.Turing.{turing_row};
 ghost use Rattle.tilebench.specs.Inner.Readings.{taken_or_faulty_machine};
 
-use crate::commands::spelled::Spelled;
 use crate::input::read_machine_alone;
-use crate::room::Room;
+use crate::resources::Resources;
+use crate::room::{PlainRoom, Room};
+use crate::spelled::Spelled;
 use crate::stop::Stop;
-use std::alloc::Global;
+use site_table::Grown;
+use std::thread::Threads;
+use tile_io::Gate;
 use turing_compile::compile;
 
 /// The command.
@@ -17,17 +20,23 @@ pub struct Turing;
 impl Room for Turing {
     type Answer = Spelled;
 
-    ghost answers = { λ room. IsTuringAnswer };
+    ghost room_row = { λ room. turing_row };
 
-    ghost takes = { λ room. IsReadableMachine alone };
-
-    ghost fails = { λ room. FailsWithinMachine alone };
-
-    fn answer(&self, alloc: Global, input: Vec<u8>) -> Result<Spelled, Stop> {
-        let machine = read_machine_alone(alloc, &input)?;
-        let sys = compile(alloc, &machine)?;
-        Ok(Spelled { sys })
+    fn reads_input(&self) -> bool {
+        true
     }
 
     ghost one_of_two = { λ room. taken_or_faulty_machine alone };
+}
+
+impl PlainRoom for Turing {
+    fn answer<R: Threads + Sync, G: Gate>(
+        &self,
+        resources: &Resources<'_, R, G>,
+        input: Vec<u8>,
+    ) -> Result<(Spelled, Option<Grown>), Stop> {
+        let machine = read_machine_alone(resources.alloc, &input)?;
+        let sys = compile(resources.alloc, &machine)?;
+        Ok((Spelled { sys }, None))
+    }
 }

@@ -1,15 +1,17 @@
 // `upgrade`: the text of a system in the newest version.
 ghost use Rattle.std.specs.Prelude.{◌≡◌, true};
 ghost use Rattle.tile_text.specs.Spelling.{newest_spelling};
-ghost use Rattle.tilebench.specs.Inputs.{FailsWithin, IsReadable, alone};
-ghost use Rattle.tilebench.specs.Commands.Upgrade.{IsUpgradeAnswer};
+ghost use Rattle.tilebench.specs.Inputs.{alone};
+ghost use Rattle.tilebench.specs.Commands.Upgrade.{upgrade_row};
 ghost use Rattle.tilebench.specs.Inner.Readings.{taken_or_faulty};
 
 use crate::input::read_alone;
-use crate::room::{Reply, Room};
+use crate::resources::Resources;
+use crate::room::{PlainRoom, Reply, Room};
 use crate::stop::Stop;
-use std::alloc::Global;
-use tile_io::{Failed, Sink};
+use site_table::Grown;
+use std::thread::Threads;
+use tile_io::{Failed, Gate, Sink};
 use tile_system::System;
 use tile_text::print_newest;
 
@@ -20,18 +22,24 @@ pub struct Upgrade;
 impl Room for Upgrade {
     type Answer = Upgraded;
 
-    ghost answers = { λ room. IsUpgradeAnswer };
+    ghost room_row = { λ room. upgrade_row };
 
-    ghost takes = { λ room. IsReadable alone };
-
-    ghost fails = { λ room. FailsWithin alone };
-
-    fn answer(&self, alloc: Global, input: Vec<u8>) -> Result<Upgraded, Stop> {
-        let sys = read_alone(alloc, &input)?;
-        Ok(Upgraded { sys })
+    fn reads_input(&self) -> bool {
+        true
     }
 
     ghost one_of_two = { λ room. taken_or_faulty alone };
+}
+
+impl PlainRoom for Upgrade {
+    fn answer<R: Threads + Sync, G: Gate>(
+        &self,
+        resources: &Resources<'_, R, G>,
+        input: Vec<u8>,
+    ) -> Result<(Upgraded, Option<Grown>), Stop> {
+        let sys = read_alone(resources.alloc, &input)?;
+        Ok((Upgraded { sys }, None))
+    }
 }
 
 /// A system, to be spelled in the newest version.

@@ -13,9 +13,9 @@ loop-worker-preserved c =
     let worker = c.loop-worker.worker in
     let start = c.loop-worker.start in
     let left = c.args.end - start in
-    let share = left / (c.args.workers - worker) in
+    let share = left / (c.get-workers.result - worker) in
     let next = start + share in
-    let most : share ≤ left = div-le_self left (c.args.workers - worker) in
+    let most : share ≤ left = div-le_self left (c.get-workers.result - worker) in
     let p : Portion = record { worker = worker; start = start; end = next } in
     let At : ℕ → Type 0 = λ w. IsPortion w start next p in
     let pushed : InARow IsPortion 0 0 next (old ++ p ∷ []) =
@@ -26,7 +26,7 @@ loop-worker-preserved c =
       count = omega (arith, ap length c.in_ok-push.ensures.items, length_push old p, c.loop-worker.invariant.count);
       within = omega (arith, most, c.loop-worker.invariant.within);
       all = λ last.
-          let one : c.args.workers - worker ≡ 1 = omega (arith, last) in
+          let one : c.get-workers.result - worker ≡ 1 = omega (arith, last) in
           let whole : share ≡ left = ap (λ n. left / n) one ∙ div-one left in
           omega (arith, whole, c.loop-worker.invariant.within);
       row = subst (λ (l : List Portion). InARow IsPortion 0 0 next l) (sym c.in_ok-push.ensures.items) pushed;

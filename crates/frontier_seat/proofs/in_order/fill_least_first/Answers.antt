@@ -1,5 +1,4 @@
 use Rattle.std.proofs.Common.{◌∙◌, sym, subst}
-use Rattle.atam.specs.Assembly.{Fits}
 use Rattle.atam.specs.Canonical.{IsCanonical}
 use Rattle.atam.proofs.Opening.{Fits-part}
 use Rattle.frontier_seat.proofs.Ordering.{canonical_order, full_growth}
@@ -8,10 +7,11 @@ use Rattle.frontier_seat.proofs.in_order.fill_least_first.Goals as goal
 pub fill_all-requires-clause-filling : goal.fill_all-requires-clause-filling
 fill_all-requires-clause-filling g c =
     let sys = c.args.sys.now in
+    let valid = c.area-area.ensures.valid in
     record {
       area = c.put_seeds.ensures.area ∙ (c.in_ok-grid.ensures.area ∙ c.area-area.ensures.area);
-      distinct = c.area-grid.ensures.distinct;
-      fits = Fits-part sys c.put_seeds.new.grid.tiles sys.seeds c.put_seeds.ensures.placements.whole (subst (Fits sys) c.seeds-seeds.ensures.seeds c.seeds-seeds.ensures.fits);
+      distinct = c.recall_sites.ensures.distinct;
+      fits = Fits-part sys c.put_seeds.new.grid.tiles sys.seeds c.put_seeds.ensures.placements.whole (record { types = valid.seed_types; sites = valid.seed_sites });
     }
 
 pub returns-clause-full : goal.returns-clause-full

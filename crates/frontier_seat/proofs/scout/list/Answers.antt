@@ -11,5 +11,5 @@ returns-clause-lists c =
     let numbers = c.list_frontier.new.self.numbers in
     record {
       empty = subst (λ (a : BoxArea). AreEmptySites a tiles numbers) c.requires.area c.list_frontier.ensures.empty;
-      all = closed_but_frontier sys tiles numbers c.area-area.ensures.valid.some_tau c.requires.growing.fits (subst (λ (a : BoxArea). ListsFrontier a tiles numbers) c.requires.area c.list_frontier.ensures.lists);
+      all = closed_but_frontier sys tiles numbers c.recall_valid.ensures.valid.some_tau c.requires.growing.fits (subst (λ (a : BoxArea). ListsFrontier a tiles numbers) c.requires.area c.list_frontier.ensures.lists);
     }

@@ -16,4 +16,4 @@ list_around-requires-clause-beside g c =
     still_beside c.args.sys.now c.args.growing.now c.claim.new.self c.args.spot.site c.beside_at-beside.result c.claim.ensures.claim c.beside_at-beside.ensures
 
 pub list_around-requires-clause-near : goal.list_around-requires-clause-near
-list_around-requires-clause-near g c = near_inside c.args.sys.now.area c.args.spot.site c.area-area.ensures.valid.box c.requires.spot.inside
+list_around-requires-clause-near g c = near_inside c.args.sys.now.area c.args.spot.site c.recall_valid.ensures.valid.box c.requires.spot.inside

@@ -15,5 +15,5 @@ returns g c =
     let sys = c.args.sys.now in
     let closes : Closes sys c.in_ok-seat.seat.scout c.close.result = subst (λ z. Closes z c.in_ok-seat.seat.scout c.close.result) c.in_ok-table.ensures.system c.close.ensures in
     let start = c.in_ok-table.ensures.scout in
-    whole_growth sys c.args.workers _ c.in_ok-table.field-0.seat c.in_ok-seat.seat c.in_ok-seat.grid _ c.close.result c.tau-valid.ensures.valid
-    start.owned start.mine c.in_ok-seat.ensures.grew c.in_ok-seat.ensures.count c.requires.some c.requires.few c.area-grown.ensures.distinct closes
+    whole_growth sys c.args.workers _ c.in_ok-table.field-0.seat c.in_ok-seat.seat c.in_ok-seat.grid _ c.close.result c.recall_valid.ensures.valid
+    start.owned start.mine c.in_ok-seat.ensures.grew c.in_ok-seat.ensures.count c.requires.few c.recall_sites.ensures.distinct closes

@@ -7,13 +7,13 @@ use Rattle.grow_workers.proofs.growth.grow_by_index.Goals as goal
 
 pub grow_together-requires-clause-numbers : goal.grow_together-requires-clause-numbers
 grow_together-requires-clause-numbers g c κs within =
-    let few = c.requires.few in
-    subst (OwnsAtLeast c.args.workers) (sym c.in_ok-table.ensures.scout.owned) (owns_many c.args.workers (omega (arith, few)))
+    let few = c.args.workers.few in
+    subst (OwnsAtLeast c.args.workers.count) (sym c.in_ok-table.ensures.scout.owned) (owns_many c.args.workers.count (omega (arith, few)))
 
 pub returns : goal.returns
 returns g c =
     let sys = c.args.sys.now in
     let closes : Closes sys c.in_ok-seat.seat.scout c.close.result = subst (λ z. Closes z c.in_ok-seat.seat.scout c.close.result) c.in_ok-table.ensures.system c.close.ensures in
     let start = c.in_ok-table.ensures.scout in
-    whole_growth sys c.args.workers _ c.in_ok-table.field-0.seat c.in_ok-seat.seat c.in_ok-seat.grid _ c.close.result c.tau-valid.ensures.valid
-    start.owned start.mine c.in_ok-seat.ensures.grew c.in_ok-seat.ensures.count c.requires.some c.requires.few c.area-grown.ensures.distinct closes
+    whole_growth sys c.args.workers.count _ c.in_ok-table.field-0.seat c.in_ok-seat.seat c.in_ok-seat.grid _ c.close.result c.recall_valid.ensures.valid
+    start.owned start.mine c.in_ok-seat.ensures.grew c.in_ok-seat.ensures.count c.args.workers.few c.recall_sites.ensures.distinct closes

@@ -9,8 +9,8 @@ use Rattle.grow_workers.proofs.growth.grow_together.Goals as goal
 
 pub split-requires-clause-numbers : goal.split-requires-clause-numbers
 split-requires-clause-numbers g c κs within =
-    let possible = c.owned-owned.ensures.possible in
-    numbers_suffice c.args.shared.now.workers c.args.seat.scout.owned possible.scout.some_number possible.scout.numbers c.requires.numbers
+    let possible = c.recall_possible.ensures.possible in
+    numbers_suffice c.args.shared.now.workers.count c.args.seat.scout.owned possible.scout.some_number possible.scout.numbers c.requires.numbers
 
 pub join-requires-clause-each : goal.join-requires-clause-each
 join-requires-clause-each g c κs within =
@@ -24,7 +24,7 @@ end-requires-clause-few g c κs within =
 
 pub returns-clause-grew : goal.returns-clause-grew
 returns-clause-grew g c =
-    let possible = c.owned-owned.ensures.possible in
+    let possible = c.recall_possible.ensures.possible in
     let all : Harvest = c.in_ok-seat.field-0 in
     let team = c.in_ok-team.ensures.grew c.args.seat c.args.seen c.in_ok-starts.starts.items c.requires.seen.at_table c.in_ok-starts.ensures.starts c.in_ok-done.ensures in
     let parted = c.in_ok-seat.ensures.grew c.args.seat c.args.seen team in

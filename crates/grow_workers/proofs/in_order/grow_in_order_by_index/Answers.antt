@@ -16,8 +16,8 @@ returns-clause-growth g c =
     let start = c.in_ok-table.ensures.scout in
     let closes : Closes sys part.seat.scout c.close-grown.result = subst (λ z. Closes z part.seat.scout c.close-grown.result) c.in_ok-table.ensures.system c.close-grown.ensures in
     let grew = grew_alone sys seen owner part.seat part.grid part.won start.owned c.in_ok-part.ensures.closed c.in_ok-part.ensures.grew in
-    whole_growth sys 1 seen owner part.seat part.grid (part.won ∷ []) c.close-grown.result c.tau-valid.ensures.valid
-    start.owned start.mine grew refl (omega arith) (omega arith) c.area-grown.ensures.distinct closes
+    whole_growth sys 1 seen owner part.seat part.grid (part.won ∷ []) c.close-grown.result c.recall_valid.ensures.valid
+    start.owned start.mine grew refl (omega arith) c.recall_sites.ensures.distinct closes
 
 pub sequence_of-requires-clause-area : goal.sequence_of-requires-clause-area
 sequence_of-requires-clause-area g c =
@@ -31,7 +31,7 @@ sequence_of-requires-clause-order g c =
     let grew = c.in_ok-part.ensures.grew in
     let closes : Closes sys part.seat.scout c.close-grown.result = subst (λ z. Closes z part.seat.scout c.close-grown.result) c.in_ok-table.ensures.system c.close-grown.ensures in
     subst (λ (g : TileGrid). AreCanonicalClaims sys g.tiles c.in_ok-part.log.numbers) (sym c.grid.ensures)
-    (claims_left sys part.grid.tiles c.close-grown.result.grid.tiles c.in_ok-part.log.numbers (grid_left sys part.seat part.grid c.close-grown.result c.area-grown.ensures.distinct grew.seen c.in_ok-part.ensures.closed closes) c.in_ok-part.ensures.order)
+    (claims_left sys part.grid.tiles c.close-grown.result.grid.tiles c.in_ok-part.log.numbers (grid_left sys part.seat part.grid c.close-grown.result c.recall_sites.ensures.distinct grew.seen c.in_ok-part.ensures.closed closes) c.in_ok-part.ensures.order)
 
 pub returns-clause-order : goal.returns-clause-order
 returns-clause-order g c = subst (λ (g : TileGrid). IsCanonical c.args.sys.now g.tiles c.in_ok-order.order) c.grid.ensures c.in_ok-order.ensures

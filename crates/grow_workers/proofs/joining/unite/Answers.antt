@@ -11,8 +11,8 @@ merge-requires-clause-agree g c m t u one other =
     let rest = c.args.rest in
     let part = c.args.part in
     c.join-seat.ensures.agree m t u
-    ((same_tiles rest.seat.scout.seen rest.grid.tiles c.owned-kept.ensures.possible.scout.distinct c.area-grid.ensures.distinct c.requires.first.seen).1 m t one)
-    ((same_tiles part.seat.scout.seen part.grid.tiles c.owned-given.ensures.possible.scout.distinct c.area-other.ensures.distinct c.requires.second.seen).1 m u other)
+    ((same_tiles rest.seat.scout.seen rest.grid.tiles c.recall_possible.ensures.possible.scout.distinct c.recall_sites.ensures.distinct c.requires.first.seen).1 m t one)
+    ((same_tiles part.seat.scout.seen part.grid.tiles c.recall_possible-2.ensures.possible.scout.distinct c.recall_sites-2.ensures.distinct c.requires.second.seen).1 m u other)
 
 pub returns-clause-grew : goal.returns-clause-grew
 returns-clause-grew g c old kept given start is parted rest_grew part_grew =
@@ -20,8 +20,8 @@ returns-clause-grew g c old kept given start is parted rest_grew part_grew =
     let rest = c.args.rest in
     let part = c.args.part in
     let joined = c.join-seat.ensures in
-    let real_kept : IsPossible sys rest.seat.scout = subst (λ z. IsPossible z rest.seat.scout) (c.requires.first.at_table.sys ∙ c.requires.shared.system) c.owned-kept.ensures.possible in
-    let real_given : IsPossible sys part.seat.scout = subst (λ z. IsPossible z part.seat.scout) (c.requires.second.at_table.sys ∙ c.requires.shared.system) c.owned-given.ensures.possible in
+    let real_kept : IsPossible sys rest.seat.scout = subst (λ z. IsPossible z rest.seat.scout) (c.requires.first.at_table.sys ∙ c.requires.shared.system) c.recall_possible.ensures.possible in
+    let real_given : IsPossible sys part.seat.scout = subst (λ z. IsPossible z part.seat.scout) (c.requires.second.at_table.sys ∙ c.requires.shared.system) c.recall_possible-2.ensures.possible in
     let done : c.insert.new.self.items ≡ part.won ∷ rest.others.items =
     subst (λ r. c.insert.new.self.items ≡ (if is_ok r then part.won ∷ rest.others.items else rest.others.items)) c.in_ok-insert.was c.insert.ensures.items in
     subst (λ (l : List ℕ). PartedGrowth sys old start c.join-seat.result c.merge.new.self rest.first l) (sym done)

@@ -11,7 +11,7 @@ pub returns-clause-parted : goal.returns-clause-parted
 returns-clause-parted g c = record {
   table = c.split.ensures.first.table ∙ sym c.requires.seen.at_table.table;
   system = c.split.ensures.first.sys ∙ sym c.requires.seen.at_table.sys;
-  real = c.owned-owned.ensures.possible;
+  real = c.recall_possible.ensures.possible;
   two = (two_numbers c.args.left c.args.seat.scout.owned c.requires.many c.requires.numbers).0;
   is_kept = c.split.ensures.kept;
   is_given = c.split.ensures.given;

@@ -16,8 +16,8 @@ loop-worker-preserved g c =
     let start : Start = record { worker = c.loop-worker.worker; seat = c.part_off-rest.result.1; seen = c.in_ok-copy.field-0 } in
     let longer : c.push.new.self.items ≡ old ++ start ∷ [] = c.in_ok-push.ensures.items in
     let same : start.seen ≡ c.args.seen = c.in_ok-copy.ensures in
-    let few : c.loop-worker.worker < shared.workers = c.loop-worker-test.true in
-    let left : shared.workers - c.loop-worker.worker + 1 - 1 ≡ shared.workers - (c.loop-worker.worker + 1) + 1 = omega (arith, few) in
+    let few : c.loop-worker.worker < shared.workers.count = omega (arith, c.loop-worker-test.true, c.get-workers.ensures.count) in
+    let left : c.get-workers.result - c.loop-worker.worker + 1 - 1 ≡ shared.workers.count - (c.loop-worker.worker + 1) + 1 = omega (arith, few, c.get-workers.ensures.count) in
     let one : IsStart shared start = record { worker = few; seen = subst (λ (seen : TileGrid). HasSeen shared start.seat seen) (sym same) c.part_off-rest.ensures.second } in
     let count = inv.count in
     let many = ap length longer in
@@ -52,6 +52,6 @@ returns-clause-each g c =
     let old = c.loop-worker.starts.items in
     let start : Start = record { worker = 0; seat = c.loop-worker.kept; seen = c.args.seen } in
     let longer : c.push-2.new.self.items ≡ old ++ start ∷ [] = c.in_ok-push-2.ensures.items in
-    let some = c.requires.shared.some in
+    let some = shared.workers.some in
     let one : IsStart shared start = record { worker = omega (arith, some); seen = c.loop-worker.invariant.seen } in
     subst (All (IsStart shared)) (sym longer) (All-push (IsStart shared) old start c.loop-worker.invariant.each one)

@@ -8,8 +8,8 @@ use Rattle.grow_workers.proofs.starts.split.Given as goal
 abbrev pub invariant-loop-worker : goal.invariant-loop-worker
 invariant-loop-worker g l = record {
   some : 1 ≤ l.worker;
-  few : l.worker ≤ l.shared.workers;
-  numbers : HasNumbers (l.shared.workers - l.worker + 1) l.kept.scout.owned;
+  few : l.worker ≤ l.shared.workers.count;
+  numbers : HasNumbers (l.shared.workers.count - l.worker + 1) l.kept.scout.owned;
   seen : HasSeen l.shared l.kept l.fn.seen;
   parted : ArePartedOff l.fn.seat l.starts.items l.kept;
   grids : All (λ (start : Start). start.seen ≡ l.fn.seen) l.starts.items;

@@ -21,7 +21,7 @@ put-requires-clause-empty c =
 pub put-requires-clause-small : goal.put-requires-clause-small
 put-requires-clause-small c =
     let kind = All-slice_get (λ p. IsType c.args.sys.now p.tile) c.args.seq.now c.loop-index.index c.get.result c.requires.fits.types c.get.ensures in
-    omega (arith, kind, c.tau-valid.ensures.valid.type_count)
+    omega (arith, kind, c.recall_valid.ensures.valid.type_count)
 
 pub loop-index-preserved : goal.loop-index-preserved
 loop-index-preserved c =

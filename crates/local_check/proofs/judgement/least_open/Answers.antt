@@ -16,9 +16,9 @@ returns-then-len-width c =
     let sys = c.args.sys.now in
     let s = c.args.seq.now in
     let tiles = c.args.sides.now.tiles in
-    let same = one_map sys s tiles c.tau-valid.ensures.valid.distinct_seeds c.requires.legal c.requires.sides.same in
+    let same = one_map sys s tiles c.recall_valid.ensures.valid.distinct_seeds c.requires.legal c.requires.sides.same in
     let outside = least_open_same sys tiles s (λ m. ¬ InBox sys.area m) c.least_open_outside.result (λ m. sym (same m)) c.least_open_outside.ensures in
-    let distinct = IsLegal-distinct sys s c.tau-valid.ensures.valid.distinct_seeds c.requires.legal in
+    let distinct = IsLegal-distinct sys s c.recall_valid.ensures.valid.distinct_seeds c.requires.legal in
     let cells : c.width.result * c.height.result ≡ width_of sys.area * height_of sys.area =
     (λ i. c.width.ensures i * c.height.ensures i) ∙ ap (λ (area : BoxArea). width_of area * height_of area) c.area-area.ensures.area
     in
@@ -32,5 +32,5 @@ returns c =
     let sys = c.args.sys.now in
     let s = c.args.seq.now in
     let tiles = c.args.sides.now.tiles in
-    let same = one_map sys s tiles c.tau-valid.ensures.valid.distinct_seeds c.requires.legal c.requires.sides.same in
+    let same = one_map sys s tiles c.recall_valid.ensures.valid.distinct_seeds c.requires.legal c.requires.sides.same in
     least_open_same sys tiles s (λ m. Unit {0}) c.least_open.result (λ m. sym (same m)) c.least_open.ensures

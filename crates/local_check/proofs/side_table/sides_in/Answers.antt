@@ -6,7 +6,7 @@ pub returns : goal.returns
 returns c =
     let all = subst (λ (n : ℕ). IsSurvey c.args.sys.now c.args.seq.now 0 n c.in_ok-survey.survey) c.len.ensures c.in_ok-survey.ensures in
     c.table.ensures c.args.seq.now (record {
-      valid = c.tau-valid.ensures.valid;
+      valid = c.recall_valid.ensures.valid;
       legal = c.requires.legal;
       fits = c.requires.fits;
       area = c.requires.area;

@@ -1,4 +1,4 @@
-use Rattle.std.proofs.Common.{All, ◌∙◌, ap, subst}
+use Rattle.std.proofs.Common.{All, subst}
 use Rattle.atam.specs.declared.area.BoxArea.{BoxArea}
 use Rattle.atam.specs.Sites.{InBox}
 use Rattle.atam.proofs.Canon.{producible_types}
@@ -11,5 +11,5 @@ returns-clause-fits c =
     let grown = c.in_ok-grown.grown in
     record {
       types = producible_types sys grown.grid.tiles c.in_ok-grown.ensures.growth.producible;
-      sites = subst (λ (a : BoxArea). All (λ p. InBox a p.site) grown.grid.tiles) (c.area-area.ensures.area ∙ ap (λ (g : TileGrid). g.area) c.grid.ensures ∙ c.in_ok-grown.ensures.growth.area) (subst (λ (g : TileGrid). All (λ p. InBox c.area-area.result p.site) g.tiles) c.grid.ensures c.area-area.ensures.inside);
+      sites = subst (λ (a : BoxArea). All (λ p. InBox a p.site) grown.grid.tiles) c.in_ok-grown.ensures.growth.area (subst (λ (g : TileGrid). All (λ p. InBox g.area p.site) g.tiles) c.grid.ensures c.recall_sites.ensures.inside);
     }

@@ -19,7 +19,7 @@ pub returns-in_err-site-in-Some-clause-place : goal.returns-in_err-site-in-Some-
 returns-in_err-site-in-Some-clause-place c =
     let sys = c.args.sys.now in
     let tile = c.in-Some.tile in
-    let named : is_name c.args.name.now ≡ true = named_type sys c.area-area.ensures.valid tile c.in-Some.ensures.in_range c.args.name.now c.in-Some.ensures.named in
+    let named : is_name c.args.name.now ≡ true = named_type sys c.recall_valid.ensures.valid tile c.in-Some.ensures.in_range c.args.name.now c.in-Some.ensures.named in
     let whole = place_of_found sys c.args.column.now c.args.row.now c.args.name.now tile named (sym c.in-Some.ensures.index) in
     let bad : Err c.in_err-site-in-Some.field-0.0 ≡ place_field (names_of sys) c.args.column.now c.args.row.now c.args.name.now = ap (at_site tile) c.in_err-site-in-Some.ensures ∙ sym whole in
     search (rules, bad)
@@ -28,7 +28,7 @@ pub returns-in_ok-site-in-Some-clause-place : goal.returns-in_ok-site-in-Some-cl
 returns-in_ok-site-in-Some-clause-place c =
     let sys = c.args.sys.now in
     let tile = c.in-Some.tile in
-    let named : is_name c.args.name.now ≡ true = named_type sys c.area-area.ensures.valid tile c.in-Some.ensures.in_range c.args.name.now c.in-Some.ensures.named in
+    let named : is_name c.args.name.now ≡ true = named_type sys c.recall_valid.ensures.valid tile c.in-Some.ensures.in_range c.args.name.now c.in-Some.ensures.named in
     let whole = place_of_found sys c.args.column.now c.args.row.now c.args.name.now tile named (sym c.in-Some.ensures.index) in
     ap (at_site tile) c.in_ok-site-in-Some.ensures ∙ sym whole
 

@@ -1,15 +1,13 @@
-use Rattle.command_line.specs.declared.commands.Command.TheVariants.{Counter, Load}
-use Rattle.tilebench.specs.Commands.{RefusesNumbers}
-use Rattle.tilebench.specs.Commands.Counter.{IsCounterAnswer}
-use Rattle.tilebench.specs.Commands.Load.{IsLoadAnswer}
-use Rattle.tilebench.proofs.Endings.{unread_ends}
 use Rattle.tilebench.proofs.commands.run_command.Goals as goal
 
 pub returns-in-Grow : goal.returns-in-Grow
-returns-in-Grow g c = rw c.in-Grow.is c.run_growth.ensures
+returns-in-Grow g c = rw c.in-Grow.is c.run_by.ensures
 
 pub returns-in-Race : goal.returns-in-Race
-returns-in-Race g c = rw c.in-Race.is c.run_growth-in-Race.ensures
+returns-in-Race g c = rw c.in-Race.is c.run_by-in-Race.ensures
+
+pub returns-in-Report : goal.returns-in-Report
+returns-in-Report g c = rw c.in-Report.is c.run_by-in-Report.ensures
 
 pub returns-in-Check : goal.returns-in-Check
 returns-in-Check g c = rw c.in-Check.is c.run.ensures
@@ -26,23 +24,17 @@ returns-in-Format g c = rw c.in-Format.is c.run-in-Format.ensures
 pub returns-in-Upgrade : goal.returns-in-Upgrade
 returns-in-Upgrade g c = rw c.in-Upgrade.is c.run-in-Upgrade.ensures
 
-pub returns-in-Report : goal.returns-in-Report
-returns-in-Report g c = rw c.in-Report.is c.run_growth-in-Report.ensures
-
 pub returns-in-Turing : goal.returns-in-Turing
 returns-in-Turing g c = rw c.in-Turing.is c.run-in-Turing.ensures
+
+pub returns-in-Quadrant : goal.returns-in-Quadrant
+returns-in-Quadrant g c = rw c.in-Quadrant.is c.run-in-Quadrant.ensures
 
 pub returns-in-Picture : goal.returns-in-Picture
 returns-in-Picture g c = rw c.in-Picture.is c.run-in-Picture.ensures
 
 pub returns-in-Counter : goal.returns-in-Counter
-returns-in-Counter g c =
-    rw c.in-Counter.is (unread_ends g.S.Source.left g.S.Source.faults g.K.Sink.written g.K.Sink.faults g.E.Sink.written g.E.Sink.faults
-    _ _ _ c.args.out.now c.tell.new.out c.args.err.now c.tell.new.err c.answer.result c.tell.result c.tell.ensures
-    (IsCounterAnswer c.in-Counter.bits c.in-Counter.start) (RefusesNumbers (Counter c.in-Counter.bits c.in-Counter.start)) c.args.source.now c.answer.ensures.answer)
+returns-in-Counter g c = rw c.in-Counter.is c.run-in-Counter.ensures
 
 pub returns-in-Load : goal.returns-in-Load
-returns-in-Load g c =
-    rw c.in-Load.is (unread_ends g.S.Source.left g.S.Source.faults g.K.Sink.written g.K.Sink.faults g.E.Sink.written g.E.Sink.faults
-    _ _ _ c.args.out.now c.tell-in-Load.new.out c.args.err.now c.tell-in-Load.new.err c.answer-in-Load.result c.tell-in-Load.result c.tell-in-Load.ensures
-    (IsLoadAnswer c.in-Load.number) (RefusesNumbers (Load c.in-Load.number)) c.args.source.now c.answer-in-Load.ensures.answer)
+returns-in-Load g c = rw c.in-Load.is c.run_by-in-Load.ensures

@@ -1,6 +1,5 @@
 use Rattle.std.proofs.Common.{subst, Option, IfSome, List}
 use Rattle.atam.specs.declared.place.Place.{Place}
-use Rattle.atam.specs.Placements.{HasDistinctSites}
 use Rattle.atam.specs.Canonical.{IsCanonical}
 use Rattle.tilebench.proofs.Orders.{canonical_whole, replayed_or_memory, replayed_whole}
 use Rattle.tilebench.proofs.order.order_of.Goals as goal
@@ -11,7 +10,7 @@ returns-in-Some g c =
     let sys = c.args.sys.now in
     let tiles = c.args.grid.now.tiles in
     let Known : Option (List Place) → Type 0 = λ known. IfSome known (IsCanonical sys tiles) in
-    canonical_whole sys tiles c.in-Some.order (subst HasDistinctSites c.seeds-seeds.ensures.seeds c.seeds-seeds.ensures.distinct) c.area-area.ensures.distinct c.requires.fits c.requires.producible
+    canonical_whole sys tiles c.in-Some.order c.recall_valid.ensures.valid.distinct_seeds c.recall_sites.ensures.distinct c.requires.fits c.requires.producible
     (subst Known c.in-Some.is c.requires.known)
 
 pub whole_order-requires : goal.whole_order-requires

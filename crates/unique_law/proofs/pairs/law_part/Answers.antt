@@ -1,7 +1,5 @@
-use Rattle.std.proofs.Common.{subst}
-use Rattle.atam.specs.Placements.{HasDistinctSites}
 use Rattle.unique_law.proofs.OneOutcome.{matched}
 use Rattle.unique_law.proofs.pairs.law_part.Goals as goal
 
 pub returns : goal.returns
-returns c = matched c.args.sys.now c.args.a.now c.args.b.now (subst HasDistinctSites c.seeds-seeds.ensures.seeds c.seeds-seeds.ensures.distinct) c.requires.deterministic c.requires.legal
+returns c = matched c.args.sys.now c.args.a.now c.args.b.now c.recall_valid.ensures.valid.distinct_seeds c.requires.deterministic c.requires.legal

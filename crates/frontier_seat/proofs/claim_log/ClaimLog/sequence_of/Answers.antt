@@ -23,7 +23,7 @@ unwrap-tile-requires c =
     let i = c.loop-number.number-index in
     let n = get_or items i 0 in
     let within : i < length numbers = subst (λ (l : List ℕ). i < length l) same c.loop-number-test.true in
-    let claim = claimed c.args.sys.now c.args.grid.now.tiles numbers i n c.requires.order c.area-grid.ensures.distinct within (ap (λ (l : List ℕ). get_or l i 0) (sym same)) in
+    let claim = claimed c.args.sys.now c.args.grid.now.tiles numbers i n c.requires.order c.recall_sites.ensures.distinct within (ap (λ (l : List ℕ). get_or l i 0) (sym same)) in
     let found : c.tile.result ≡ Some claim.0 = c.tile.ensures ∙ (ap (λ (a : BoxArea). tile_at c.args.grid.now.tiles (site_at a n)) c.requires.area ∙ claim.1) in
     subst (λ (o : Option TypeId). IsSome o) (sym found) refl
 
@@ -38,7 +38,7 @@ push-requires-clause-small c =
     let i = c.loop-number.number-index in
     let n = get_or items i 0 in
     let within : i < length numbers = subst (λ (l : List ℕ). i < length l) same c.loop-number-test.true in
-    let claim = claimed c.args.sys.now c.args.grid.now.tiles numbers i n c.requires.order c.area-grid.ensures.distinct within (ap (λ (l : List ℕ). get_or l i 0) (sym same)) in
+    let claim = claimed c.args.sys.now c.args.grid.now.tiles numbers i n c.requires.order c.recall_sites.ensures.distinct within (ap (λ (l : List ℕ). get_or l i 0) (sym same)) in
     let found : Some c.unwrap-tile.result ≡ Some claim.0 = sym c.unwrap-tile.ensures ∙ (c.tile.ensures ∙ (ap (λ (a : BoxArea). tile_at c.args.grid.now.tiles (site_at a n)) c.requires.area ∙ claim.1)) in
     let kind : c.unwrap-tile.result.0 ≡ claim.0.0 = ap (λ (t : TypeId). t.0) (same_Some c.unwrap-tile.result claim.0 found) in
     let few = c.area-area.ensures.valid.type_count in
@@ -78,7 +78,7 @@ loop-number-preserved c =
     record {
       row = c.site-site.ensures.row;
       room = omega (arith, room, kept);
-      places = λ claims sites stand. listed_more sys tiles claims c.loop-number.log.places c.push.new.self.places numbers i n c.site-site.result c.unwrap-tile.result sites stand c.area-grid.ensures.distinct within
+      places = λ claims sites stand. listed_more sys tiles claims c.loop-number.log.places c.push.new.self.places numbers i n c.site-site.result c.unwrap-tile.result sites stand c.recall_sites.ensures.distinct within
           (ap (λ (l : List ℕ). get_or l i 0) (sym same)) here found c.push.ensures.places (c.loop-number.invariant.places claims sites stand);
     }
 

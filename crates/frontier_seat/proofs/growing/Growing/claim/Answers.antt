@@ -12,13 +12,13 @@ use Rattle.frontier_seat.proofs.growing.Growing.claim.Goals as goal
 pub claim_at-requires-clause-supported : goal.claim_at-requires-clause-supported
 claim_at-requires-clause-supported g c =
     subst (λ (z : TileSystem). Supports z c.args.self.now.seat.scout c.args.spot.site c.args.tile) (sym c.requires.system)
-    (supported c.args.sys.now c.args.self.now c.args.spot.site c.args.tile c.requires.growing c.owned-owned.ensures.possible.scout.distinct c.requires.open)
+    (supported c.args.sys.now c.args.self.now c.args.spot.site c.args.tile c.requires.growing c.recall_possible.ensures.possible.scout.distinct c.requires.open)
 
 pub overflow_add-self : goal.overflow_add-self
 overflow_add-self g c =
     let few = few_tiles c.args.sys.now c.args.self.now c.requires.growing in
     let wins = c.requires.growing.few_wins in
-    let most = cell_count-most c.args.sys.now.area c.area-area.ensures.valid.box in
+    let most = cell_count-most c.args.sys.now.area c.recall_valid.ensures.valid.box in
     omega (arith, few, wins, most)
 
 pub returns-in-Won-clause-claim : goal.returns-in-Won-clause-claim
@@ -32,8 +32,8 @@ returns-in-Held-clause-claim g c =
     let old = c.args.self.now in
     let mid : Growing = record { seat = c.claim_at.new.seat; grid = old.grid; won = old.won } in
     let system = c.requires.growing.system in
-    let before = subst (λ (z : TileSystem). IsPossible z old.seat.scout) system c.owned-owned.ensures.possible in
-    let after = subst (λ (z : TileSystem). IsPossible z c.claim_at.new.seat.scout) (c.in-Held.ensures.seat.sys ∙ system) c.owned-owned-in-Held.ensures.possible in
+    let before = subst (λ (z : TileSystem). IsPossible z old.seat.scout) system c.recall_possible.ensures.possible in
+    let after = subst (λ (z : TileSystem). IsPossible z c.claim_at.new.seat.scout) (c.in-Held.ensures.seat.sys ∙ system) c.recall_possible-in-Held.ensures.possible in
     let kind = subst (λ (z : TileSystem). IsType z c.in-Held.there) c.requires.system c.in-Held.ensures.kind in
     claim_lost c.args.sys.now old mid c.put-in-Held.new.self c.args.spot.site c.in-Held.there c.requires.growing c.requires.spot.inside kind c.in-Held.ensures.seat refl refl c.in-Held.ensures.claim c.put-in-Held.ensures
     (never_lost c.args.sys.now old c.claim_at.new.seat.scout c.args.spot.site c.in-Held.there c.requires.growing before after c.requires.open.attaches.empty c.in-Held.ensures.claim)

@@ -13,8 +13,8 @@ returns c =
     let mid : Growing = record { seat = c.look_at.new.seat; grid = old.grid; won = old.won } in
     let system = c.requires.growing.system in
     let sees = c.in-Some.ensures.sees in
-    let before = subst (λ (z : TileSystem). IsPossible z old.seat.scout) system c.owned-owned.ensures.possible in
-    let after = subst (λ (z : TileSystem). IsPossible z c.look_at.new.seat.scout) (c.look_at.ensures.seat.sys ∙ system) c.owned-owned-2.ensures.possible in
+    let before = subst (λ (z : TileSystem). IsPossible z old.seat.scout) system c.recall_possible.ensures.possible in
+    let after = subst (λ (z : TileSystem). IsPossible z c.look_at.new.seat.scout) (c.look_at.ensures.seat.sys ∙ system) c.recall_possible-2.ensures.possible in
     let kind = subst (λ (z : TileSystem). IsType z c.in-Some.tile) c.requires.system c.in-Some.ensures.kind in
     claim_lost c.args.sys.now old mid c.put.new.self c.args.spot.site c.in-Some.tile c.requires.growing c.requires.spot.inside kind c.look_at.ensures.seat refl refl sees c.put.ensures
     (never_lost c.args.sys.now old c.look_at.new.seat.scout c.args.spot.site c.in-Some.tile c.requires.growing before after c.requires.empty sees)

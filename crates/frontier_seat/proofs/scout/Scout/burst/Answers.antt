@@ -14,7 +14,7 @@ returns-clause-last g c closed =
     let sys = c.args.sys.now in
     let new = c.spend.new.growing in
     let growing = c.spend.ensures.growing in
-    let real : IsPossible sys new.seat.scout = subst (λ z. IsPossible z new.seat.scout) growing.system c.owned-owned.ensures.possible in
+    let real : IsPossible sys new.seat.scout = subst (λ z. IsPossible z new.seat.scout) growing.system c.recall_possible.ensures.possible in
     finally sys new.seat.scout real.valid (closed_seen sys new growing real.scout.distinct closed)
 
 pub returns-clause-fewer : goal.returns-clause-fewer

@@ -15,13 +15,13 @@ returns-clause-last g c =
     let sys = c.args.sys.now in
     let new = c.look_in_order.new.growing in
     let growing = c.look_in_order.ensures.growing in
-    let real : IsPossible sys new.seat.scout = subst (λ z. IsPossible z new.seat.scout) growing.system c.owned-owned.ensures.possible in
+    let real : IsPossible sys new.seat.scout = subst (λ z. IsPossible z new.seat.scout) growing.system c.recall_possible.ensures.possible in
     finally sys new.seat.scout real.valid (closed_seen sys new growing real.scout.distinct c.look_in_order.ensures.closed)
 
 pub returns-clause-order : goal.returns-clause-order
 returns-clause-order g c =
     let new = c.look_in_order.new.growing in
-    canonical_claims c.args.sys.now new.grid.tiles c.look_in_order.new.log.numbers c.area-area.ensures.valid c.look_in_order.ensures.growing.fits c.look_in_order.ensures.order
+    canonical_claims c.args.sys.now new.grid.tiles c.look_in_order.new.log.numbers c.recall_valid.ensures.valid c.look_in_order.ensures.growing.fits c.look_in_order.ensures.order
 
 pub returns-clause-few : goal.returns-clause-few
 returns-clause-few g c =

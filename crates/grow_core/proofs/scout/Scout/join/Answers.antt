@@ -12,4 +12,4 @@ pub returns-clause-scout : goal.returns-clause-scout
 returns-clause-scout c =
     let done = c.unwrap.ensures in
     rw (c.extend_from_slice.ensures.items, done, c.deref.ensures.value, ← c.self.view_is, ← c.other.view_is)
-    (record { owned = refl; seen = c.merge.ensures.placements; distinct = c.area.ensures.distinct; mine = refl })
+    (record { owned = refl; seen = c.merge.ensures.placements; distinct = c.recall_sites.ensures.distinct; mine = refl })

@@ -5,7 +5,7 @@ use Rattle.grow_core.proofs.Assembled.{seen_again}
 use Rattle.grow_core.proofs.scout.Scout.see.Goals as goal
 
 pub returns-then-is_none-clause-scout : goal.returns-then-is_none-clause-scout
-returns-then-is_none-clause-scout c = rw (← c.self.view_is) (record { owned = refl; seen = c.put.ensures.placements; distinct = c.area.ensures.distinct; mine = refl })
+returns-then-is_none-clause-scout c = rw (← c.self.view_is) (record { owned = refl; seen = c.put.ensures.placements; distinct = c.recall_sites.ensures.distinct; mine = refl })
 
 pub returns-else-is_none-clause-scout : goal.returns-else-is_none-clause-scout
 returns-else-is_none-clause-scout c = rw (← c.self.view_is) (record {

@@ -4,4 +4,4 @@ use Rattle.grow_core.proofs.scout.Scout.win.Goals as goal
 pub returns-clause-scout : goal.returns-clause-scout
 returns-clause-scout c =
     let name = c.name-placer.ensures in
-    rw (c.push_reserved.ensures.items, name, ← c.self.view_is) (record { owned = refl; seen = c.put.ensures.placements; distinct = c.area.ensures.distinct; mine = refl })
+    rw (c.push_reserved.ensures.items, name, ← c.self.view_is) (record { owned = refl; seen = c.put.ensures.placements; distinct = c.recall_sites.ensures.distinct; mine = refl })

@@ -12,7 +12,7 @@ returns-clause-known c =
       count = ap length items ∙ length-replicate _ _ ∙ c.type_count.ensures.count;
       each = all_known sys true c.in_ok-from_elem.field-0.items _ _ items (λ t tiles m glues faces of_glues.
           let none = no_key glues of_glues in
-          nothing_found sys tiles m t glues faces (record { north = none.0; east = none.1; south = none.2; west = none.3 }) _ true _ c.tau-valid.ensures.valid.some_tau
+          nothing_found sys tiles m t glues faces (record { north = none.0; east = none.1; south = none.2; west = none.3 }) _ true _ c.recall_valid.ensures.valid.some_tau
           refl refl refl refl refl);
       cache = c.in_ok-make.ensures;
     }

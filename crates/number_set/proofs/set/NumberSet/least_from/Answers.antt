@@ -1,5 +1,5 @@
 use Rattle.std.proofs.Common.{ap, ◌∙◌, ◌≢◌}
-use Rattle.number_set.specs.Bits.{bit_of}
+use Rattle.number_set.specs.Numbers.{bit_of}
 use Rattle.number_set.proofs.Nexts.{least_found, none_found, not_in}
 use Rattle.number_set.proofs.set.NumberSet.least_from.Goals as goal
 

@@ -98,7 +98,7 @@ returns c =
     lowers_one old.area sys tiles p c.args.side old refl beside c.in-Some.ensures.site new 0 refl refl refl within (omega (arith, lack, c.if-lack-eq0.false))
     (omega (arith, lack, bond, c.if-strength-lack.false)) refl
     (λ m. (
-      λ is_in. elim ((c.insert.ensures.gains m).0 is_in) [ inl before ↦ inl before | inr one ↦ inr (one, refl) ],
-      λ either. elim either [ inl before ↦ (c.insert.ensures.gains m).1 (inl before) | inr one ↦ (c.insert.ensures.gains m).1 (inr one.0) ],
+      λ is_in. elim ((c.insert.ensures.receives m).0 is_in) [ inl before ↦ inl before | inr one ↦ inr (one, refl) ],
+      λ either. elim either [ inl before ↦ (c.insert.ensures.receives m).1 (inl before) | inr one ↦ (c.insert.ensures.receives m).1 (inr one.0) ],
     ))
     )

@@ -1,5 +1,5 @@
 use Rattle.std.proofs.Common.{ap, arith}
-use Rattle.site_table.specs.Tallies.{TallyValue}
+use Rattle.site_table.specs.Inner.Tallies.{TallyValue}
 use Rattle.site_table.proofs.Tallies.{run_few}
 use Rattle.site_table.proofs.tally.Tally.add.Goals as goal
 

@@ -10,7 +10,7 @@ returns-clause-cursor c =
     let same = ap (λ l. l.meetings) c.self.view_is in
     let within : c.args.place < length c.self.inside.meetings.items = omega (arith, leads_within sys c.args.side c.args.glue meetings c.args.from c.args.place c.requires.leads, ap length same) in
     let is_there = subst (λ ms. slice_get ms c.args.place ≡ Some c.index-meeting.result.now) same (slice_get_read c.self.inside.meetings.items (length c.self.inside.meetings.items) c.args.place c.index-meeting.result.now refl within c.index-meeting.ensures) in
-    cursor_at sys c.args.side c.args.glue meetings c.args.from c.args.place c.index-meeting.result.now _ c.tau-valid.ensures.valid is_there c.requires.leads refl c.from.ensures c.requires.most c.requires.bound
+    cursor_at sys c.args.side c.args.glue meetings c.args.from c.args.place c.index-meeting.result.now _ c.recall_valid.ensures.valid is_there c.requires.leads refl c.from.ensures c.requires.most c.requires.bound
 
 pub returns-clause-way : goal.returns-clause-way
 returns-clause-way c =

@@ -21,7 +21,7 @@ pass-requires-clause-lists c =
     subst Lists (omega (arith, c.type_count-count.ensures.count, c.loop-passed-test.true)) c.loop-passed.invariant.lists
 
 pub pass-requires-clause-few : goal.pass-requires-clause-few
-pass-requires-clause-few c = omega (arith, c.loop-passed.invariant.few, c.loop-passed-test.true, c.type_count-count.ensures.count, c.tau-valid.ensures.valid.type_count)
+pass-requires-clause-few c = omega (arith, c.loop-passed.invariant.few, c.loop-passed-test.true, c.type_count-count.ensures.count, c.recall_valid.ensures.valid.type_count)
 
 pub loop-passed-preserved : goal.loop-passed-preserved
 loop-passed-preserved c =

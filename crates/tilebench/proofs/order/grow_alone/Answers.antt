@@ -1,0 +1,6 @@
+use Rattle.std.proofs.Common.{ℕ, subst, sym}
+use Rattle.grow_workers.specs.Workers.{IsGrownBy}
+use Rattle.tilebench.proofs.order.grow_alone.Goals as goal
+
+pub returns-clause-grew : goal.returns-clause-grew
+returns-clause-grew g c = subst (λ (workers : ℕ). IsGrownBy c.args.sys.now workers c.in_ok-grown.grown) (sym c.requires.one) c.in_ok-grown.ensures.growth

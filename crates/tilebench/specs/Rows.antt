@@ -1,0 +1,43 @@
+-- A row of the table of commands: all that a command is to who runs it.
+use Rattle.std.specs.Prelude.{◌≡◌, ℕ, Bool, true, false, List, [], Option}
+use Rattle.tile_io.specs.declared.fault.TextFault.{TextFault}
+use Rattle.site_table.specs.Seats.{GrownValue}
+use Rattle.counter_compile.specs.declared.stop.CounterStop.{CounterStop}
+use Rattle.tilebench.specs.Inputs.{FailsInput, HoldsInput, IsWholeInput}
+
+pub record RoomRow : Type 1 where
+  -- whether it reads the source, to its end; the input of one that does not is empty
+  pub reads : Bool
+  -- what it answers to the input, with the growth that it hands out: whether it is a yes, and the text
+  pub answers : Option GrownValue → List ℕ → Bool → List ℕ → Type 0
+  -- which inputs it takes
+  pub takes : List ℕ → Type 0
+  -- the first fault of an input
+  pub fails : List ℕ → TextFault → Type 0
+  -- why it refuses the numbers among its words
+  pub refuses : CounterStop → Type 0
+
+-- a command whose numbers are never refused
+abbrev pub refuses_none : CounterStop → Type 0
+refuses_none stop = ⊥
+
+-- all that was left of the source is the input, or nothing was read
+pub record IsInputOf (row : RoomRow) (left left_after : Option (List ℕ)) (input : List ℕ) : Type 0 where
+  pub whole : row.reads ≡ true → IsWholeInput left left_after input
+  pub unread : row.reads ≡ false → (left_after ≡ left) × (input ≡ [])
+
+-- an answer to what was left of the source, with the growth that it hands out
+pub record AnswersLeft (row : RoomRow) (grown : Option GrownValue) (left left_after : Option (List ℕ)) (is_yes : Bool) (text : List ℕ) : Type 0 where
+  pub input : List ℕ
+  pub read : IsInputOf row left left_after input
+  pub answer : row.answers grown input is_yes text
+
+-- the first fault of what was left of the source
+pub record FailsLeft (row : RoomRow) (left left_after : Option (List ℕ)) (fault : TextFault) : Type 0 where
+  pub reads : row.reads ≡ true
+  pub fails : FailsInput row.fails left left_after fault
+
+-- what is left of the source is taken if it is read, and the numbers are not refused
+pub record IsReadyFor (row : RoomRow) (left : Option (List ℕ)) : Type 0 where
+  pub takes : row.reads ≡ true → HoldsInput row.takes left
+  pub accepts : (stop : CounterStop) → ¬ row.refuses stop

@@ -1,0 +1,42 @@
+// `quadrant`: the system of a two-input rule.
+ghost use Rattle.tilebench.specs.Inputs.{alone};
+ghost use Rattle.tilebench.specs.Commands.Quadrant.{quadrant_row};
+ghost use Rattle.tilebench.specs.Inner.Readings.{taken_or_faulty_quadrant};
+
+use crate::input::read_quadrant_alone;
+use crate::resources::Resources;
+use crate::room::{PlainRoom, Room};
+use crate::spelled::Spelled;
+use crate::stop::Stop;
+use quadrant_compile::compile_quadrant;
+use site_table::Grown;
+use std::thread::Threads;
+use tile_io::Gate;
+
+/// The command.
+#[derive(Clone, Copy)]
+pub struct Quadrant;
+
+impl Room for Quadrant {
+    type Answer = Spelled;
+
+    ghost room_row = { λ room. quadrant_row };
+
+    fn reads_input(&self) -> bool {
+        true
+    }
+
+    ghost one_of_two = { λ room. taken_or_faulty_quadrant alone };
+}
+
+impl PlainRoom for Quadrant {
+    fn answer<R: Threads + Sync, G: Gate>(
+        &self,
+        resources: &Resources<'_, R, G>,
+        input: Vec<u8>,
+    ) -> Result<(Spelled, Option<Grown>), Stop> {
+        let quadrant = read_quadrant_alone(resources.alloc, &input)?;
+        let sys = compile_quadrant(resources.alloc, &quadrant)?;
+        Ok((Spelled { sys }, None))
+    }
+}

@@ -1,0 +1,63 @@
+// What a system grew into, as an answer: its tiles, what is open outside its box, and the verdict.
+ghost use Rattle.std.specs.Prelude.{◌≡◌};
+ghost use Rattle.atam.specs.Growth.{IsClosedInBox, IsProducible};
+ghost use Rattle.tilebench.specs.Growths.{growth_text, is_unique};
+ghost use Rattle.tilebench.specs.Inner.Rooms.{GrowsTo, HasTypes, IsJudged, outcome_of};
+
+use crate::judged::{Judged, is_unique};
+use crate::room::Reply;
+use assembly::{Grid, Sequence};
+use local_check::Verdict;
+use seq_text::{print_closed, print_places, print_verdict};
+use tile_io::{Failed, Sink};
+use tile_system::{Site, System, TypeId};
+
+/// What a system grew into: its tiles in canonical order, what is open outside its box, and the
+/// verdict on this order.
+#[derive(Drop)]
+pub struct Growth {
+    pub sys: System,
+    pub order: Sequence,
+    pub outside: Option<(Site, TypeId)>,
+    pub verdict: Verdict,
+}
+
+impl Reply for Growth {
+    ghost text = { λ growth. growth_text growth.sys (outcome_of growth) };
+
+    ghost yes = { λ growth. is_unique growth.verdict };
+
+    ghost printable = { λ growth. HasTypes growth.sys (outcome_of growth) };
+
+    fn is_yes(&self) -> bool {
+        is_unique(self.verdict)
+    }
+
+    fn print<K: Sink>(&self, out: &mut K) -> Result<(), Failed> {
+        print_places(&self.sys, &self.order, out)?;
+        print_closed(&self.sys, self.outside, out)?;
+        print_verdict(&self.sys, &self.verdict, out)
+    }
+}
+
+/// What a system grew into, by the grid of a full growth and the verdict on it.
+pub fn growth_of(sys: System, grid: &Grid, judged: Judged) -> Growth
+    requires area { grid.now.area ≡ sys.area }
+    requires producible { IsProducible sys grid.now.tiles }
+    requires closed { IsClosedInBox sys grid.now.tiles }
+    requires judged { IsJudged sys grid.now.tiles judged }
+    ensures { GrowsTo sys grid.now.tiles result }
+{
+    grid.recall_sites();
+    let Judged {
+        order,
+        verdict,
+        outside,
+    } = judged;
+    Growth {
+        sys,
+        order,
+        outside,
+        verdict,
+    }
+}
