@@ -27,7 +27,10 @@ NUMBER = re.compile(rb"-?[0-9]{1,10}")
 NAME = re.compile(rb"[A-Za-z0-9_:.]{1,40}")
 SHORT_NAME = re.compile(rb"[A-Za-z0-9_]{1,8}")
 GROWERS = ("grow", "race", "report")
-READERS = (*GROWERS, "check", "replay", "schedule", "format", "upgrade", "turing", "picture")
+READERS = (*GROWERS, "check", "replay", "schedule", "format", "upgrade", "turing", "picture", "quadrant")
+# the options of a command, with the range of each and what is meant where it is left out
+WORKERS, CHOICE = ("--workers", 1, 16, 1), ("--choice", 0, 2**64 - 1, 0)
+OPTIONS = {"grow": (WORKERS, CHOICE), "race": (WORKERS, CHOICE), "report": (WORKERS, CHOICE)}
 COMMANDS = (*READERS, "counter", "load")
 
 
@@ -766,10 +769,10 @@ class Judge:
             self.memory = text, (system, tiles, *growth_text(system, tiles))
         return self.memory[1]
 
-    def grown(self, command, workers, text):
+    def grown(self, command, numbers, text):
         """`grow`, `race`, `report`."""
         system, tiles, told, said = self.system_grown(text)
-        is_yes = said == b"yes"
+        workers, is_yes = numbers[0], said == b"yes"
         if command == "race":
             return Wanted(0, check=check_race(system, workers, len(tiles) if is_yes else None))
         if command == "report":
@@ -801,15 +804,15 @@ class Judge:
         text = b"".join(it + b"\n" for it in replies) + places_text(system, canonical(system, scouts.tiles))
         return Wanted(1 if any(it.startswith(b"refused") for it in replies) else 0, text)
 
-    def read(self, command, workers, text):
+    def read(self, command, numbers, text):
         """A command that reads, by an input without a fault."""
         if command in GROWERS:
-            return self.grown(command, workers, text)
+            return self.grown(command, numbers, text)
         lines = Lines(text)
-        if command == "turing":
-            machine = read_machine(lines)
+        if command in ("turing", "quadrant"):
+            compiled = read_machine(lines) if command == "turing" else judge_rules.read_quadrant(lines)
             lines.end()
-            return Wanted(0, machine.system())
+            return Wanted(0, compiled.system())
         system = read_system(lines)
         if command in ("format", "upgrade"):
             lines.end()
@@ -818,7 +821,8 @@ class Judge:
             if system.width() * system.height() > 64 * self.most_tiles:
                 raise TooLarge
             return Wanted(0, picture_text(system, dict(read_places(lines, system, True))))
-        return {"check": self.checked, "replay": self.replayed, "schedule": self.scheduled}[command](system, lines)
+        ways = {"check": self.checked, "replay": self.replayed, "schedule": self.scheduled}
+        return ways[command](system, lines)
 
     def counted(self, command, numbers):
         if command == "load":
@@ -836,7 +840,7 @@ class Judge:
         if command not in COMMANDS:
             return refused_words(command)
         try:
-            return self.read(command, numbers[0] if numbers else 0, text) if command in READERS else self.counted(command, numbers)
+            return self.read(command, numbers, text) if command in READERS else self.counted(command, numbers)
         except Fault as why:
             return Wanted(3, err=b"refused text line %d %s\n" % (why.line, why.cause.encode()))
 
@@ -850,19 +854,20 @@ def value_of(word, least, most):
     return int(word) if is_number else None
 
 
-def options_of(words):
-    """The workers and the choice that words state, or None where they are no such words."""
+def options_of(words, options):
+    """The numbers that words state for options, or None where they are no such words."""
     given, words = {}, list(words)
+    ranges = {name: (least, most) for name, least, most, _ in options}
     if words and words[-1] == "--":
         words.pop()
     while words:
         name, is_joined, value = words.pop(0).partition("=")
-        if name not in ("--workers", "--choice") or name in given or not (is_joined or words):
+        if name not in ranges or name in given or not (is_joined or words):
             return None
-        given[name] = value_of(value if is_joined else words.pop(0), *((1, 16) if name == "--workers" else (0, U64)))
+        given[name] = value_of(value if is_joined else words.pop(0), *ranges[name])
         if given[name] is None:
             return None
-    return [given.get("--workers", 1), given.get("--choice", 0)]
+    return [given.get(name, meant) for name, _, _, meant in options]
 
 
 def numbers_of(words, ranges):
@@ -878,8 +883,8 @@ def reading_of(words):
     """What the words call for: a command and its numbers, or a refusal."""
     if not words or words[0] not in COMMANDS:
         return "NoCommand", []
-    if words[0] in GROWERS:
-        found = options_of(words[1:])
+    if words[0] in OPTIONS:
+        found = options_of(words[1:], OPTIONS[words[0]])
     else:
         found = numbers_of(words[1:], {"counter": (U32, U64), "load": (U64,)}.get(words[0], ()))
     return ("Usage", []) if found is None else (words[0], found)
@@ -976,3 +981,7 @@ def built(path):
     if not os.path.exists(program):
         sys.exit(f"{program} is not built; ./tilebench builds it")
     return program
+
+
+# (it asks for what stands above)
+import judge_rules

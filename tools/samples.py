@@ -3,8 +3,10 @@
 Everything comes from one random number generator, so the same seed makes the same texts.
 """
 import judge
+import judge_rules
 
 KEYWORDS = b"tiles tau glue pair tile box seed end place closed unique look claim split join machine state symbol rule cells rows head tape".split()
+KEYWORDS += b"quadrant size bottom left".split()
 NUMBERS = [b"%d" % it for it in (-1000001, -1000000, -1, 0, 1, 2, 15, 16, 17, 63, 64, 250, 251, 255, 512, 513, 1000, 1001, 1023, 1024, 1025)]
 NUMBERS += [b"%d" % it for it in (1000000, 1000001, 2**31, 2**32 - 1, 2**32, 2**63, 2**64 - 1, 9999999999, 10000000000)]
 WORDS = NUMBERS + KEYWORDS + [b"-0", b"-", b"--1", b"-01", b"007", b"0000000001", b"00000000001", b"+1", b"1.5", b"1e3", b"0x1", b"#", b"#x"]
@@ -161,6 +163,28 @@ def machine_lines(rng, side=9):
     return lines + [b"end"]
 
 
+def rule_lines(rng, side=9):
+    """The text of a two-input rule, which may lack some pairs."""
+    symbols, share = names(rng, rng.randrange(1, 6), 8), rng.choice((0.5, 0.9, 1))
+    pairs = [(west, south) for west in symbols for south in symbols if rng.random() < share]
+    rng.shuffle(pairs)
+    lines = [b"quadrant 1"] + [b"symbol %s" % it for it in symbols]
+    lines += [b"rule %s %s %s %s" % (*it, rng.choice(symbols), rng.choice(symbols)) for it in pairs]
+    size = rng.randrange(1, side), rng.randrange(1, side)
+    lines.append(b"size %d %d" % size)
+    for border, most in zip((b"bottom ", b"left "), size):
+        given = rng.choices(symbols, k=rng.randrange(most + 1))
+        while given:
+            cut = rng.randrange(1, len(given) + 1)
+            lines.append(border + b" ".join(given[:cut]))
+            given = given[cut:]
+    return lines + [b"end"]
+
+
+def rule_system(rng, side=9):
+    return judge_rules.read_quadrant(judge.Lines(joined(rule_lines(rng, side)))).system().split(b"\n")[:-1]
+
+
 def machine_system(rng, side=9):
     return judge.read_machine(judge.Lines(joined(machine_lines(rng, side)))).system().split(b"\n")[:-1]
 
@@ -193,7 +217,15 @@ SYSTEMS = {
     "rivals": (rivals_system, 1),
     "counter": (counter_system, 1),
     "machine": (machine_system, 1),
+    "rule": (rule_system, 1),
 }
+
+
+def random_system(rng, side=9):
+    """What kind of system it is, and the lines of its text, of either version."""
+    kind = rng.choices(list(SYSTEMS), [it[1] for it in SYSTEMS.values()])[0]
+    lines = SYSTEMS[kind][0](rng, side)
+    return (f"{kind} of version 2", widened(rng, lines)) if rng.random() < 0.4 else (kind, lines)
 
 
 # ---- what stands behind a system
@@ -393,7 +425,7 @@ def broken(rng, text):
 
 # ---- words
 
-ODD_NUMBERS = "0 1 2 15 16 17 -1 007 +3 4294967295 4294967296 18446744073709551615 18446744073709551616 99999999999999999999999 1.0 x --workers".split() + [""]
+ODD_NUMBERS = "0 1 2 15 16 17 1000 1001 -1 007 +3 4294967295 4294967296 18446744073709551615 18446744073709551616 99999999999999999999999 1.0 x --workers".split() + [""]
 ODD_WORDS = ["", "grown", "Grow", "GROW", "help", "--help", "-h", "--version", "grow ", "grow\n", "-", "--", "upgrades", "é", "\udcff"]
 
 
@@ -415,7 +447,7 @@ def odd_words(rng):
     if way < 0.15:
         words = [rng.choice(ODD_WORDS)]
     elif way < 0.5:
-        words = [rng.choice(judge.GROWERS)]
+        words = [rng.choice(list(judge.OPTIONS))]
         for _ in range(rng.randrange(1, 4)):
             option, number = rng.choice(("--workers", "--workers", "--choice", "--choice", "--worker", "-w", "--", "-")), rng.choice(ODD_NUMBERS)
             words += rng.choice(([option, number], [option, number], [option, number], [f"{option}={number}"], [option], [number]))
