@@ -157,7 +157,7 @@ def limits():
                "LONGEST_NAME": "names", "LONGEST_SIDE": "box", "LEAST_CORNER": "box", "GREATEST_CORNER": "box", "MOST_INPUT": "input", "LONGEST_LINE": "input"}
     machine = {"MOST_STATES", "MOST_SYMBOLS", "LONGEST_SHORT_NAME", "MOST_CELLS", "MOST_ROWS"}
     for crate, find in (("atam", rows_of.get), ("tile_io", rows_of.get), ("machine_text", lambda name: "machine" if name in machine else None),
-                        ("counter_compile", lambda name: "counter")):
+                        ("quadrant_compile", lambda name: "two-input rule"), ("counter_compile", lambda name: "counter")):
         paths = glob.glob(f"{TOP}/crates/{crate}/src/limits.rt") or glob.glob(f"{TOP}/crates/{crate}/src/*.rt")
         for path in paths:
             for name, value in re.findall(r"^pub const (\w+): [iu]\w+ = (-?[\d_]+);", read(os.path.relpath(path, TOP)), re.M):
@@ -170,7 +170,7 @@ def limits():
 def commands():
     """The commands of the program: each has a row in README.md, a room in PROVED.md, a part in FORMATS.md and the manual page."""
     source = read("crates/command_line/specs/Commands.antt")
-    names = re.findall(r'^command_word name\.\w+ = codes "([a-z]+)"', source, re.M)
+    names = re.findall(r'^row_of name\.\w+ = \(codes "([a-z]+)"', source, re.M)
     readme = {it.split()[0] for cells in rows(read("README.md")) for it in CODE.findall(cells[0])}
     told = [f"README.md: no row for {it}" for it in names if it not in readme]
     told += [f"README.md: no command {it}" for it in readme if names and it not in names]
@@ -185,7 +185,7 @@ def answers():
     specs = [("tile_io", "Causes"), ("command_line", "Commands"), ("tilebench", "Refusals")]
     found = [it for crate, file in specs for it in re.findall(r'^\w+_(?:stop_)?name [\w.]+ = codes "([A-Z]\w+)"', read(f"crates/{crate}/specs/{file}.antt"), re.M)]
     told = [f"{path}: nothing of {it}" for it in found if it != "NoMemory" for path, text in (("docs/FORMATS.md", formats), ("tools/explain", explain)) if it not in text]
-    for crate, file in (("tile_text", "SystemText"), ("seq_text", "GrowthText"), ("seq_text", "ScheduleText"), ("machine_text", "MachineText")):
+    for crate, file in (("tile_text", "SystemText"), ("seq_text", "GrowthText"), ("seq_text", "ScheduleText"), ("machine_text", "MachineText"), ("quadrant_compile", "WeaveText")):
         for word, number in re.findall(r'codes "([a-z]+)"\)? \(?(?:exactly )?(\d+)', read(f"crates/{crate}/specs/{file}.antt")):
             here = [cells for cells in rows(formats) if any(it.split()[0] == word for it in CODE.findall(cells[0]))]
             if not any(cells[1] == number or len(CODE.findall(cells[0])[0].split()) == int(number) for cells in here):
