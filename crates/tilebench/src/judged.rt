@@ -47,8 +47,25 @@ pub fn grow_judged<R: Threads + Sync, G: Gate>(
 {
     let types = TypeIndex::build(resources.alloc, sys)?;
     let (grown, order) = grow_ordered(resources, sys, &types, crew)?;
-    let judged = judge_grid(resources, sys, &types, grown.grid(), order, crew.workers)?;
+    let judged = judge_grown(resources, sys, &types, &grown, order, crew.workers)?;
     Ok((grown, judged))
+}
+
+// The verdict on what has grown, whose canonical order may be known, by so many workers.
+fn judge_grown<R: Threads + Sync, G: Gate>(
+    resources: &Resources<'_, R, G>,
+    sys: &System,
+    types: &TypeIndex,
+    grown: &Grown,
+    known: Option<Sequence>,
+    workers: WorkerCount,
+) -> Result<Judged, NoMemory>
+    requires index { IsIndexOf sys.now types.now }
+    requires grew { IsGrownBy sys.now workers.count grown.now }
+    requires known { IfSome known (IsCanonical sys.now grown.now.grid.tiles) }
+    ensures { IfOk result (IsJudged sys.now grown.now.grid.tiles) }
+{
+    judge_grid(resources, sys, types, grown.grid(), known, workers)
 }
 
 // The verdict on a full growth, whose canonical order may be known, by so many workers.
