@@ -22,7 +22,7 @@ returns g c =
     let grows = subst (λ (grid : TileGrid). GrowsTo sys grid.tiles growth) c.grid.ensures c.growth_of-growth.ensures in
     record {
       answer = load_told c.args.self.now.number counter.result.bits counter.result.start c.count.result sys table growth counter.ensures.bits counter.ensures.start c.in_ok-sys.ensures
-          (subst (λ (workers : ℕ). IsGrownBy sys workers table) c.new-workers.ensures c.in_ok-grown.ensures.grew) grows
+          (subst (λ (workers : ℕ). IsGrownBy sys workers table) c.new.ensures c.in_ok-grown.ensures.grew) grows
           (c.count.ensures ∙ ap (λ (grid : TileGrid). length grid.tiles) c.grid-2.ensures);
       prints = grows.types;
     }

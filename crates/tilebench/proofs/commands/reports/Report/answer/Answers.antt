@@ -1,4 +1,5 @@
 use Rattle.std.proofs.Common.{◌≡◌, ◌∙◌, ℕ, List, ap, length, refl, subst}
+use Rattle.std.proofs.lemmas.Result.{err_from_is_err_and}
 use Rattle.assembly.specs.Grids.{TileGrid}
 use Rattle.tilebench.specs.declared.wins.Win.{Win}
 use Rattle.tilebench.specs.Inputs.{IsSystemAlone}
@@ -29,3 +30,8 @@ returns g c =
       };
       prints = tt;
     }
+
+pub returns-in_err-reported : goal.returns-in_err-reported
+returns-in_err-reported g c =
+    let p = err_from_is_err_and c.from_residual-in_err-reported.result c.from_residual-in_err-reported.ensures.1 in
+    rw (p.1, p.2) tt
