@@ -1,0 +1,122 @@
+-- What is left of a growth that was watched.
+use Rattle.std.proofs.Common.{◌≡◌, ◌≢◌, ◌<◌, ◌≤◌, ◌+◌, ◌-◌, ◌^◌, ℕ, zero, suc, List, [], ◌∷◌, ◌++◌, append-nil, length, get_or, sum, bit_or, Contains, AllPairs, lit<, lit≤, refl, sym, ◌∙◌, ap, subst, arith}
+use Rattle.std.specs.Int.{bit_at}
+use lib.Count.{count_leading_zeros}
+use Rattle.std.proofs.lemmas.Nat.Bits.{bit_at_above, bit_at_ones}
+use Rattle.std.proofs.lemmas.List.Elements.{All-contains, Contains-append_left, Contains-append_right}
+use Rattle.atam.specs.declared.place.Place.{Place}
+use Rattle.atam.specs.Sites.{InBox}
+use Rattle.atam.specs.Placements.{HasDistinctSites, IsPartOf, SamePlacements}
+use Rattle.atam.specs.TileSystem.{TileSystem, IsType, IsValid}
+use Rattle.atam.specs.Assembly.{Attaches}
+use Rattle.atam.proofs.Canon.{producible_types}
+use Rattle.atam.proofs.Closure.{closure_of_part}
+use Rattle.atam.proofs.Tiles.{same_back, SamePlacements-trans}
+use Rattle.assembly.specs.Grids.{TileGrid}
+use Rattle.grow_core.specs.declared.placed_tile.PlacedTile.{PlacedTile}
+use Rattle.grow_core.specs.Core.{ScoutState, Owns, greatest, placed_by}
+use Rattle.grow_core.specs.Steps.{IsUnion}
+use Rattle.grow_core.proofs.Numbers.{by_none}
+use Rattle.site_table.specs.Seats.{SeatValue, GrownValue, Closes}
+use Rattle.site_table.specs.Rule.{IsPossible}
+use Rattle.frontier_seat.proofs.Looked.{closed_same}
+use Rattle.grow_workers.specs.Workers.{GrewOn, OwnsAtLeast}
+use Rattle.grow_workers.proofs.Winning.{all_won, rejoined-owned}
+use Rattle.watch_frames.specs.Frames.{AreFrames}
+use Rattle.watch_frames.specs.Watched.{IsWatched}
+
+-- a part of the first seat has seen just the seeds
+pub seeds_seen : (seeds first part tiles : List Place) → SamePlacements seeds first → SamePlacements first part → SamePlacements seeds tiles → SamePlacements part tiles
+seeds_seen seeds first part tiles one two put = SamePlacements-trans part first tiles (same_back first part two) (SamePlacements-trans first seeds tiles (same_back seeds first one) put)
+
+-- what the growth has seen is all that stands, and the frames are a part of it
+pub is_watched : (sys : TileSystem) (many : ℕ) (places : List Place) (counts : List ℕ) (old kept given joined : SeatValue) (start grid : TileGrid) (wins : List ℕ) (out : GrownValue) →
+    IsValid sys → AreFrames sys places counts → length counts ≡ many → IsPartOf places given.scout.seen → IsUnion kept.scout given.scout joined.scout →
+    SamePlacements sys.seeds start.tiles → GrewOn sys old start kept grid wins → HasDistinctSites grid.tiles → Closes sys joined.scout out → IsWatched sys many places counts out.grid.tiles
+is_watched sys many places counts old kept given joined start grid wins out valid are taken part union seeds grew distinct closes =
+    let tiles = out.grid.tiles in
+    let grid_part : IsPartOf grid.tiles tiles = λ p in_grid. closes.seen p (union.seen.part p (Contains-append_left kept.scout.seen given.scout.seen p (grew.seen.whole p in_grid))) in
+    let seeds_part : IsPartOf sys.seeds grid.tiles = λ p seed. grew.kept p (seeds.part p seed) in
+    let none : (p : Place) → Contains tiles p → ¬ Attaches sys grid.tiles p.site p.tile = λ p stands attaches.
+    grew.closed p.site p.tile (All-contains (λ q. InBox sys.area q.site) tiles p closes.inside stands)
+    (record { kind = All-contains (λ q. IsType sys q.tile) tiles p (producible_types sys tiles closes.producible) stands; attaches = attaches })
+    in
+    let same : SamePlacements grid.tiles tiles = closure_of_part sys tiles grid.tiles valid.distinct_seeds closes.distinct distinct closes.producible grid_part seeds_part none in
+    record {
+      frames = are;
+      taken = taken;
+      part = λ p listed. closes.seen p (union.seen.part p (Contains-append_right kept.scout.seen given.scout.seen p (part p listed)));
+      full = record {
+        distinct = closes.distinct;
+        inside = closes.inside;
+        producible = closes.producible;
+        closed = closed_same sys tiles grid.tiles closes.distinct distinct (same_back grid.tiles tiles same) grew.closed;
+      };
+    }
+
+-- the two seats have all numbers again
+joined_owned : (kept given joined : ScoutState) → kept.owned ≡ 2 ^ 64 - 1 - 2 ^ greatest (2 ^ 64 - 1) → given.owned ≡ 2 ^ greatest (2 ^ 64 - 1) → IsUnion kept given joined → joined.owned ≡ 2 ^ 64 - 1
+joined_owned kept given joined rest top union =
+    union.owned ∙ ap (λ (n : ℕ). bit_or n given.owned) rest ∙ ap (λ (n : ℕ). bit_or (2 ^ 64 - 1 - 2 ^ greatest (2 ^ 64 - 1)) n) top
+    ∙ rejoined-owned (2 ^ 64 - 1) (lit< tt) (lit< tt)
+
+-- the other seat has not the greatest number
+rest_small : 2 ^ 64 - 1 - 2 ^ greatest (2 ^ 64 - 1) < 2 ^ 63
+unfolding count_leading_zeros
+rest_small = lit< tt
+
+no_tile : (sys : TileSystem) (kept : ScoutState) → IsPossible sys kept → kept.owned ≡ 2 ^ 64 - 1 - 2 ^ greatest (2 ^ 64 - 1) → placed_by 63 kept.mine ≡ []
+no_tile sys kept possible rest = by_none 63 kept.mine (λ t in_mine placer.
+    let own : Owns kept.owned t.placer = possible.scout.mine_owned t in_mine in
+    let small : kept.owned < 2 ^ 63 = subst (λ (n : ℕ). n < 2 ^ 63) (sym rest) rest_small in
+    let none : bit_at kept.owned 63 ≡ 0 = bit_at_above kept.owned 63 63 small (lit≤ tt) in
+    let own63 : Owns kept.owned 63 = subst (Owns kept.owned) placer own in
+    omega (arith, own63, none))
+
+-- the watcher has placed nothing, and the seats have placed all tiles but the seeds
+module _ (sys : TileSystem) (kept given joined : ScoutState) (out : GrownValue) (rest : kept.owned ≡ 2 ^ 64 - 1 - 2 ^ greatest (2 ^ 64 - 1)) (top : given.owned ≡ 2 ^ greatest (2 ^ 64 - 1))
+    (union : IsUnion kept given joined) (closes : Closes sys joined out) where
+  pub total : IsValid sys → sum out.won + length sys.seeds ≡ length out.grid.tiles
+  total valid = all_won sys joined out valid (joined_owned kept given joined rest top union) closes
+
+  pub watcher_won : (own : TileSystem) → IsPossible own kept → given.mine ≡ [] → get_or out.won 63 0 ≡ 0
+  watcher_won own possible none =
+      let owns : Owns joined.owned 63 = subst (λ (n : ℕ). Owns n 63) (sym (joined_owned kept given joined rest top union)) (bit_at_ones 64 63 (lit< tt)) in
+      let mine : joined.mine ≡ kept.mine = union.mine ∙ ap (λ (l : List PlacedTile). kept.mine ++ l) none ∙ append-nil kept.mine in
+      closes.own_counts 63 owns ∙ ap (λ (l : List PlacedTile). length (placed_by 63 l)) mine ∙ ap length (no_tile own kept possible rest)
+
+-- the numbers below a number
+abbrev below : ℕ → List ℕ
+below zero = []
+below (suc n) = n ∷ below n
+
+length_below : (n : ℕ) → length (below n) ≡ n
+length_below zero = refl
+length_below (suc n) = ap suc (length_below n)
+
+is_below : (n k d : ℕ) → k < length (below n) → get_or (below n) k d < n
+is_below zero k d within = let never : ⊥ = omega (arith, within) in absurd never
+is_below (suc n) zero d within = omega arith
+is_below (suc n) (suc k) d within = let l = is_below n k d (omega (arith, within)) in omega (arith, l)
+
+pairs_below : (n i j d : ℕ) → i < j → j < length (below n) → get_or (below n) i d ≢ get_or (below n) j d
+pairs_below zero i j d before within = let never : ⊥ = omega (arith, within) in absurd never
+pairs_below (suc n) i zero d before within = let never : ⊥ = omega (arith, before) in absurd never
+pairs_below (suc n) zero (suc j) d before within = let l = is_below n j d (omega (arith, within)) in λ e. omega (arith, e, l)
+pairs_below (suc n) (suc i) (suc j) d before within = pairs_below n i j d (omega (arith, before)) (omega (arith, within))
+
+distinct_below : (n : ℕ) → AllPairs (λ a b. a ≢ b) (below n)
+distinct_below n = λ i j d before within. pairs_below n i j d before within
+
+-- who owns all numbers and gives one away keeps at least 63
+pub rest_owns : (count : ℕ) → count ≤ 63 → OwnsAtLeast count (2 ^ 64 - 1 - 2 ^ greatest (2 ^ 64 - 1))
+unfolding count_leading_zeros
+rest_owns count few =
+    let rest : 2 ^ 63 - 1 ≡ 2 ^ 64 - 1 - 2 ^ greatest (2 ^ 64 - 1) = refl in
+    let owns : OwnsAtLeast count (2 ^ 63 - 1) = record {
+      numbers = below count;
+      many = let e = length_below count in omega (arith, e);
+      distinct = distinct_below count;
+      all_owned = λ k d l. let b = is_below count k d l in bit_at_ones 63 (get_or (below count) k d) (omega (arith, b, few));
+    } in
+    subst (OwnsAtLeast count) rest owns

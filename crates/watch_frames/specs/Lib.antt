@@ -1,0 +1,6 @@
+pub mod Extensions
+pub mod Frames
+pub mod Laws
+pub mod Inner
+pub mod Watched
+pub mod Watchers

@@ -1,0 +1,53 @@
+// Looks at the sites of the box.
+ghost use Rattle.std.specs.Prelude.{◌≡◌, ◌<◌};
+ghost use Rattle.assembly.specs.Cells.{cell_count, site_at};
+ghost use Rattle.site_table.specs.Seats.{IsSeatOf};
+ghost use Rattle.watch_frames.specs.Watchers.{HasSeen, LooksOn};
+
+use assembly::{Grid, Row};
+use site_table::{SiteSeat, SiteTable};
+use tile_system::{Place, Site, System};
+
+// Looks at each site of the box, in one pass.
+pub(crate) fn look_over(sys: &System, table: &SiteTable, seat: &mut SiteSeat, seen: &mut Grid)
+    requires seat { IsSeatOf table.now seat.old }
+    requires system { table.now.sys ≡ sys.now }
+    requires seen { HasSeen sys.now seat.old seen.old }
+    ensures { LooksOn sys.now seat.old seen.old seat.new seen.new }
+{
+    let area = sys.area();
+    let sites = area.width() as usize * area.height() as usize;
+    let mut row = Row::least(&area);
+    for number in 0..sites {
+        let site = row.site(&area, number);
+        look_at(sys, table, seat, seen, site, number);
+    }
+}
+
+// One look.
+#[inline(always)]
+fn look_at(
+    sys: &System,
+    table: &SiteTable,
+    seat: &mut SiteSeat,
+    seen: &mut Grid,
+    site: Site,
+    number: usize,
+)
+    requires seat { IsSeatOf table.now seat.old }
+    requires system { table.now.sys ≡ sys.now }
+    requires seen { HasSeen sys.now seat.old seen.old }
+    requires within { number < cell_count sys.now.area }
+    requires number { site_at sys.now.area number ≡ site }
+    ensures { LooksOn sys.now seat.old seen.old seat.new seen.new }
+{
+    sys.recall_valid();
+    seat.recall_possible();
+    let Some(tile) = table.look_at(seat, site, number) else {
+        return;
+    };
+    if seen.tile(number).is_some() {
+        return;
+    }
+    seen.put_at(Place { site, tile }, number);
+}
