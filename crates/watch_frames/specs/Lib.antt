@@ -4,3 +4,4 @@ pub mod Laws
 pub mod Inner
 pub mod Watched
 pub mod Watchers
+pub mod FrameText

@@ -5,10 +5,12 @@ mod frames;
 mod laws;
 mod listing;
 mod looks;
+mod printing;
 mod watcher;
 mod watching;
 
 pub use frames::Frames;
 pub use laws::{law_extension, law_extension_grows, law_frames};
+pub use printing::print_frames;
 pub use watcher::Watcher;
 pub use watching::watch;
