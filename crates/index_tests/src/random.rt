@@ -90,13 +90,13 @@ pub(crate) fn random_system(
 fn add_all(draft: &mut SystemBuilder, kind: Kind, numbers: &mut Numbers) -> Result<(), BuildStop> {
     draft.area(AREA)?;
     match kind {
-        Kind::OneSeed => add_one_seed(draft, numbers),
+        Kind::OneSeed => add_sole_seed(draft, numbers),
         Kind::SeedsAndPairs => add_seeds_and_pairs(draft, numbers),
     }
 }
 
 // Three glues of strength 0, 1 and 2, and six types with any of them.
-fn add_one_seed(draft: &mut SystemBuilder, numbers: &mut Numbers) -> Result<(), BuildStop> {
+fn add_sole_seed(draft: &mut SystemBuilder, numbers: &mut Numbers) -> Result<(), BuildStop> {
     for (name, strength) in STRENGTHS {
         draft.glue(name, strength)?;
     }
