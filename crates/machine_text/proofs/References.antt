@@ -1,5 +1,5 @@
 -- The names of a line refer, one after another.
-use Rattle.std.proofs.Common.{◌≡◌, ◌<◌, ◌+◌, ℕ, zero, suc, List, [], ◌∷◌, ◌++◌, length, drop, Result, Ok, Err, All, refl, sym, ◌∙◌, ap, subst, arith, append_assoc, append-nil, drop-cons}
+use Rattle.std.proofs.Common.{◌≡◌, ◌<◌, ◌+◌, ℕ, zero, suc, List, [], ◌∷◌, ◌++◌, length, drop, Option, Some, None, MatchOption, Result, Ok, Err, All, refl, sym, ◌∙◌, ap, subst, arith, append_assoc, append-nil, drop-cons}
 use Rattle.std.proofs.Math.Seq.{drop-length}
 use Rattle.tile_io.specs.declared.fault.Cause.{Cause}
 use Rattle.tile_io.specs.Checks.{◌>>=◌, field, referred}
@@ -34,6 +34,25 @@ module _ (names words : List (List ℕ)) (front : List ℕ) where
   pub references_end : with_front front (references names (drop (length words) words)) ≡ Ok front
   unfolding references
   references_end = rw (drop-length words) (ap (λ l. Ok l) (append-nil front))
+
+-- the same over a first word and the others
+module _ (names : List (List ℕ)) (word : List ℕ) (rest : List (List ℕ)) (front : List ℕ) where
+  pub references_next : (a : ℕ) → referred is_short_name names word ≡ Ok a → with_front front (references names (word ∷ rest)) ≡ with_front (front ++ a ∷ []) (references names rest)
+  unfolding references
+  references_next a is = rw is (one_more front a (references names rest))
+
+  pub references_fault : (cause : Cause) → referred is_short_name names word ≡ Err cause → with_front front (references names (word ∷ rest)) ≡ Err cause
+  unfolding references
+  references_fault cause is = rw is refl
+
+pub no_more : (names : List (List ℕ)) (front : List ℕ) → with_front front (references names []) ≡ Ok front
+unfolding references
+no_more names front = ap (λ l. Ok l) (append-nil front)
+
+-- what is left behind the first
+pub behind_first : {A : Type 0} (view : A → List ℕ) (first : Option A) (old new : List (List ℕ)) → MatchOption first ((old ≡ []) × (new ≡ [])) (λ x. old ≡ view x ∷ new) → new ≡ drop 1 old
+behind_first view None old new none = none.1 ∙ sym (ap (drop 1) none.0)
+behind_first view (Some x) old new is = sym (ap (drop 1) is)
 
 pub no_front : (read : Result (List ℕ) Cause) → with_front [] read ≡ read
 no_front (Ok numbers) = refl

@@ -13,12 +13,12 @@ use Rattle.machine_text.specs.Machines.{is_for, rule_among}
 use Rattle.machine_text.specs.Inner.Tables.{entry, IsTableOf}
 
 module _ {X : Type 0} (xs : List X) (i : ℕ) (x : X) (within : i < length xs) where
-  slice_get-set_same : slice_get (slice_set xs i x) i ≡ Some x
+  pub slice_get-set_same : slice_get (slice_set xs i x) i ≡ Some x
   slice_get-set_same =
       let size : length (slice_set xs i x) ≡ length xs = length-set xs i x in
       slice_get-get_or (slice_set xs i x) i x (omega (arith, within, size)) ∙ ap (λ y. Some y) (get_or-set_same xs i x x within)
 
-  slice_get-set_other : (j : ℕ) → j < length xs → j ≢ i → slice_get (slice_set xs i x) j ≡ slice_get xs j
+  pub slice_get-set_other : (j : ℕ) → j < length xs → j ≢ i → slice_get (slice_set xs i x) j ≡ slice_get xs j
   slice_get-set_other j inside other =
       let size : length (slice_set xs i x) ≡ length xs = length-set xs i x in
       slice_get-get_or (slice_set xs i x) j x (omega (arith, inside, size)) ∙ ap (λ y. Some y) (get_or-set_other xs i j x x other) ∙ sym (slice_get-get_or xs j x inside)

@@ -1,3 +1,4 @@
 pub mod Kinds
 pub mod Tables
 pub mod SoFar
+pub mod Marks

@@ -21,4 +21,4 @@ pub use machine::{Machine, run_machine};
 pub use name_list::NameList;
 pub use reader::read_machine;
 pub use rule::{Rule, Transition, Turn};
-pub use short_name::{check_new, find_name, find_names};
+pub use short_name::{check_new, find_name, find_names, find_names_of_line};

@@ -1,7 +1,9 @@
 // Short names, as states and symbols have them: which may be declared, and which number one refers to.
 ghost use Rattle.std.specs.Prelude.{◌≡◌, ◌≤◌, ◌<◌, length, IfOk, drop};
 ghost use Rattle.std.specs.List.{list_all};
+ghost use Rattle.std.specs.Iterator.{YieldsFirstRef};
 ghost use Rattle.tile_io.specs.Checks.{declared, referred};
+ghost use Rattle.tile_io.specs.Lines.{words_of};
 ghost use Rattle.machine_text.specs.Machines.{is_short_name, is_short_name_byte};
 ghost use Rattle.machine_text.specs.MachineText.{references};
 ghost use Rattle.machine_text.specs.NameChecks.{Declares, Refers};
@@ -9,7 +11,7 @@ ghost use Rattle.machine_text.specs.NameChecks.{Declares, Refers};
 use crate::limits::LONGEST_SHORT_NAME;
 use crate::name_list::NameList;
 use std::alloc::Global;
-use tile_io::{Cause, LineStop, LineWords};
+use tile_io::{Cause, LineStop, LineWords, WordIter, words};
 
 /// The numbers that the words of a line behind the first refer to, each in time that grows with the number of names.
 pub fn find_names(alloc: Global, names: &NameList, words: &LineWords) -> Result<Vec<u32>, LineStop>
@@ -25,6 +27,34 @@ pub fn find_names(alloc: Global, names: &NameList, words: &LineWords) -> Result<
         }
     }
     Ok(numbers)
+}
+
+/// The numbers that the words of a line behind the first refer to. It goes over the line once.
+pub fn find_names_of_line(
+    alloc: Global,
+    names: &NameList,
+    line: &[u8],
+) -> Result<Vec<u32>, LineStop>
+    ensures { Refers (references names.now (drop 1 (words_of line.now))) result }
+{
+    let mut rest = words(line);
+    let _first = next_word(&mut rest);
+    let mut numbers = Vec::new(alloc);
+    while let Some(word) = next_word(&mut rest) {
+        let number = find_name(names, word)?;
+        match numbers.push(number) {
+            Ok(()) => {}
+            Err(_) => return Err(LineStop::NoMemory),
+        }
+    }
+    Ok(numbers)
+}
+
+// The next of the words that are left.
+fn next_word<'a>(rest: &mut WordIter<'a>) -> Option<&'a [u8]>
+    ensures { YieldsFirstRef words_of rest.old result rest.new }
+{
+    rest.next()
 }
 
 /// The number that a name refers to, in time that grows with the number of names.

@@ -1,6 +1,7 @@
 pub mod RuleTables
 pub mod Fits
 pub mod Built
+pub mod Borders
 pub mod Ruling
 pub mod Listed
 pub mod Weaving

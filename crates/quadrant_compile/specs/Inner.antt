@@ -3,3 +3,4 @@ pub mod Tables
 pub mod SoFar
 pub mod Held
 pub mod Members
+pub mod Borders

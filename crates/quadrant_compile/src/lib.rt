@@ -1,6 +1,7 @@
 //! Rules from two symbols to two, woven over columns and rows: their text, and the tile system that shows their recurrence.
 #![tactic(auto)]
 
+mod border;
 mod cells;
 mod compiler;
 mod laws;

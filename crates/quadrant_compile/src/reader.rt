@@ -1,17 +1,21 @@
 // A quadrant is read from its text.
-ghost use Rattle.std.specs.Prelude.{◌≡◌, ◌≤◌, length, IfOk};
+ghost use Rattle.std.specs.Prelude.{◌≡◌, ◌≤◌, true, length, IfOk};
+ghost use Rattle.tile_io.specs.declared.limits.TheConstants.{LONGEST_LINE};
 ghost use Rattle.tile_io.specs.NextLine.{IsMark};
 ghost use Rattle.tile_io.specs.Formats.{ReadsOrStops};
 ghost use Rattle.quadrant_compile.specs.Weaves.{IsWeave};
 ghost use Rattle.quadrant_compile.specs.WeaveText.{ReadsQuadrant, quadrant_format};
 
+use crate::border::Border;
 use crate::limits::MOST_SYMBOLS;
 use crate::line_kind::LineKind;
 use crate::parts::QuadrantParts;
 use crate::quadrant::Quadrant;
-use crate::take::take_item;
+use crate::take::{take_border, take_item};
 use std::alloc::Global;
-use tile_io::{LineReader, LineStop, LineWords, MOST_INPUT, Mark, TextStop, read_text};
+use tile_io::{
+    LONGEST_LINE, LineReader, LineStop, LineWords, MOST_INPUT, Mark, TextStop, read_text,
+};
 
 /// Reads a quadrant text, up to its end line, in time that grows with its length and the number of its symbols.
 pub fn read_quadrant(alloc: Global, text: &[u8], from: Mark) -> Result<(Quadrant, Mark), TextStop>
@@ -95,7 +99,60 @@ impl LineReader for QuadrantReader {
         Ok(kind.is_last())
     }
 
+    // A line of a border, which may have many words. Each other line is left, and so is one that the checks before its
+    // fields refuse.
+    fn take_plain(&mut self, line: &[u8]) -> Option<Result<bool, LineStop>> {
+        if !may_be_of_border(line) {
+            return None;
+        }
+        let words = LineWords::cut(line);
+        let border = Border::of(&words)?;
+        if !self.has_place(border, &words) {
+            return None;
+        }
+        match take_border(self.alloc, &mut self.parts, border, line) {
+            Ok(()) => {
+                self.last = Some(border.kind());
+                Some(Ok(false))
+            }
+            Err(stop) => Some(Err(stop)),
+        }
+    }
+
     fn is_complete(&self) -> bool {
         false
+    }
+}
+
+impl QuadrantReader {
+    ghost use Rattle.quadrant_compile.specs.Inner.SoFar.{weave_in};
+    ghost use Rattle.quadrant_compile.specs.Inner.Borders.{HasPlace};
+
+    // Whether a line of this border passes the checks before its fields.
+    fn has_place(&self, border: Border, words: &LineWords) -> bool
+        ensures { result ≡ true →
+            HasPlace border (weave_in self.now.parts) self.now.last words.now }
+    {
+        let count = words.len();
+        if count < 2 {
+            return false;
+        }
+        if !border.kind().may_stand(self.last) {
+            return false;
+        }
+        match border {
+            Border::Bottom => self.parts.has_columns(count - 1),
+            Border::Left => self.parts.has_rows(count - 1),
+        }
+    }
+}
+
+// Whether a line may be one of a border, by its length and its first byte.
+fn may_be_of_border(line: &[u8]) -> bool
+    ensures { result ≡ true → length line.now ≤ LONGEST_LINE }
+{
+    match line.first() {
+        Some(b'b' | b'l') => line.len() <= LONGEST_LINE,
+        _ => false,
     }
 }

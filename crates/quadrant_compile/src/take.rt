@@ -1,16 +1,20 @@
 // What the fields of a line make of a quadrant in the making.
-ghost use Rattle.std.specs.Prelude.{◌≡◌, ◌≤◌, ◌<◌, List, true, None, length, IfOk};
+ghost use Rattle.std.specs.Prelude.{◌≡◌, ◌≤◌, ◌<◌, ℕ, List, true, None, Ok, drop, length, IfOk};
 ghost use Rattle.quadrant_compile.specs.declared.limits.TheConstants.{MOST_SYMBOLS};
 ghost use Rattle.quadrant_compile.specs.Weaves.{Weave, answer_among};
 ghost use Rattle.quadrant_compile.specs.WeaveText.{WeaveItem, header_fields, symbol_fields, rule_in, rule_fields, size_fields, bottom_fields, left_fields, weave_of};
 ghost use Rattle.quadrant_compile.specs.Inner.Keywords.{row_of};
+ghost use Rattle.quadrant_compile.specs.Inner.Borders.{border_kind};
 ghost use Rattle.quadrant_compile.specs.Inner.SoFar.{weave_in, Gets};
+ghost use Rattle.tile_io.specs.Lines.{words_of};
+ghost use Rattle.machine_text.specs.MachineText.{references};
 
+use crate::border::Border;
 use crate::limits::LONGEST_SIDE;
 use crate::line_kind::LineKind;
 use crate::parts::QuadrantParts;
 use crate::rule::{Answer, Rule};
-use machine_text::{check_new, find_name, find_names};
+use machine_text::{check_new, find_name, find_names, find_names_of_line};
 use std::alloc::Global;
 use tile_io::{Cause, LineStop, LineWords, is_word, read_count};
 
@@ -35,6 +39,24 @@ pub(crate) fn take_item(
         LineKind::Bottom => take_bottom(alloc, parts, words),
         LineKind::Left => take_left(alloc, parts, words),
         LineKind::End => Ok(()),
+    }
+}
+
+/// Takes the fields of a line of this border. It goes over the line once.
+pub(crate) fn take_border(
+    alloc: Global,
+    parts: &mut QuadrantParts,
+    border: Border,
+    line: &[u8],
+) -> Result<(), LineStop>
+    ensures { (earlier : List WeaveItem) → weave_in parts.old ≡ weave_of earlier →
+        Gets (border_kind border)
+        ((row_of (border_kind border)).fields earlier (words_of line.now))
+        (weave_in parts.old) (weave_in parts.new) result }
+{
+    match border {
+        Border::Bottom => take_bottom_line(alloc, parts, line),
+        Border::Left => take_left_line(alloc, parts, line),
     }
 }
 
@@ -127,7 +149,27 @@ fn take_bottom(alloc: Global, parts: &mut QuadrantParts, words: &LineWords) -> R
         (weave_in parts.old) (weave_in parts.new) result }
 {
     let symbols = find_names(alloc, &parts.symbols, words)?;
-    match parts.bottom.extend_from_slice(symbols.as_slice()) {
+    keep_bottom(parts, symbols.as_slice())
+}
+
+// The same by the bytes of the line.
+#[tactic(auto, unfolding(crate::specs::WeaveText::bottom_fields))]
+fn take_bottom_line(alloc: Global, parts: &mut QuadrantParts, line: &[u8]) -> Result<(), LineStop>
+    ensures { Gets LineKind.Bottom (bottom_fields (weave_in parts.old) (words_of line.now))
+        (weave_in parts.old) (weave_in parts.new) result }
+{
+    let symbols = find_names_of_line(alloc, &parts.symbols, line)?;
+    keep_bottom(parts, symbols.as_slice())
+}
+
+// Puts the symbols of a `bottom` line behind those of the bottom.
+fn keep_bottom(parts: &mut QuadrantParts, symbols: &[u32]) -> Result<(), LineStop>
+    ensures { (words : List (List ℕ)) →
+        references (weave_in parts.old).symbols (drop 1 words) ≡ Ok symbols.now →
+        Gets LineKind.Bottom (bottom_fields (weave_in parts.old) words)
+        (weave_in parts.old) (weave_in parts.new) result }
+{
+    match parts.bottom.extend_from_slice(symbols) {
         Ok(()) => Ok(()),
         Err(_) => Err(LineStop::NoMemory),
     }
@@ -141,7 +183,27 @@ fn take_left(alloc: Global, parts: &mut QuadrantParts, words: &LineWords) -> Res
         (weave_in parts.old) (weave_in parts.new) result }
 {
     let symbols = find_names(alloc, &parts.symbols, words)?;
-    match parts.left.extend_from_slice(symbols.as_slice()) {
+    keep_left(parts, symbols.as_slice())
+}
+
+// The same by the bytes of the line.
+#[tactic(auto, unfolding(crate::specs::WeaveText::left_fields))]
+fn take_left_line(alloc: Global, parts: &mut QuadrantParts, line: &[u8]) -> Result<(), LineStop>
+    ensures { Gets LineKind.Left (left_fields (weave_in parts.old) (words_of line.now))
+        (weave_in parts.old) (weave_in parts.new) result }
+{
+    let symbols = find_names_of_line(alloc, &parts.symbols, line)?;
+    keep_left(parts, symbols.as_slice())
+}
+
+// Puts the symbols of a `left` line behind those of the left border.
+fn keep_left(parts: &mut QuadrantParts, symbols: &[u32]) -> Result<(), LineStop>
+    ensures { (words : List (List ℕ)) →
+        references (weave_in parts.old).symbols (drop 1 words) ≡ Ok symbols.now →
+        Gets LineKind.Left (left_fields (weave_in parts.old) words)
+        (weave_in parts.old) (weave_in parts.new) result }
+{
+    match parts.left.extend_from_slice(symbols) {
         Ok(()) => Ok(()),
         Err(_) => Err(LineStop::NoMemory),
     }

@@ -1,13 +1,5 @@
-use Rattle.std.proofs.Common.{List, ℕ, ap, refl, ◌∙◌, ◌++◌}
-use Rattle.quadrant_compile.specs.WeaveText.{bottom_fields}
-use Rattle.quadrant_compile.specs.WeaveText.WeaveItem.{BottomLine}
-use Rattle.quadrant_compile.specs.Weaves.{Weave}
-use Rattle.quadrant_compile.specs.Inner.SoFar.{weave_in}
+use Rattle.std.proofs.Common.{List, ℕ, Ok, ap, sym, ◌∙◌}
 use Rattle.quadrant_compile.proofs.take.take_bottom.Goals as goal
 
-pub returns-in-Ok : goal.returns-in-Ok
-unfolding bottom_fields
-returns-in-Ok c =
-    let w : Weave = weave_in c.args.parts.now in
-    let bottom = c.in-Ok.ensures.items ∙ ap (λ (l : List ℕ). c.args.parts.now.bottom.items ++ l) c.as_slice.ensures.value in
-    (BottomLine c.in_ok-symbols.symbols.items, refl, rw c.in_ok-symbols.ensures refl, ap (λ (l : List ℕ). record w { bottom = l }) bottom)
+pub returns : goal.returns
+returns c = c.keep_bottom.ensures c.args.words.now (c.in_ok-symbols.ensures ∙ ap (λ (l : List ℕ). Ok l) (sym c.as_slice.ensures.value))

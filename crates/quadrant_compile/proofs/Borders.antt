@@ -1,0 +1,78 @@
+-- A line of a border, with all its checks.
+use Rattle.std.proofs.Common.{◌≡◌, ◌≤◌, ℕ, Bool, true, false, List, [], ◌∷◌, ◌++◌, length, Option, Some, Ok, Err, refl, sym, ap, subst, ◌∙◌, arith}
+use Rattle.std.specs.Prelude.{find, bytes_eq}
+use Rattle.std.proofs.lemmas.Bool.{le-leb}
+use Rattle.tile_io.specs.declared.line_reader.LineStop.{LineStop}
+use Rattle.tile_io.specs.declared.line_reader.LineStop.TheVariants as stops
+use Rattle.tile_io.specs.Checks.{Keyword, field, keyword_of, check_keyword, check_line, last_of}
+use Rattle.tile_io.specs.LineReader.{TakesItem}
+use Rattle.machine_text.specs.MachineText.{two_or_more}
+use Rattle.quadrant_compile.specs.declared.border.Border.{Border}
+use Rattle.quadrant_compile.specs.declared.border.Border.TheVariants as borders
+use Rattle.quadrant_compile.specs.declared.line_kind.LineKind.{LineKind}
+use Rattle.quadrant_compile.specs.Weaves.{Weave}
+use Rattle.quadrant_compile.specs.WeaveText.{WeaveItem, weave_of, bottom_room, left_room, is_end_line, quadrant_table}
+use Rattle.quadrant_compile.specs.Inner.Keywords.{kind_of, row_of, is_last, may_stand_after}
+use Rattle.quadrant_compile.specs.Inner.Borders.{HasPlace, border_kind, border_room}
+use Rattle.quadrant_compile.specs.Inner.SoFar.{Gets, HoldsLines, IsFit, with_item}
+use Rattle.quadrant_compile.proofs.Built.{holds-push, last_is}
+use Rattle.quadrant_compile.proofs.Fits.{fit_of, follows_is}
+
+-- the keyword of a line with words, by the first of them
+pub keyword_at : (words : List (List ℕ)) → 1 ≤ length words → keyword_of quadrant_table.keywords words ≡ find (λ row. bytes_eq (field words 0) row.word) quadrant_table.keywords
+keyword_at [] some = let never : ⊥ = omega (arith, some) in absurd never
+keyword_at (word ∷ words) some = refl
+
+count_is : (border : Border) (words : List (List ℕ)) → two_or_more (length words) ≡ true → (row_of (border_kind border)).has_words (length words) ≡ true
+count_is borders.Bottom words count = count
+count_is borders.Left words count = count
+
+room_is : (border : Border) (w : Weave) (items : List WeaveItem) (words : List (List ℕ)) → w ≡ weave_of items → border_room border w words ≡ true → (row_of (border_kind border)).has_room items words ≡ true
+room_is borders.Bottom w items words same room = ap (λ v. bottom_room v words) (sym same) ∙ room
+room_is borders.Left w items words same room = ap (λ v. left_room v words) (sym same) ∙ room
+
+-- the checks before the fields, as they are made
+pub has_place : (border : Border) (w : Weave) (last : Option LineKind) (words : List (List ℕ)) (kind : LineKind) (count : ℕ) (stands room : Bool) → count ≡ length words → 2 ≤ count →
+    kind ≡ border_kind border → stands ≡ may_stand_after kind last → stands ≡ true → room ≡ border_room border w words → room ≡ true → HasPlace border w last words
+has_place border w last words kind count stands room count_is two kind_is stands_is stand room_is has =
+    record {
+      count = le-leb 2 (length words) (omega (arith, count_is, two));
+      follows = ap (λ k. may_stand_after k last) (sym kind_is) ∙ sym stands_is ∙ stand;
+      room = sym room_is ∙ has;
+    }
+
+-- a border's line doesn't end the text
+never_last : (border : Border) → is_last (border_kind border) ≡ false
+never_last borders.Bottom = refl
+never_last borders.Left = refl
+
+-- the fields alone are left to check
+passed : (row : Keyword WeaveItem) (items : List WeaveItem) (words : List (List ℕ)) → row.has_words (length words) ≡ true → row.may_follow (last_of items) ≡ true → row.has_room items words ≡ true → check_keyword (Some row) items words ≡ row.fields items words
+passed row items words count follows room = rw (count, follows, room) refl
+
+module _ (border : Border) (w : Weave) (last : Option LineKind) (items : List WeaveItem) (words : List (List ℕ)) (place : HasPlace border w last words) (held : HoldsLines w last items) where
+  border_check : keyword_of quadrant_table.keywords words ≡ Some (row_of (border_kind border)) → check_line quadrant_table.keywords items words ≡ (row_of (border_kind border)).fields items words
+  border_check keyword =
+      let kind = border_kind border in
+      let follows : (row_of kind).may_follow (last_of items) ≡ true = follows_is kind (last_of items) ∙ ap (may_stand_after kind) (sym held.kind) ∙ place.follows in
+      ap (λ k. check_keyword k items words) keyword
+      ∙ passed (row_of kind) items words (count_is border words place.count) follows (room_is border w items words held.weave place.room)
+
+  -- it passes
+  pub border_taken : (new : Weave) → keyword_of quadrant_table.keywords words ≡ Some (row_of (border_kind border)) → Gets (border_kind border) ((row_of (border_kind border)).fields items words) w new (Ok tt) →
+      TakesItem is_end_line (λ l. HoldsLines new (Some (border_kind border)) l) items (check_line quadrant_table.keywords items words) (Ok false)
+  border_taken new keyword took =
+      let kind = border_kind border in
+      let item : WeaveItem = took.0 in
+      let room = room_is border w items words held.weave place.room in
+      let fit : IsFit w item = subst (λ (v : Weave). IsFit v item) (sym held.weave) (fit_of kind items words item room took.2) in
+      let stood : may_stand_after (kind_of item) last ≡ true = ap (λ k. may_stand_after k last) took.1 ∙ place.follows in
+      let Kind : LineKind → Type 0 = λ k. HoldsLines (with_item w item) (Some k) (items ++ item ∷ []) in
+      let Draws : Weave → Type 0 = λ v. HoldsLines v (Some kind) (items ++ item ∷ []) in
+      (item, border_check keyword ∙ took.2, last_is item ∙ ap is_last took.1 ∙ never_last border, subst Draws (sym took.3) (subst Kind took.1 (holds-push w last items item held stood fit)))
+
+  -- or stops
+  pub border_stopped : (new : Weave) (stop : LineStop) → keyword_of quadrant_table.keywords words ≡ Some (row_of (border_kind border)) → Gets (border_kind border) ((row_of (border_kind border)).fields items words) w new (Err stop) →
+      TakesItem is_end_line (λ l. HoldsLines new last l) items (check_line quadrant_table.keywords items words) (Err stop)
+  border_stopped new (stops.Fault cause) keyword stopped = (border_check keyword ∙ stopped.0, subst (λ (v : Weave). HoldsLines v last items) (sym stopped.1) held)
+  border_stopped new stops.NoMemory keyword stopped = subst (λ (v : Weave). HoldsLines v last items) (sym stopped) held
