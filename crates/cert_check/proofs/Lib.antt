@@ -1,0 +1,13 @@
+pub mod Entries
+pub mod Waiting
+pub mod Ordering
+pub mod Certified
+pub mod Listed
+pub mod Verdicts
+pub mod Judging
+pub mod Chunks
+pub mod Listings
+pub mod Beside
+pub mod EntryChecks
+pub mod EntryVerdicts
+pub mod Certifying

@@ -1,0 +1,60 @@
+use Rattle.std.proofs.Common.{◌∙◌, true≢false, sym}
+use Rattle.cert_check.specs.Certificates.{IsSeed}
+use Rattle.cert_check.proofs.EntryChecks.{seed_is, seed_at}
+use Rattle.cert_check.proofs.EntryVerdicts.{own_attached, own_bare, own_stated}
+use Rattle.cert_check.proofs.checks.check_own.Goals as goal
+
+pub check_attached-requires-clause-valid : goal.check_attached-requires-clause-valid
+check_attached-requires-clause-valid c = c.requires.can.valid
+
+pub check_attached-requires-clause-fits : goal.check_attached-requires-clause-fits
+check_attached-requires-clause-fits c = c.requires.can.fits
+
+pub check_attached-requires-clause-index : goal.check_attached-requires-clause-index
+check_attached-requires-clause-index c = c.requires.can.index
+
+pub check_attached-requires-clause-listed : goal.check_attached-requires-clause-listed
+check_attached-requires-clause-listed c = c.requires.listed
+
+pub check_attached-requires-clause-beside : goal.check_attached-requires-clause-beside
+check_attached-requires-clause-beside c = c.requires.beside
+
+pub check_attached-requires-clause-known : goal.check_attached-requires-clause-known
+check_attached-requires-clause-known c = c.requires.known
+
+pub check_attached-requires-clause-attached : goal.check_attached-requires-clause-attached
+check_attached-requires-clause-attached c =
+    let can = c.requires.can in
+    let no_seed : ¬ IsSeed c.args.sys.now c.args.entry.now = λ seed.
+    true≢false (sym (c.is_seed.ensures.1 (seed_at c.args.sys.now c.args.seeds.now.tiles c.args.entry.now.place can.valid.distinct_seeds can.seeded seed)) ∙ c.if-not-is_seed.true)
+    in
+    no_seed
+
+pub returns-then-not-is_seed-clause-verdict : goal.returns-then-not-is_seed-clause-verdict
+returns-then-not-is_seed-clause-verdict c =
+    let can = c.requires.can in
+    let no_seed : ¬ IsSeed c.args.sys.now c.args.entry.now = λ seed.
+    true≢false (sym (c.is_seed.ensures.1 (seed_at c.args.sys.now c.args.seeds.now.tiles c.args.entry.now.place can.valid.distinct_seeds can.seeded seed)) ∙ c.if-not-is_seed.true)
+    in
+    own_attached c.args.sys.now c.args.listing.now.entries c.args.entry.now c.check_attached.result no_seed c.check_attached.ensures.verdict
+
+pub returns-then-not-is_seed-clause-known : goal.returns-then-not-is_seed-clause-known
+returns-then-not-is_seed-clause-known c = c.check_attached.ensures.known
+
+pub returns-then-states_none-clause-verdict : goal.returns-then-states_none-clause-verdict
+returns-then-states_none-clause-verdict c =
+    let can = c.requires.can in
+    let seed = seed_is c.args.sys.now c.args.seeds.now.tiles c.args.entry.now.place can.valid.distinct_seeds can.seeded (c.is_seed.ensures.0 c.if-not-is_seed.false) in
+    own_bare c.args.sys.now c.args.listing.now.entries c.args.entry.now seed (c.states_none.ensures.0 c.if-states_none.true)
+
+pub returns-then-states_none-clause-known : goal.returns-then-states_none-clause-known
+returns-then-states_none-clause-known c = c.requires.known
+
+pub returns-else-states_none-clause-verdict : goal.returns-else-states_none-clause-verdict
+returns-else-states_none-clause-verdict c =
+    let can = c.requires.can in
+    let seed = seed_is c.args.sys.now c.args.seeds.now.tiles c.args.entry.now.place can.valid.distinct_seeds can.seeded (c.is_seed.ensures.0 c.if-not-is_seed.false) in
+    own_stated c.args.sys.now c.args.listing.now.entries c.args.entry.now seed (λ none. true≢false (sym (c.states_none.ensures.1 none) ∙ c.if-states_none.false))
+
+pub returns-else-states_none-clause-known : goal.returns-else-states_none-clause-known
+returns-else-states_none-clause-known c = c.requires.known

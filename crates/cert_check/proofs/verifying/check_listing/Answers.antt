@@ -1,0 +1,10 @@
+use Rattle.cert_check.proofs.verifying.check_listing.Goals as goal
+
+pub check_all-requires-clause-can : goal.check_all-requires-clause-can
+check_all-requires-clause-can g c κs within = record {
+  valid = c.recall_valid.ensures.valid;
+  area = c.requires.area;
+  fits = c.requires.fits;
+  seeded = c.in_ok-seeds.ensures;
+  index = c.in_ok-types.ensures;
+}

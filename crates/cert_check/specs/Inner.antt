@@ -1,0 +1,3 @@
+pub mod Bits
+pub mod Listings
+pub mod Checks

@@ -1,0 +1,4 @@
+pub mod Certificates
+pub mod Judgement
+pub mod Laws
+pub mod Inner

@@ -1,0 +1,302 @@
+// The checks of one entry of a certificate.
+ghost use Rattle.std.specs.Prelude.{◌≡◌, ◌≤◌, ◌↔◌, IsTrue, Some, false, nat_lt, Contains};
+ghost use Rattle.std.specs.Option.{option_map_or};
+ghost use Rattle.atam.specs.declared.limits.TheConstants.{MOST_STRENGTH};
+ghost use Rattle.atam.specs.Sites.{InBox, neighbor};
+ghost use Rattle.atam.specs.Placements.{tile_at};
+ghost use Rattle.atam.specs.TileSystem.{IsValid};
+ghost use Rattle.atam.specs.Assembly.{Fits};
+ghost use Rattle.atam.specs.Growth.{IsLeastOpenAmong};
+ghost use Rattle.attach_rule.specs.Bonds.{AreStrengths};
+ghost use Rattle.attach_rule.specs.Searches.{IsFirstType};
+ghost use Rattle.type_index.specs.Indexes.{IsIndexOf};
+ghost use Rattle.type_index.specs.Findings.{AreFindings};
+ghost use Rattle.cert_check.specs.Certificates.{places_of, entry_at, IsSeed, StatesNone};
+ghost use Rattle.cert_check.specs.Judgement.{IsBeside};
+ghost use Rattle.cert_check.specs.Inner.Listings.{AreBeside};
+ghost use Rattle.cert_check.specs.Inner.Checks.{CanCheck, IsAttachedVerdict, IsOwnVerdict, IsEntryVerdict, waits, is_held_on, is_held, is_loose_on, first_loose, bond_on, stated_sum, kept_glue, kept_glues};
+
+use crate::listing::{EntriesBeside, Listing};
+use crate::{CertVerdict, Entry};
+use assembly::Grid;
+use attach_rule::{FacingGlues, Strengths, TypeFinder, glues_beside};
+use tile_system::{GlueId, Place, Placed, Side, Site, System, TypeId};
+use type_index::{FacingCache, TypeIndex};
+
+// The first check that an entry fails. Each site beside it is looked at once, and its rivals are
+// looked up by the glues that face it.
+pub(crate) fn check_entry(
+    sys: &System,
+    listing: &Listing<'_>,
+    seeds: &Grid,
+    types: &TypeIndex,
+    cache: &mut FacingCache,
+    entry: Entry,
+) -> CertVerdict
+    requires can { CanCheck sys.now listing.now seeds.now types.now }
+    requires listed { Contains listing.now.entries entry }
+    requires known { AreFindings sys.now cache.old }
+    ensures verdict { IsEntryVerdict sys.now listing.now.entries entry result }
+    ensures known { AreFindings sys.now cache.new }
+{
+    let site = entry.place.site;
+    let beside = listing.entries_beside(site);
+    match check_own(sys, listing, seeds, types, cache, &entry, &beside) {
+        CertVerdict::Yes => match open_beside(sys, listing, types, site, &beside) {
+            Some((open, tile)) => CertVerdict::NotTerminal(open, tile),
+            None => CertVerdict::Yes,
+        },
+        fault => fault,
+    }
+}
+
+// The first of the checks of its own sides and site that an entry fails.
+fn check_own(
+    sys: &System,
+    listing: &Listing<'_>,
+    seeds: &Grid,
+    types: &TypeIndex,
+    cache: &mut FacingCache,
+    entry: &Entry,
+    beside: &EntriesBeside,
+) -> CertVerdict
+    requires can { CanCheck sys.now listing.now seeds.now types.now }
+    requires listed { Contains listing.now.entries entry.now }
+    requires beside { AreBeside listing.now.entries entry.now.place.site beside.now }
+    requires known { AreFindings sys.now cache.old }
+    ensures verdict { IsOwnVerdict sys.now listing.now.entries entry.now result }
+    ensures known { AreFindings sys.now cache.new }
+{
+    if !is_seed(seeds, entry) {
+        return check_attached(sys, listing, types, cache, entry, beside);
+    }
+    if states_none(entry) {
+        CertVerdict::Yes
+    } else {
+        CertVerdict::SeedSides(entry.place.site)
+    }
+}
+
+// Whether its place is a seed's.
+fn is_seed(seeds: &Grid, entry: &Entry) -> bool
+    ensures { IsTrue result ↔
+        (tile_at seeds.now.tiles entry.now.place.site ≡ Some entry.now.place.tile) }
+{
+    seeds.at(entry.place.site) == Some(entry.place.tile)
+}
+
+// Whether it states no side.
+fn states_none(entry: &Entry) -> bool
+    ensures { IsTrue result ↔ StatesNone entry.now }
+{
+    !entry.states(Side::North)
+        && !entry.states(Side::East)
+        && !entry.states(Side::South)
+        && !entry.states(Side::West)
+}
+
+// The first of the checks of an entry that isn't a seed's, but that of the sites beside it.
+fn check_attached(
+    sys: &System,
+    listing: &Listing<'_>,
+    types: &TypeIndex,
+    cache: &mut FacingCache,
+    entry: &Entry,
+    beside: &EntriesBeside,
+) -> CertVerdict
+    requires valid { IsValid sys.now }
+    requires fits { Fits sys.now (places_of listing.now.entries) }
+    requires index { IsIndexOf sys.now types.now }
+    requires listed { Contains listing.now.entries entry.now }
+    requires beside { AreBeside listing.now.entries entry.now.place.site beside.now }
+    requires known { AreFindings sys.now cache.old }
+    requires attached { ¬ IsSeed sys.now entry.now }
+    ensures verdict { IsAttachedVerdict sys.now listing.now.entries entry.now result }
+    ensures known { AreFindings sys.now cache.new }
+{
+    // no two entries have one site
+    listing.recall_sites();
+    let Place { site, tile } = entry.place;
+    let glues = glues_beside(sys, listing, site, &beside.tiles());
+    let bonds = types.bonds(sys, &glues, tile);
+    if !is_held(entry, beside, &bonds) {
+        return CertVerdict::BadInput(site);
+    }
+    let sum = stated_sum(entry, &bonds);
+    if sum != sys.tau() {
+        return CertVerdict::NotExact(site, sum);
+    }
+    if let Some(side) = first_loose(entry, beside, &bonds) {
+        return CertVerdict::LooseBond(site, side);
+    }
+    let kept = kept_glues(&glues, beside);
+    match cache.found(sys, types, &kept).other_than(tile) {
+        Some(rival) => CertVerdict::Rival(site, rival),
+        None => CertVerdict::Yes,
+    }
+}
+
+// Whether each stated side is held by an entry of lesser rank.
+#[inline(always)]
+fn is_held(entry: &Entry, beside: &EntriesBeside, bonds: &Strengths) -> bool
+    ensures { result ≡ is_held entry.now beside.now bonds.now }
+{
+    is_held_on(entry, Side::North, &beside.north, bonds.north)
+        && is_held_on(entry, Side::East, &beside.east, bonds.east)
+        && is_held_on(entry, Side::South, &beside.south, bonds.south)
+        && is_held_on(entry, Side::West, &beside.west, bonds.west)
+}
+
+// Whether the side isn't stated, or is held so.
+#[inline(always)]
+fn is_held_on(entry: &Entry, side: Side, beside: &Option<Entry>, bond: u32) -> bool
+    ensures { result ≡ is_held_on entry.now side beside.now bond }
+{
+    !entry.states(side) || bond > 0 && is_before(beside, entry.rank)
+}
+
+// Whether there is an entry, of a lesser rank.
+#[inline(always)]
+fn is_before(beside: &Option<Entry>, rank: u32) -> bool
+    ensures { result ≡ option_map_or (λ f. nat_lt f.rank rank) beside.now false }
+{
+    match beside {
+        Some(from) => from.rank < rank,
+        None => false,
+    }
+}
+
+// The sum of the strengths on its stated sides.
+#[inline(always)]
+fn stated_sum(entry: &Entry, bonds: &Strengths) -> u32
+    requires { AreStrengths bonds.now }
+    ensures { result ≡ stated_sum entry.now bonds.now }
+{
+    bond_on(entry, Side::North, bonds.north)
+        + bond_on(entry, Side::East, bonds.east)
+        + bond_on(entry, Side::South, bonds.south)
+        + bond_on(entry, Side::West, bonds.west)
+}
+
+// The strength on a side, if the side is stated.
+#[inline(always)]
+fn bond_on(entry: &Entry, side: Side, bond: u32) -> u32
+    requires { bond ≤ MOST_STRENGTH }
+    ensures value { result ≡ bond_on entry.now side bond }
+    ensures bound { result ≤ MOST_STRENGTH }
+{
+    if entry.states(side) { bond } else { 0 }
+}
+
+// The first side with a bond that isn't stated, and for which no entry waits.
+#[inline(always)]
+fn first_loose(entry: &Entry, beside: &EntriesBeside, bonds: &Strengths) -> Option<Side>
+    ensures { result ≡ first_loose entry.now beside.now bonds.now }
+{
+    if is_loose_on(entry, Side::North, &beside.north, bonds.north) {
+        return Some(Side::North);
+    }
+    if is_loose_on(entry, Side::East, &beside.east, bonds.east) {
+        return Some(Side::East);
+    }
+    if is_loose_on(entry, Side::South, &beside.south, bonds.south) {
+        return Some(Side::South);
+    }
+    if is_loose_on(entry, Side::West, &beside.west, bonds.west) {
+        return Some(Side::West);
+    }
+    None
+}
+
+// Whether the side is such a one.
+#[inline(always)]
+fn is_loose_on(entry: &Entry, side: Side, beside: &Option<Entry>, bond: u32) -> bool
+    ensures { result ≡ is_loose_on entry.now side beside.now bond }
+{
+    !entry.states(side) && bond > 0 && !waits(beside, side)
+}
+
+// Whether the entry beside another on this side, if there is one, states the side towards it.
+#[inline(always)]
+fn waits(beside: &Option<Entry>, side: Side) -> bool
+    ensures { result ≡ waits beside.now side }
+{
+    match beside {
+        Some(entry) => entry.states(side.opposite()),
+        None => false,
+    }
+}
+
+// The glues of the entries that don't wait.
+#[inline(always)]
+fn kept_glues(glues: &FacingGlues, beside: &EntriesBeside) -> FacingGlues
+    ensures { result ≡ kept_glues glues.now beside.now }
+{
+    FacingGlues {
+        north: kept_glue(glues.north, &beside.north, Side::North),
+        east: kept_glue(glues.east, &beside.east, Side::East),
+        south: kept_glue(glues.south, &beside.south, Side::South),
+        west: kept_glue(glues.west, &beside.west, Side::West),
+    }
+}
+
+// The glue, unless the entry waits.
+#[inline(always)]
+fn kept_glue(glue: Option<GlueId>, beside: &Option<Entry>, side: Side) -> Option<GlueId>
+    ensures { result ≡ kept_glue glue beside.now side }
+{
+    if !waits(beside, side) { glue } else { None }
+}
+
+// The least site beside an entry where a type attaches, with the first such type.
+fn open_beside(
+    sys: &System,
+    listing: &Listing<'_>,
+    types: &TypeIndex,
+    site: Site,
+    beside: &EntriesBeside,
+) -> Option<(Site, TypeId)>
+    requires valid { IsValid sys.now }
+    requires fits { Fits sys.now (places_of listing.now.entries) }
+    requires index { IsIndexOf sys.now types.now }
+    requires inside { InBox sys.now.area site }
+    requires beside { AreBeside listing.now.entries site beside.now }
+    ensures { IsLeastOpenAmong sys.now (places_of listing.now.entries) (IsBeside site) result }
+{
+    if let Some(tile) = type_beside(sys, listing, types, site, Side::South, &beside.south) {
+        return Some((site.step(Side::South), tile));
+    }
+    if let Some(tile) = type_beside(sys, listing, types, site, Side::West, &beside.west) {
+        return Some((site.step(Side::West), tile));
+    }
+    if let Some(tile) = type_beside(sys, listing, types, site, Side::East, &beside.east) {
+        return Some((site.step(Side::East), tile));
+    }
+    if let Some(tile) = type_beside(sys, listing, types, site, Side::North, &beside.north) {
+        return Some((site.step(Side::North), tile));
+    }
+    None
+}
+
+// The first type that attaches on this side of the site: none where an entry is there.
+#[inline(always)]
+fn type_beside(
+    sys: &System,
+    listing: &Listing<'_>,
+    types: &TypeIndex,
+    site: Site,
+    side: Side,
+    beside: &Option<Entry>,
+) -> Option<TypeId>
+    requires valid { IsValid sys.now }
+    requires fits { Fits sys.now (places_of listing.now.entries) }
+    requires index { IsIndexOf sys.now types.now }
+    requires inside { InBox sys.now.area site }
+    requires beside { beside.now ≡ entry_at listing.now.entries (neighbor site side) }
+    ensures { IsFirstType sys.now (places_of listing.now.entries) (neighbor site side) result }
+{
+    if beside.is_some() {
+        return None;
+    }
+    types.first_type(sys, listing, site.step(side))
+}

@@ -1,0 +1,51 @@
+use Rattle.std.proofs.Common.{◌≡◌, Ok, Err, refl, sym, ap, ◌∙◌, rules}
+use Rattle.tile_io.specs.Checks.{field}
+use Rattle.tile_text.specs.Fields.{place_field}
+use Rattle.seq_text.specs.GrowthText.{names_of}
+use Rattle.seq_text.proofs.Fields.{type_found}
+use Rattle.cert_text.specs.CertificateText.{entry_fields, rank_field, sides_field}
+use Rattle.cert_text.proofs.reader.read_entry.Goals as goal
+
+pub returns-in_err-place-clause-entry : goal.returns-in_err-place-clause-entry
+unfolding entry_fields
+returns-in_err-place-clause-entry c =
+    let sys = c.args.sys.now in
+    let words = c.args.words.now in
+    let read : place_field (names_of sys) (field words 1) (field words 2) (field words 3) ≡ Err c.in_err-place.field-0.0 =
+    rw (sym c.word.ensures, sym c.word-2.ensures, sym c.word-name.ensures) (sym (c.in_err-place.ensures.place (names_of sys) (c.find_type-found.ensures.index ∙ type_found sys c.word-name.result.now))) in
+    let bad : Err c.in_err-place.field-0.0 ≡ entry_fields sys words = rw read refl in
+    search (rules, bad)
+
+pub returns-in_err-sides-clause-entry : goal.returns-in_err-sides-clause-entry
+unfolding entry_fields
+returns-in_err-sides-clause-entry c =
+    let sys = c.args.sys.now in
+    let words = c.args.words.now in
+    let read : place_field (names_of sys) (field words 1) (field words 2) (field words 3) ≡ Ok c.in_ok-place.place =
+    rw (sym c.word.ensures, sym c.word-2.ensures, sym c.word-name.ensures) (sym (c.in_ok-place.ensures.place (names_of sys) (c.find_type-found.ensures.index ∙ type_found sys c.word-name.result.now))) in
+    let sides : sides_field (field words 4) ≡ Err c.in_err-sides.field-0.0 = ap sides_field (sym c.word-3.ensures) ∙ sym c.in_err-sides.ensures.value in
+    let bad : Err c.in_err-sides.field-0.0 ≡ entry_fields sys words = rw (read, sides) refl in
+    search (rules, bad)
+
+pub returns-in_err-rank-clause-entry : goal.returns-in_err-rank-clause-entry
+unfolding entry_fields
+returns-in_err-rank-clause-entry c =
+    let sys = c.args.sys.now in
+    let words = c.args.words.now in
+    let read : place_field (names_of sys) (field words 1) (field words 2) (field words 3) ≡ Ok c.in_ok-place.place =
+    rw (sym c.word.ensures, sym c.word-2.ensures, sym c.word-name.ensures) (sym (c.in_ok-place.ensures.place (names_of sys) (c.find_type-found.ensures.index ∙ type_found sys c.word-name.result.now))) in
+    let sides : sides_field (field words 4) ≡ Ok c.in_ok-sides.sides = ap sides_field (sym c.word-3.ensures) ∙ sym c.in_ok-sides.ensures.value in
+    let rank : rank_field (field words 5) ≡ Err c.in_err-rank.field-0.0 = ap rank_field (sym c.word-4.ensures) ∙ sym c.in_err-rank.ensures in
+    let bad : Err c.in_err-rank.field-0.0 ≡ entry_fields sys words = rw (read, sides, rank) refl in
+    search (rules, bad)
+
+pub returns-clause-entry : goal.returns-clause-entry
+unfolding entry_fields
+returns-clause-entry c =
+    let sys = c.args.sys.now in
+    let words = c.args.words.now in
+    let read : place_field (names_of sys) (field words 1) (field words 2) (field words 3) ≡ Ok c.in_ok-place.place =
+    rw (sym c.word.ensures, sym c.word-2.ensures, sym c.word-name.ensures) (sym (c.in_ok-place.ensures.place (names_of sys) (c.find_type-found.ensures.index ∙ type_found sys c.word-name.result.now))) in
+    let sides : sides_field (field words 4) ≡ Ok c.in_ok-sides.sides = ap sides_field (sym c.word-3.ensures) ∙ sym c.in_ok-sides.ensures.value in
+    let rank : rank_field (field words 5) ≡ Ok c.in_ok-rank.rank = ap rank_field (sym c.word-4.ensures) ∙ sym c.in_ok-rank.ensures in
+    rw (read, sides, rank) refl

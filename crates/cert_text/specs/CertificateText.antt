@@ -1,0 +1,63 @@
+-- The text of a certificate: what each kept line is, and which checks it has to pass. It follows a system text, and names the types of that system.
+use Rattle.std.specs.Prelude.{ℕ, ◌==◌, Bool, true, false, is_none, List, [], ◌∷◌, codes, position, bytes_eq, ok_or, Option, Result, Ok}
+use Rattle.tile_io.specs.declared.fault.Cause.{Cause}
+use Rattle.tile_io.specs.declared.fault.Cause.TheVariants.{BadName, OutsideBox, DoubleSite}
+use Rattle.tile_io.specs.declared.mark.Mark.{Mark}
+use Rattle.tile_io.specs.Formats.{Format, Reads}
+use Rattle.tile_io.specs.Checks.{◌>>=◌, require, field, count_in, Keyword, Table, table_format}
+use Rattle.atam.specs.Placements.{tile_at}
+use Rattle.atam.specs.TileSystem.{TileSystem}
+use Rattle.tile_text.specs.Fields.{place_field}
+use Rattle.tile_text.specs.SystemText.{is_in_box}
+use Rattle.seq_text.specs.GrowthText.{always_room, names_of}
+use Rattle.cert_check.specs.declared.entry.Entry.{Entry}
+use Rattle.cert_check.specs.Certificates.{places_of}
+use Rattle.cert_text.specs.CertificateLines.{side_words}
+
+-- the stated sides: their word, as it is printed
+abbrev pub sides_field : List ℕ → Result ℕ Cause
+sides_field word = ok_or (position (bytes_eq word) side_words) BadName
+
+-- the rank
+abbrev pub rank_field : List ℕ → Result ℕ Cause
+rank_field word = count_in 0 4294967295 word
+
+-- the fields of a `mark` line
+unfoldable pub entry_fields : TileSystem → List (List ℕ) → Result Entry Cause
+entry_fields sys words = do
+  p ← place_field (names_of sys) (field words 1) (field words 2) (field words 3)
+  sides ← sides_field (field words 4)
+  rank ← rank_field (field words 5)
+  Ok (record { place = p; sides = sides; rank = rank })
+
+-- and the checks of the whole line: the site is in the box, and no earlier entry has it
+unfoldable pub mark_fields : TileSystem → List Entry → List (List ℕ) → Result Entry Cause
+mark_fields sys earlier words = do
+  e ← entry_fields sys words
+  _ ← require (is_in_box sys.area e.place.site) OutsideBox
+  _ ← require (is_none (tile_at (places_of earlier) e.place.site)) DoubleSite
+  Ok e
+
+-- the lines stand in any order
+abbrev pub follows_all : Option Entry → Bool
+follows_all before = true
+
+abbrev pub mark_row : TileSystem → Keyword Entry
+mark_row sys = record { word = codes "mark"; has_words = λ n. n == 6; may_follow = follows_all; has_room = always_room; fields = mark_fields sys }
+
+-- the table of the certificate texts of a system: there is no header and no end line, and the input may end after any line
+unfoldable pub certificate_table : TileSystem → Table Entry
+certificate_table sys = record {
+  keywords = mark_row sys ∷ [];
+  has_header = false;
+  is_end = λ entry. false;
+  is_complete = λ entries. true;
+}
+
+abbrev pub certificate_format : TileSystem → Format Entry
+certificate_format sys = table_format (certificate_table sys)
+
+-- the text from a mark on, up to its end, reads as exactly these entries
+pub record ReadsCertificate (sys : TileSystem) (text : List ℕ) (from : Mark) (entries : List Entry) : Type 0 where
+  pub to : Mark
+  pub reads : Reads (certificate_format sys) text from entries to

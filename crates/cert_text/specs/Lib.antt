@@ -1,0 +1,3 @@
+pub mod CertificateText
+pub mod CertificateLines
+pub mod Inner

@@ -1,0 +1,12 @@
+//! Certificates as text, and the line of the verdict on one.
+#![tactic(auto)]
+
+mod keyword;
+mod printing;
+mod reader;
+mod sides;
+mod verdict;
+
+pub use printing::print_certificate;
+pub use reader::read_certificate;
+pub use verdict::print_cert_verdict;

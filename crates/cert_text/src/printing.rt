@@ -1,0 +1,84 @@
+// The lines of a certificate.
+ghost use Rattle.std.specs.Prelude.{◌≡◌, ◌<◌, All};
+ghost use Rattle.atam.specs.TileSystem.{IsType};
+ghost use Rattle.tile_io.specs.Chunks.{PassesOn};
+ghost use Rattle.tile_io.specs.Prints.{Prints};
+ghost use Rattle.cert_check.specs.Certificates.{places_of};
+ghost use Rattle.cert_text.specs.CertificateLines.{mark_line, mark_lines, mark_words};
+
+use crate::sides::sides_word;
+use cert_check::{Certificate, Entry};
+use itoa::Buffer;
+use tile_io::{Chunk, Failed, Sink};
+use tile_system::{Site, System};
+
+/// Writes the `mark` line of each entry, in order. It takes no memory.
+pub fn print_certificate<K: Sink>(
+    sys: &System,
+    cert: &Certificate,
+    sink: &mut K,
+) -> Result<(), Failed>
+    requires { All (λ p. IsType sys.now p.tile) (places_of cert.now) }
+    ensures { Prints K.written K.faults sink.old sink.new result (mark_lines sys.now cert.now) }
+{
+    let mut chunk = Chunk::new();
+    put_marks(sys, cert, &mut chunk, sink)?;
+    chunk.flush(sink)
+}
+
+// Adds the lines to what is held.
+fn put_marks<K: Sink>(
+    sys: &System,
+    cert: &Certificate,
+    chunk: &mut Chunk,
+    sink: &mut K,
+) -> Result<(), Failed>
+    requires { All (λ p. IsType sys.now p.tile) (places_of cert.now) }
+    ensures { PassesOn K.written K.faults sink.old sink.new chunk.old chunk.new result
+        (mark_lines sys.now cert.now) }
+{
+    // no entry states other sides than the four
+    cert.recall_entries();
+    for index in 0..cert.len() {
+        put_mark(sys, cert.get(index), chunk, sink)?;
+    }
+    Ok(())
+}
+
+// Adds the line of an entry.
+fn put_mark<K: Sink>(
+    sys: &System,
+    entry: Entry,
+    chunk: &mut Chunk,
+    sink: &mut K,
+) -> Result<(), Failed>
+    requires known { IsType sys.now entry.place.tile }
+    requires sides { entry.sides < 16 }
+    ensures { PassesOn K.written K.faults sink.old sink.new chunk.old chunk.new result
+        (mark_line sys.now entry) }
+{
+    let Entry { place, sides, rank } = entry;
+    let name = sys.type_name(place.tile);
+    put_words(place.site, name, sides_word(sides), rank, chunk, sink)
+}
+
+// Adds a line with these words.
+fn put_words<K: Sink>(
+    site: Site,
+    name: &[u8],
+    sides: &[u8],
+    rank: u32,
+    chunk: &mut Chunk,
+    sink: &mut K,
+) -> Result<(), Failed>
+    ensures { PassesOn K.written K.faults sink.old sink.new chunk.old chunk.new result
+        (mark_words site name.now sides.now rank) }
+{
+    let mut x = Buffer::new();
+    let mut y = Buffer::new();
+    let mut number = Buffer::new();
+    let x = x.format(site.x).as_bytes();
+    let y = y.format(site.y).as_bytes();
+    let rank = number.format(rank).as_bytes();
+    chunk.put_line(sink, b"mark", &[x, y, name, sides, rank])
+}

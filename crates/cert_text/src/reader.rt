@@ -1,0 +1,205 @@
+// A certificate is read from its text.
+ghost use Rattle.std.specs.Prelude.{◌≡◌, ◌≤◌, ◌<◌, ◌++◌, ◌∷◌, [], IfOk, IsTrue, OnOk, OnErr, length, is_none};
+ghost use Rattle.atam.specs.declared.limits.TheConstants.{MOST_TYPES};
+ghost use Rattle.atam.specs.Sites.{InBox};
+ghost use Rattle.atam.specs.Assembly.{Fits};
+ghost use Rattle.atam.specs.Placements.{tile_at};
+ghost use Rattle.atam.specs.TileSystem.{IsType};
+ghost use Rattle.tile_io.specs.NextLine.{IsMark};
+ghost use Rattle.tile_io.specs.Formats.{ReadsOrStops};
+ghost use Rattle.cert_check.specs.Certificates.{places_of};
+ghost use Rattle.cert_text.specs.CertificateText.{ReadsCertificate, certificate_format, entry_fields, mark_fields, rank_field};
+ghost use Rattle.cert_text.specs.Inner.SoFar.{AreKept};
+
+use crate::keyword::LineKind;
+use crate::sides::read_sides;
+use assembly::Grid;
+use cert_check::{Certificate, Entry};
+use std::alloc::Global;
+use tile_io::{
+    Cause, LineReader, LineStop, LineWords, MOST_INPUT, Mark, TextStop, read_count, read_text,
+};
+use tile_system::{NoMemory, Placed, Site, System};
+use tile_text::read_place;
+
+/// Reads a certificate text to the end of the input, in time that grows with its length, where types
+/// are found by a few comparisons of names each (`System::find_type`). It takes twenty bytes an
+/// entry, and two a site of the box until the end.
+pub fn read_certificate(
+    alloc: Global,
+    sys: &System,
+    text: &[u8],
+    from: Mark,
+) -> Result<Certificate, TextStop>
+    requires short { length text.now ≤ MOST_INPUT }
+    requires mark { IsMark text.now from }
+    ensures read { ReadsOrStops (certificate_format sys.now) text.now from
+        (ReadsCertificate sys.now text.now from) result }
+    ensures fits { IfOk result (λ c. Fits sys.now (places_of c)) }
+{
+    let mut reader = CertificateReader::new(alloc, sys)?;
+    read_text(&mut reader, text, from)?;
+    Ok(Certificate::of(reader.entries))
+}
+
+// The entries that were read so far, and their tiles.
+#[derive(Drop)]
+struct CertificateReader<'a> {
+    system: &'a System,
+    entries: Vec<Entry>,
+    grid: Grid,
+}
+
+#[tactic(auto, unfolding(crate::specs::CertificateText::certificate_table))]
+impl<'a> LineReader for CertificateReader<'a> {
+    ghost use Rattle.atam.specs.TileSystem.{TileSystem};
+    ghost use Rattle.cert_check.specs.declared.entry.Entry.{Entry};
+    ghost use Rattle.cert_text.specs.CertificateText.{certificate_table};
+    ghost use Rattle.cert_text.specs.Inner.SoFar.{HoldsEntries, row_of};
+
+    type Kind = LineKind;
+
+    ghost Item = { Entry };
+
+    ghost Context = { TileSystem };
+
+    ghost context = { λ r. r.system.now };
+
+    ghost table = { certificate_table };
+
+    ghost row = { row_of };
+
+    ghost holds = { λ r. HoldsEntries r.system.now r.entries.items r.grid };
+
+    fn has_header(&self) -> bool {
+        false
+    }
+
+    fn kind_of(&self, word: &[u8]) -> Option<LineKind> {
+        LineKind::of(word)
+    }
+
+    fn has_words(&self, kind: LineKind, count: usize) -> bool {
+        match kind {
+            LineKind::Mark => count == 6,
+        }
+    }
+
+    fn may_stand(&self, kind: LineKind) -> bool {
+        match kind {
+            LineKind::Mark => true,
+        }
+    }
+
+    fn has_room(&self, kind: LineKind, _words: &LineWords) -> bool {
+        match kind {
+            LineKind::Mark => true,
+        }
+    }
+
+    fn take_fields(&mut self, kind: LineKind, words: &LineWords) -> Result<bool, LineStop> {
+        let entry = match kind {
+            LineKind::Mark => self.next_entry(words)?,
+        };
+        match self.hold(entry) {
+            Ok(()) => Ok(false),
+            Err(NoMemory) => Err(LineStop::NoMemory),
+        }
+    }
+
+    fn is_complete(&self) -> bool {
+        true
+    }
+}
+
+impl<'a> CertificateReader<'a> {
+    // A reader before the first line.
+    fn new(alloc: Global, system: &'a System) -> Result<CertificateReader<'a>, TextStop>
+        ensures memory { OnErr result (result ≡ Err TextStop.NoMemory) }
+        ensures system { IfOk result (λ reader. reader.system.now ≡ system.now) }
+        ensures nothing { IfOk result (λ reader. reader.entries.items ≡ []) }
+        ensures kept { IfOk result (λ reader.
+            AreKept reader.system.now reader.entries.items reader.grid) }
+    {
+        let Ok(grid) = Grid::make(alloc, system.area()) else {
+            return Err(TextStop::NoMemory);
+        };
+        Ok(CertificateReader {
+            system,
+            entries: Vec::new(alloc),
+            grid,
+        })
+    }
+
+    // The entry of a line, behind those that were read.
+    fn next_entry(&self, words: &LineWords) -> Result<Entry, Cause>
+        requires words { length words.now ≡ 6 }
+        requires kept { AreKept self.now.system.now self.now.entries.items self.now.grid }
+        ensures entry { result ≡ mark_fields self.now.system.now self.now.entries.items words.now }
+        ensures inside { IfOk result (λ e. InBox self.now.system.now.area e.place.site) }
+        ensures known { IfOk result (λ e. IsType self.now.system.now e.place.tile) }
+        ensures sides { IfOk result (λ e. e.sides < 16) }
+        ensures free { IfOk result (λ e. tile_at self.now.grid.tiles e.place.site ≡ None) }
+    {
+        let entry = read_entry(self.system, words)?;
+        let site = entry.place.site;
+        if !self.system.area().holds(site) {
+            return Err(Cause::OutsideBox);
+        }
+        if !self.is_free(site) {
+            return Err(Cause::DoubleSite);
+        }
+        Ok(entry)
+    }
+
+    // Whether no entry has the site.
+    fn is_free(&self, site: Site) -> bool
+        requires { AreKept self.now.system.now self.now.entries.items self.now.grid }
+        ensures entries { result ≡ is_none (tile_at (places_of self.now.entries.items) site) }
+        ensures grid { IsTrue result → tile_at self.now.grid.tiles site ≡ None }
+    {
+        self.grid.at(site).is_none()
+    }
+
+    // Adds an entry that may stand here.
+    fn hold(&mut self, entry: Entry) -> Result<(), NoMemory>
+        requires kept { AreKept self.old.system.now self.old.entries.items self.old.grid }
+        requires inside { InBox self.old.system.now.area entry.place.site }
+        requires known { IsType self.old.system.now entry.place.tile }
+        requires sides { entry.sides < 16 }
+        requires free { tile_at self.old.grid.tiles entry.place.site ≡ None }
+        ensures added { OnOk result (self.new.entries.items ≡ self.old.entries.items ++ entry ∷ []) }
+        ensures left { OnErr result (self.new.entries.items ≡ self.old.entries.items) }
+        ensures kept { AreKept self.new.system.now self.new.entries.items self.new.grid }
+        ensures system { self.new.system.now ≡ self.old.system.now }
+    {
+        // a system is valid
+        self.system.recall_valid();
+        self.entries.push(entry)?;
+        self.grid.put(entry.place);
+        Ok(())
+    }
+}
+
+// The fields of a `mark` line.
+#[tactic(auto, unfolding(crate::specs::CertificateText::entry_fields))]
+fn read_entry(sys: &System, words: &LineWords) -> Result<Entry, Cause>
+    requires { length words.now ≡ 6 }
+    ensures entry { result ≡ entry_fields sys.now words.now }
+    ensures known { IfOk result (λ e. IsType sys.now e.place.tile) }
+    ensures sides { IfOk result (λ e. e.sides < 16) }
+{
+    let name = words.word(3);
+    let found = sys.find_type(name);
+    let place = read_place(words.word(1), words.word(2), name, found)?;
+    let sides = read_sides(words.word(4))?;
+    let rank = read_rank(words.word(5))?;
+    Ok(Entry { place, sides, rank })
+}
+
+// The rank of an entry.
+fn read_rank(word: &[u8]) -> Result<u32, Cause>
+    ensures { result ≡ rank_field word.now }
+{
+    read_count(word, 0, u32::MAX)
+}
