@@ -1,0 +1,5 @@
+pub mod Outcomes
+pub mod Printed
+pub mod Reading
+pub mod Steps
+pub mod Told

@@ -1,0 +1,20 @@
+use Rattle.std.proofs.Common.{◌≡◌, List, sym, subst}
+use Rattle.atam.specs.declared.place.Place.{Place}
+use Rattle.atam.specs.Canonical.{IsCanonical}
+use Rattle.local_check.specs.Judgement.{IsVerdict}
+use Rattle.job_board.proofs.outcome.Outcome.work.Goals as goal
+
+pub returns : goal.returns
+returns g c =
+    let sys = c.args.job.now.sys in
+    let tiles = c.in_ok-grid.grid.tiles in
+    let same : c.in_ok-copy.field-0 ≡ c.in_ok-grid.order = c.in_ok-copy.ensures in
+    record {
+      tiles = tiles;
+      told = record {
+        full = c.in_ok-grid.ensures.full;
+        canonical = subst (λ (order : List Place). IsCanonical sys tiles order) (sym same) c.in_ok-grid.ensures.order;
+        least = c.in_ok-verdict.ensures.outside;
+        judged = subst (λ (order : List Place). IsVerdict sys order c.in_ok-verdict.verdict) (sym same) c.in_ok-verdict.ensures.verdict;
+      };
+    }

@@ -1,0 +1,39 @@
+-- The text of the answers to a batch.
+use Rattle.std.specs.Prelude.{ℕ, ◌+◌, Bool, true, false, List, [], ◌∷◌, ◌++◌, length, filter, codes, decimal}
+use Rattle.tile_io.specs.Lines.{line_of}
+use Rattle.atam.specs.TileSystem.{TileSystem}
+use Rattle.local_check.specs.declared.verdict.Verdict.{Verdict}
+use Rattle.local_check.specs.declared.verdict.Verdict.TheVariants.{Yes}
+use Rattle.seq_text.specs.GrowthLines.{place_lines, closed_line}
+use Rattle.seq_text.specs.VerdictLines.{verdict_line}
+use Rattle.unique_law.specs.Outcomes.{Outcome}
+use Rattle.job_board.specs.declared.job.Job.{Job}
+
+-- whether a verdict is a yes
+abbrev pub is_yes : Verdict → Bool
+is_yes Yes = true
+is_yes _ = false
+
+-- the places in canonical order, then what is open outside the box, then the verdict
+abbrev pub outcome_text : TileSystem → Outcome → List ℕ
+outcome_text sys outcome = place_lines sys outcome.order ++ closed_line sys outcome.outside ++ verdict_line sys outcome.verdict
+
+-- the line of a job, and then what answers it
+abbrev pub answer_text : ℕ → Job → Outcome → List ℕ
+answer_text number job outcome = line_of (codes "job" ∷ decimal number ∷ []) ++ outcome_text job.sys outcome
+
+-- those of jobs that are numbered from this one on
+abbrev pub answers_from : ℕ → List Job → List Outcome → List ℕ
+answers_from number [] outcomes = []
+answers_from number (job ∷ jobs) [] = []
+answers_from number (job ∷ jobs) (outcome ∷ outcomes) = answer_text number job outcome ++ answers_from (number + 1) jobs outcomes
+
+-- how many jobs there are, and how many of the answers are a yes
+abbrev pub done_line : ℕ → ℕ → List ℕ
+done_line jobs yeses = line_of (codes "done" ∷ decimal jobs ∷ codes "yes" ∷ decimal yeses ∷ [])
+
+abbrev pub yes_count : List Outcome → ℕ
+yes_count outcomes = length (filter (λ outcome. is_yes outcome.verdict) outcomes)
+
+abbrev pub batch_text : List Job → List Outcome → List ℕ
+batch_text jobs outcomes = answers_from 0 jobs outcomes ++ done_line (length jobs) (yes_count outcomes)

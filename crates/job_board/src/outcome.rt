@@ -1,0 +1,94 @@
+// What answers a job.
+ghost use Rattle.std.specs.Prelude.{◌≡◌, IfOk};
+ghost use Rattle.atam.specs.Canonical.{IsCanonical};
+ghost use Rattle.atam.specs.Growth.{IsFullGrowth, IsLeastOpenOutside};
+ghost use Rattle.local_check.specs.Judgement.{IsVerdict};
+ghost use Rattle.job_board.specs.Answers.{Answers};
+
+use crate::job::Job;
+use assembly::{Grid, Sequence};
+use fan_out::WorkerCount;
+use frontier_seat::{First, fill_least_first};
+use local_check::{Verdict, inputs_by_index, judge};
+use std::alloc::Global;
+use std::marker::Model;
+use std::thread::Threads;
+use tile_system::{NoMemory, Site, System, TypeId};
+use type_index::TypeIndex;
+
+/// The canonical sequence of what grew, the least open site outside the box with the least type that
+/// attaches there, and the verdict on the sequence: eight bytes a place.
+#[derive(Drop)]
+pub struct Outcome {
+    sequence: Sequence,
+    outside: Option<(Site, TypeId)>,
+    verdict: Verdict,
+}
+
+impl Model for Outcome {
+    ghost use Rattle.unique_law.specs.Outcomes.{Outcome as Told};
+
+    ghost Value = { Told };
+
+    ghost view = { λ o. record { order = o.sequence; outside = o.outside; verdict = o.verdict } };
+}
+
+impl Outcome {
+    /// Grows with one worker, always at the least open site of the box and with the least type that
+    /// attaches there, on a grid of its own. The time grows with the number of sites of the box; the
+    /// memory, of some eleven bytes a site, is given back but for the sequence.
+    pub fn work<R: Threads + Sync>(rt: &R, alloc: Global, job: &Job) -> Result<Outcome, NoMemory>
+        ensures { IfOk result (Answers job.now.sys) }
+    {
+        let sys = &job.sys;
+        let (grid, order) = fill_least_first(alloc, sys, &mut First)?;
+        let (verdict, outside) = judge_order(rt, alloc, sys, grid, &order)?;
+        Ok(Outcome {
+            sequence: order.copy()?,
+            outside,
+            verdict,
+        })
+    }
+
+    pub fn sequence(&self) -> &Sequence
+        ensures { result.now ≡ self.now.order }
+    {
+        &self.sequence
+    }
+
+    pub fn outside(&self) -> Option<(Site, TypeId)>
+        ensures { result ≡ self.now.outside }
+    {
+        self.outside
+    }
+
+    pub fn verdict(&self) -> &Verdict
+        ensures { result.now ≡ self.now.verdict }
+    {
+        &self.verdict
+    }
+}
+
+// The verdict on the canonical sequence of a full growth, and the least open site outside the box. The
+// grid is dropped then.
+fn judge_order<R: Threads + Sync>(
+    rt: &R,
+    alloc: Global,
+    sys: &System,
+    grid: Grid,
+    order: &Sequence,
+) -> Result<(Verdict, Option<(Site, TypeId)>), NoMemory>
+    requires area { grid.area ≡ sys.now.area }
+    requires full { IsFullGrowth sys.now grid.tiles }
+    requires order { IsCanonical sys.now grid.tiles order.now }
+    ensures verdict { IfOk result (λ r. IsVerdict sys.now order.now r.0) }
+    ensures outside { IfOk result (λ r. IsLeastOpenOutside sys.now grid.tiles r.1) }
+{
+    sys.recall_valid();
+    let types = TypeIndex::build(alloc, sys)?;
+    let alone = WorkerCount::new(1);
+    let sides = inputs_by_index(rt, alloc, sys, order, &grid, &types, alone)?;
+    let verdict = judge(sys, order, &sides);
+    let outside = types.least_open_outside(sys, &grid);
+    Ok((verdict, outside))
+}
