@@ -9,7 +9,7 @@ use Rattle.clap.proofs.WalkLemmas.{both}
 use Rattle.clap.specs.declared.parser.matches.ArgMatches.{ArgMatches}
 use Rattle.clap.proofs.OnLiterals.{clap_on_literals}
 use Rattle.command_line.specs.declared.commands.Command.{Command}
-use Rattle.command_line.specs.declared.commands.Command.TheVariants.{Grow, Race, Report, Check, Replay, Schedule, Format, Upgrade, Turing, Quadrant, Picture, Counter, Load}
+use Rattle.command_line.specs.declared.commands.Command.TheVariants.{Grow, Race, Report, Watch, Batch, Check, Replay, Schedule, Format, Upgrade, Turing, Quadrant, Picture, Certify, Verify, Counter, Load}
 use Rattle.command_line.specs.declared.commands.CommandName.{CommandName}
 use Rattle.command_line.specs.declared.commands.CommandName.TheVariants as name
 use Rattle.command_line.specs.declared.words_stop.WordsStop.{WordsStop}
@@ -19,6 +19,7 @@ use Rattle.command_line.specs.Numbers.{AreInRange, NumberArgument, StatesValues,
 use Rattle.command_line.specs.Inner.Found.{HasValues, IsExact}
 use Rattle.fan_out.proofs.Counts.{nearest, nearest_itself}
 use Rattle.command_line.proofs.CommandLemmas.{app_is, app_simple}
+use Rattle.command_line.proofs.FrameCounts.{nearest_frames, nearest_frames_itself}
 use Rattle.command_line.proofs.NumberLemmas.{not_both, number_stated, states_once}
 use Rattle.command_line.proofs.OptionLemmas.{app_with, are_plain_options, is_not, options_spelled, options_taken}
 use Rattle.command_line.proofs.NumberWordLemmas.{are_plain_numbers, numbers_spelled}
@@ -62,6 +63,10 @@ made name.Race (workers ∷ choice ∷ values) = Race (nearest workers) choice
 made name.Race _ = Race (nearest 0) 0
 made name.Report (workers ∷ choice ∷ values) = Report (nearest workers) choice
 made name.Report _ = Report (nearest 0) 0
+made name.Watch (workers ∷ choice ∷ frames ∷ values) = Watch (nearest workers) choice (nearest_frames frames)
+made name.Watch _ = Watch (nearest 0) 0 (nearest_frames 0)
+made name.Batch (workers ∷ values) = Batch (nearest workers)
+made name.Batch _ = Batch (nearest 0)
 made name.Check values = Check
 made name.Replay values = Replay
 made name.Schedule values = Schedule
@@ -70,6 +75,9 @@ made name.Upgrade values = Upgrade
 made name.Turing values = Turing
 made name.Quadrant values = Quadrant
 made name.Picture values = Picture
+made name.Certify values = Certify
+made name.Verify (workers ∷ values) = Verify (nearest workers)
+made name.Verify _ = Verify (nearest 0)
 made name.Counter (bits ∷ start ∷ values) = Counter bits start
 made name.Counter _ = Counter 0 0
 made name.Load (number ∷ values) = Load number
@@ -80,6 +88,9 @@ unfolding made
 made_again (Grow workers choice) = ap (λ w. Grow w choice) (nearest_itself workers)
 made_again (Race workers choice) = ap (λ w. Race w choice) (nearest_itself workers)
 made_again (Report workers choice) = ap (λ w. Report w choice) (nearest_itself workers)
+made_again (Watch workers choice frames) = ap₂ (λ w f. Watch w choice f) (nearest_itself workers) (nearest_frames_itself frames)
+made_again (Batch workers) = ap (λ w. Batch w) (nearest_itself workers)
+made_again (Verify workers) = ap Verify (nearest_itself workers)
 made_again (Counter bits start) = refl
 made_again (Load number) = refl
 made_again _ = refl

@@ -1,6 +1,7 @@
 pub mod CallLemmas
 mod CommandLemmas
 mod FoundLemmas
+mod FrameCounts
 mod NumberLemmas
 mod NumberWordLemmas
 mod OptionLemmas

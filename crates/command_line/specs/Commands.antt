@@ -5,7 +5,7 @@ use Rattle.clap.specs.Simple.{on_top}
 use Rattle.clap.specs.declared.error.kind.ErrorKind.{ErrorKind}
 use Rattle.clap.specs.declared.error.kind.ErrorKind.TheVariants.{OutOfMemory}
 use Rattle.command_line.specs.declared.commands.Command.{Command}
-use Rattle.command_line.specs.declared.commands.Command.TheVariants.{Grow, Race, Report, Check, Replay, Schedule, Format, Upgrade, Turing, Quadrant, Picture, Counter, Load}
+use Rattle.command_line.specs.declared.commands.Command.TheVariants.{Grow, Race, Report, Watch, Batch, Check, Replay, Schedule, Format, Upgrade, Turing, Quadrant, Picture, Certify, Verify, Counter, Load}
 use Rattle.command_line.specs.declared.commands.CommandName.{CommandName}
 use Rattle.command_line.specs.declared.commands.CommandName.TheVariants as name
 use Rattle.command_line.specs.declared.words_stop.WordsStop.{WordsStop}
@@ -21,6 +21,10 @@ workers_option = record { id = codes "workers"; default = Some (codes "1"); leas
 -- `--choice N`, where N is a `u64`, 0 if it is left out
 abbrev pub choice_option : NumberArgument
 choice_option = record { id = codes "choice"; default = Some (codes "0"); least = 0; most = 2 ^ 64 - 1 }
+
+-- `--frames F`, where F is 1 to 1000, 1 if it is left out
+abbrev pub frames_option : NumberArgument
+frames_option = record { id = codes "frames"; default = Some (codes "1"); least = 1; most = 1000 }
 
 -- the word BITS, a `u32`
 abbrev pub bits_argument : NumberArgument
@@ -42,6 +46,8 @@ abbrev pub row_of : CommandName → CommandRow
 row_of name.Grow = (codes "grow", workers_option ∷ choice_option ∷ [])
 row_of name.Race = (codes "race", workers_option ∷ choice_option ∷ [])
 row_of name.Report = (codes "report", workers_option ∷ choice_option ∷ [])
+row_of name.Watch = (codes "watch", workers_option ∷ choice_option ∷ frames_option ∷ [])
+row_of name.Batch = (codes "batch", workers_option ∷ [])
 row_of name.Check = (codes "check", [])
 row_of name.Replay = (codes "replay", [])
 row_of name.Schedule = (codes "schedule", [])
@@ -50,18 +56,22 @@ row_of name.Upgrade = (codes "upgrade", [])
 row_of name.Turing = (codes "turing", [])
 row_of name.Quadrant = (codes "quadrant", [])
 row_of name.Picture = (codes "picture", [])
+row_of name.Certify = (codes "certify", [])
+row_of name.Verify = (codes "verify", workers_option ∷ [])
 row_of name.Counter = (codes "counter", bits_argument ∷ start_argument ∷ [])
 row_of name.Load = (codes "load", load_argument ∷ [])
 
 -- all commands
 abbrev pub command_names : List CommandName
-command_names = name.Grow ∷ name.Race ∷ name.Report ∷ name.Check ∷ name.Replay ∷ name.Schedule ∷ name.Format ∷ name.Upgrade ∷ name.Turing ∷ name.Quadrant ∷ name.Picture ∷ name.Counter ∷ name.Load ∷ []
+command_names = name.Grow ∷ name.Race ∷ name.Report ∷ name.Watch ∷ name.Batch ∷ name.Check ∷ name.Replay ∷ name.Schedule ∷ name.Format ∷ name.Upgrade ∷ name.Turing ∷ name.Quadrant ∷ name.Picture ∷ name.Certify ∷ name.Verify ∷ name.Counter ∷ name.Load ∷ []
 
 -- what a command says: its name, and the values of its arguments, in their order
 abbrev pub said_by : Command → CommandName × List ℕ
 said_by (Grow workers choice) = (name.Grow, workers.count ∷ choice ∷ [])
 said_by (Race workers choice) = (name.Race, workers.count ∷ choice ∷ [])
 said_by (Report workers choice) = (name.Report, workers.count ∷ choice ∷ [])
+said_by (Watch workers choice frames) = (name.Watch, workers.count ∷ choice ∷ frames.count ∷ [])
+said_by (Batch workers) = (name.Batch, workers.count ∷ [])
 said_by Check = (name.Check, [])
 said_by Replay = (name.Replay, [])
 said_by Schedule = (name.Schedule, [])
@@ -70,6 +80,8 @@ said_by Upgrade = (name.Upgrade, [])
 said_by Turing = (name.Turing, [])
 said_by Quadrant = (name.Quadrant, [])
 said_by Picture = (name.Picture, [])
+said_by Certify = (name.Certify, [])
+said_by (Verify workers) = (name.Verify, workers.count ∷ [])
 said_by (Counter bits start) = (name.Counter, bits ∷ start ∷ [])
 said_by (Load number) = (name.Load, number ∷ [])
 

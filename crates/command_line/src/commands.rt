@@ -1,10 +1,11 @@
 // The table of commands: their words, their arguments, and what a parse makes of them.
 ghost use Rattle.std.specs.Prelude.{◌≡◌, ◌^◌, ◌-◌, false, codes, IfOk};
 ghost use Rattle.clap.specs.Words.{app_of, found_of, rule_of};
-ghost use Rattle.command_line.specs.Commands.{arguments_of, bits_argument, choice_option, command_app, command_named_by, command_word, load_argument, name_of, plain_app, start_argument, values_of, workers_option};
+ghost use Rattle.command_line.specs.Commands.{arguments_of, bits_argument, choice_option, command_app, command_named_by, command_word, frames_option, load_argument, name_of, plain_app, start_argument, values_of, workers_option};
 ghost use Rattle.command_line.specs.Numbers.{AreInRange, number_rule};
 ghost use Rattle.command_line.specs.Inner.Found.{FindsInRange, FindsNumber, FindsNumbers, HasValues};
 
+use crate::frame_count::FrameCount;
 use crate::numbers::{number_argument, number_of};
 use clap::{Arg, ArgMatches};
 use fan_out::WorkerCount;
@@ -14,11 +15,30 @@ use std::alloc::{AllocError, Global};
 #[derive(Clone, Copy, Debug, PartialEq, Eq)]
 pub enum Command {
     /// `choice` is any number.
-    Grow { workers: WorkerCount, choice: u64 },
+    Grow {
+        workers: WorkerCount,
+        choice: u64,
+    },
     /// The same as of `Grow`.
-    Race { workers: WorkerCount, choice: u64 },
+    Race {
+        workers: WorkerCount,
+        choice: u64,
+    },
     /// The same as of `Grow`.
-    Report { workers: WorkerCount, choice: u64 },
+    Report {
+        workers: WorkerCount,
+        choice: u64,
+    },
+    /// The same as of `Grow`, and how many frames are taken meanwhile.
+    Watch {
+        workers: WorkerCount,
+        choice: u64,
+        frames: FrameCount,
+    },
+    /// Each job has a choice of its own in the input.
+    Batch {
+        workers: WorkerCount,
+    },
     Check,
     Replay,
     Schedule,
@@ -27,10 +47,19 @@ pub enum Command {
     Turing,
     Quadrant,
     Picture,
+    Certify,
+    Verify {
+        workers: WorkerCount,
+    },
     /// Any numbers of their types: the counter's own limits are not looked at here.
-    Counter { bits: u32, start: u64 },
+    Counter {
+        bits: u32,
+        start: u64,
+    },
     /// `number` is any number.
-    Load { number: u64 },
+    Load {
+        number: u64,
+    },
 }
 
 /// Which command the first word names.
@@ -39,6 +68,8 @@ pub enum CommandName {
     Grow,
     Race,
     Report,
+    Watch,
+    Batch,
     Check,
     Replay,
     Schedule,
@@ -47,14 +78,18 @@ pub enum CommandName {
     Turing,
     Quadrant,
     Picture,
+    Certify,
+    Verify,
     Counter,
     Load,
 }
 
-const NAMES: [CommandName; 13] = [
+const NAMES: [CommandName; 17] = [
     CommandName::Grow,
     CommandName::Race,
     CommandName::Report,
+    CommandName::Watch,
+    CommandName::Batch,
     CommandName::Check,
     CommandName::Replay,
     CommandName::Schedule,
@@ -63,6 +98,8 @@ const NAMES: [CommandName; 13] = [
     CommandName::Turing,
     CommandName::Quadrant,
     CommandName::Picture,
+    CommandName::Certify,
+    CommandName::Verify,
     CommandName::Counter,
     CommandName::Load,
 ];
@@ -72,6 +109,10 @@ const WORKERS: &str = "workers";
 const MOST_WORKERS: u64 = 16;
 
 const CHOICE: &str = "choice";
+
+const FRAMES: &str = "frames";
+
+const MOST_FRAMES: u64 = 1000;
 
 const BITS: &str = "bits";
 
@@ -88,6 +129,8 @@ impl CommandName {
             CommandName::Grow => "grow",
             CommandName::Race => "race",
             CommandName::Report => "report",
+            CommandName::Watch => "watch",
+            CommandName::Batch => "batch",
             CommandName::Check => "check",
             CommandName::Replay => "replay",
             CommandName::Schedule => "schedule",
@@ -96,6 +139,8 @@ impl CommandName {
             CommandName::Turing => "turing",
             CommandName::Quadrant => "quadrant",
             CommandName::Picture => "picture",
+            CommandName::Certify => "certify",
+            CommandName::Verify => "verify",
             CommandName::Counter => "counter",
             CommandName::Load => "load",
         }
@@ -120,6 +165,13 @@ pub fn clap_command<'a>(alloc: Global, name: CommandName) -> Result<clap::Comman
             plain_command(alloc, word)
                 .arg(workers_option(alloc))?
                 .arg(choice_option(alloc))
+        }
+        CommandName::Watch => plain_command(alloc, word)
+            .arg(workers_option(alloc))?
+            .arg(choice_option(alloc))?
+            .arg(frames_option(alloc)),
+        CommandName::Batch | CommandName::Verify => {
+            plain_command(alloc, word).arg(workers_option(alloc))
         }
         CommandName::Counter => plain_command(alloc, word)
             .arg(bits_argument(alloc))?
@@ -149,6 +201,14 @@ pub fn command_found(name: CommandName, found: &ArgMatches) -> Command
             workers: workers_found(found),
             choice: number_of(found, CHOICE),
         },
+        CommandName::Watch => Command::Watch {
+            workers: workers_found(found),
+            choice: number_of(found, CHOICE),
+            frames: frames_found(found),
+        },
+        CommandName::Batch => Command::Batch {
+            workers: workers_found(found),
+        },
         CommandName::Check => Command::Check,
         CommandName::Replay => Command::Replay,
         CommandName::Schedule => Command::Schedule,
@@ -157,6 +217,10 @@ pub fn command_found(name: CommandName, found: &ArgMatches) -> Command
         CommandName::Turing => Command::Turing,
         CommandName::Quadrant => Command::Quadrant,
         CommandName::Picture => Command::Picture,
+        CommandName::Certify => Command::Certify,
+        CommandName::Verify => Command::Verify {
+            workers: workers_found(found),
+        },
         CommandName::Counter => Command::Counter {
             bits: bits_found(found),
             start: number_of(found, START),
@@ -190,6 +254,14 @@ fn choice_option<'a>(alloc: Global) -> Arg<'a>
     number_argument(alloc, CHOICE, Some("0"), 0, u64::MAX)
 }
 
+// The option `--frames F`.
+fn frames_option<'a>(alloc: Global) -> Arg<'a>
+    ensures rule { rule_of result ≡ number_rule frames_option }
+    ensures local { result.global ≡ false }
+{
+    number_argument(alloc, FRAMES, Some("1"), 1, MOST_FRAMES)
+}
+
 // The word `BITS`.
 fn bits_argument<'a>(alloc: Global) -> Arg<'a>
     ensures rule { rule_of result ≡ number_rule bits_argument }
@@ -220,6 +292,14 @@ fn workers_found(found: &ArgMatches) -> WorkerCount
     ensures { FindsNumber (found_of found.now) (codes "workers") result.count }
 {
     WorkerCount::new(number_of(found, WORKERS) as u32)
+}
+
+// The number of frames that a parse found.
+fn frames_found(found: &ArgMatches) -> FrameCount
+    requires { FindsInRange (found_of found.now) (codes "frames") 1 1000 }
+    ensures { FindsNumber (found_of found.now) (codes "frames") result.count }
+{
+    FrameCount::new(number_of(found, FRAMES) as u32)
 }
 
 // The number of bits that a parse found.

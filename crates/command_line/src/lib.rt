@@ -2,6 +2,7 @@
 #![tactic(auto)]
 
 mod commands;
+mod frame_count;
 mod laws;
 mod numbers;
 mod parse;
@@ -9,6 +10,7 @@ mod words;
 mod words_stop;
 
 pub use commands::{Command, CommandName};
+pub use frame_count::FrameCount;
 pub use laws::{law_further_words, law_one_reading, law_plain_words};
 pub use words::command_of;
 pub use words_stop::WordsStop;

@@ -1,6 +1,7 @@
 // How runs end over objects that tell nothing.
 use crate::objects::{Drip, Endless, Narrow};
 use std::alloc::{AllocError, Global};
+use std::sync::Wait;
 use std::test::Fail;
 use std::thread::Threads;
 use tile_io::{OpenGate, Source};
@@ -24,7 +25,7 @@ const AMPLE_ROOMS: Rooms = Rooms {
 // How a run ended, and how many bytes its sinks took.
 type Ended = (Status, usize, usize);
 
-fn run_on<R: Threads + Sync, S: Source>(
+fn run_on<R: Threads + Wait + Sync, S: Source>(
     rt: &R,
     alloc: Global,
     command: &str,
@@ -40,7 +41,7 @@ fn run_on<R: Threads + Sync, S: Source>(
 
 // The first number of bytes of the chain's text after which the source fails and the run ends
 // otherwise than with that one fault.
-fn first_unlike_source<R: Threads + Sync>(
+fn first_unlike_source<R: Threads + Wait + Sync>(
     rt: &R,
     alloc: Global,
 ) -> Result<Option<usize>, AllocError> {
@@ -55,7 +56,7 @@ fn first_unlike_source<R: Threads + Sync>(
 }
 
 // The first room for the answer with which the run ends otherwise than with as much of it.
-fn first_unlike_room<R: Threads + Sync>(
+fn first_unlike_room<R: Threads + Wait + Sync>(
     rt: &R,
     alloc: Global,
 ) -> Result<Option<usize>, AllocError> {
@@ -99,7 +100,7 @@ const EMPTY: [(usize, usize, Ended); 3] = [
 ];
 
 // The number, from 0, of the first of these ways in which the command ends otherwise.
-fn first_unlike_empty<R: Threads + Sync>(
+fn first_unlike_empty<R: Threads + Wait + Sync>(
     rt: &R,
     alloc: Global,
     command: &str,

@@ -1,6 +1,7 @@
 // Tables of runs.
 use crate::running::{Outcome, answered};
 use std::alloc::{AllocError, Global};
+use std::sync::Wait;
 use std::thread::Threads;
 use tilebench::Status;
 use worked_systems::changed_line;
@@ -17,7 +18,7 @@ pub struct Case {
 }
 
 /// The number, from 0, of the first case that ends otherwise.
-pub fn first_unlike<R: Threads + Sync>(
+pub fn first_unlike<R: Threads + Wait + Sync>(
     rt: &R,
     alloc: Global,
     cases: &[Case],
@@ -32,7 +33,7 @@ pub fn first_unlike<R: Threads + Sync>(
 }
 
 /// Runs the words on the text of a system and what stands behind it.
-pub fn behind<R: Threads + Sync>(
+pub fn behind<R: Threads + Wait + Sync>(
     rt: &R,
     alloc: Global,
     words: &[&str],
@@ -55,7 +56,7 @@ pub struct Change {
 }
 
 /// The number, from 0, of the first change of this text after which growth ends otherwise.
-pub fn first_unlike_change<R: Threads + Sync>(
+pub fn first_unlike_change<R: Threads + Wait + Sync>(
     rt: &R,
     alloc: Global,
     text: &str,

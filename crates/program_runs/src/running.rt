@@ -3,6 +3,7 @@ ghost use Rattle.std.specs.Prelude.{◌≤◌};
 
 use site_table::Grown;
 use std::alloc::{AllocError, Global};
+use std::sync::Wait;
 use std::thread::Threads;
 use tile_io::{Gate, MemorySink, MemorySource, NoRoom, OpenGate};
 use tilebench::{Status, tilebench};
@@ -47,7 +48,7 @@ impl Failures {
 }
 
 /// Runs the words on a text with nothing that fails.
-pub fn answered<R: Threads + Sync>(
+pub fn answered<R: Threads + Wait + Sync>(
     rt: &R,
     alloc: Global,
     words: &[&str],
@@ -57,7 +58,7 @@ pub fn answered<R: Threads + Sync>(
 }
 
 /// Runs the words on an input, with the calls that fail.
-pub fn run<R: Threads + Sync>(
+pub fn run<R: Threads + Wait + Sync>(
     rt: &R,
     alloc: Global,
     words: &[&str],
@@ -68,7 +69,7 @@ pub fn run<R: Threads + Sync>(
 }
 
 /// The same on an input that is handed over, with a gate for its workers.
-pub fn run_at<R: Threads + Sync, G: Gate>(
+pub fn run_at<R: Threads + Wait + Sync, G: Gate>(
     rt: &R,
     alloc: Global,
     words: &[&str],

@@ -1,6 +1,7 @@
 // Calls that fail, where each call moves one byte.
 use program_runs::{Failures, run};
 use std::alloc::{AllocError, Global};
+use std::sync::Wait;
 use std::test::Fail;
 use std::thread::Threads;
 use tilebench::Status;
@@ -77,7 +78,7 @@ const FAULTS: [Fault; 6] = [
 ];
 
 // The number, from 0, of the first of these that ends otherwise.
-fn first_unlike_fault<R: Threads + Sync>(
+fn first_unlike_fault<R: Threads + Wait + Sync>(
     rt: &R,
     alloc: Global,
 ) -> Result<Option<usize>, AllocError> {
@@ -91,7 +92,10 @@ fn first_unlike_fault<R: Threads + Sync>(
 }
 
 // The first call of the source after whose failure there is an answer, or that is not the last.
-fn first_unlike_read<R: Threads + Sync>(rt: &R, alloc: Global) -> Result<Option<u32>, AllocError> {
+fn first_unlike_read<R: Threads + Wait + Sync>(
+    rt: &R,
+    alloc: Global,
+) -> Result<Option<u32>, AllocError> {
     for source in 0..58u32 {
         let failures = Failures {
             source,
@@ -111,7 +115,7 @@ fn first_unlike_read<R: Threads + Sync>(rt: &R, alloc: Global) -> Result<Option<
 }
 
 // The first call of the sink whose failure does not leave a front of the answer.
-fn first_unlike_write<R: Threads + Sync>(
+fn first_unlike_write<R: Threads + Wait + Sync>(
     rt: &R,
     alloc: Global,
 ) -> Result<Option<usize>, AllocError> {

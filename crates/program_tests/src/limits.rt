@@ -1,6 +1,7 @@
 // Texts at the limits.
 use program_runs::{Failures, answered, run, run_at};
 use std::alloc::{AllocError, Global};
+use std::sync::Wait;
 use std::test::Fail;
 use std::thread::Threads;
 use tile_io::OpenGate;
@@ -9,7 +10,7 @@ use worked_systems::{CHAIN, changed_line, scattered_seeds};
 
 // The length of the first front of the chain's text that is refused otherwise than for the want of
 // its end, at the line where it is cut.
-fn first_unlike_front<R: Threads + Sync>(
+fn first_unlike_front<R: Threads + Wait + Sync>(
     rt: &R,
     alloc: Global,
 ) -> Result<Option<usize>, AllocError> {
@@ -26,7 +27,7 @@ fn first_unlike_front<R: Threads + Sync>(
     Ok(None)
 }
 
-fn lacks_its_end<R: Threads + Sync>(
+fn lacks_its_end<R: Threads + Wait + Sync>(
     rt: &R,
     alloc: Global,
     front: &str,
@@ -58,7 +59,7 @@ fn items(alloc: Global, item: &str, rest: &str, count: u32) -> Result<String, Al
     Ok(text)
 }
 
-fn is_refused<R: Threads + Sync>(
+fn is_refused<R: Threads + Wait + Sync>(
     rt: &R,
     alloc: Global,
     text: &[u8],
@@ -133,7 +134,11 @@ fn push_pairs(alloc: Global, text: &mut String, count: u32) -> Result<(), AllocE
 }
 
 // Whether the text is printed as it is.
-fn is_printed<R: Threads + Sync>(rt: &R, alloc: Global, text: &str) -> Result<bool, AllocError> {
+fn is_printed<R: Threads + Wait + Sync>(
+    rt: &R,
+    alloc: Global,
+    text: &str,
+) -> Result<bool, AllocError> {
     let ran = answered(rt, alloc, &["format"], text)?;
     Ok(ran.is(Status::Done, text, ""))
 }

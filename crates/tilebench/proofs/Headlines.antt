@@ -1,8 +1,10 @@
 -- What the laws of confluence say of growth answers.
-use Rattle.std.proofs.Common.{◌≡◌, ◌∙◌, ℕ, Bool, true, true≢false, Some, List, Option, refl, sym, ap}
+use Rattle.std.proofs.Common.{◌≡◌, ◌∙◌, ◌+◌, ℕ, Bool, true, true≢false, Some, List, [], ◌∷◌, Option, refl, sym, ap}
+use Rattle.std.specs.List.{AllZip}
 use Rattle.atam.specs.declared.place.Place.{Place}
 use Rattle.atam.specs.Placements.{HasDistinctSites, SamePlacements}
-use Rattle.atam.specs.TileSystem.{TileSystem}
+use Rattle.atam.specs.TileSystem.{TileSystem, IsValid}
+use Rattle.atam.specs.Assembly.{Fits}
 use Rattle.atam.specs.Growth.{IsProducible}
 use Rattle.atam.specs.Determinism.{IsDeterministicInBox}
 use Rattle.atam.proofs.Sequences.{IsLegal-distinct}
@@ -12,15 +14,25 @@ use Rattle.tile_text.proofs.Eithers.{any_valid}
 use Rattle.local_check.specs.declared.verdict.Verdict.{Verdict}
 use Rattle.local_check.specs.declared.verdict.Verdict.TheVariants.{Yes, NotExact, Rival, NotTerminal}
 use Rattle.local_check.proofs.Verdicts.{verdict_yes}
-use Rattle.unique_law.specs.Outcomes.{Outcome}
-use Rattle.atam.proofs.Canon.{canonical_too}
+use Rattle.unique_law.specs.Outcomes.{Outcome, IsOutcome}
+use Rattle.atam.proofs.Canon.{canonical_too, producible_types}
 use Rattle.unique_law.proofs.OneOutcome.{one_full_growth, one_outcome, yes_in_some_order, grows_into_outcome}
 use Rattle.site_table.specs.Seats.{GrownValue}
+use Rattle.tile_text.specs.Spelling.{spelling}
+use Rattle.job_board.specs.declared.job.Job.{Job}
+use Rattle.tile_io.specs.declared.mark.Mark.{Mark}
+use Rattle.job_board.specs.Answers.{Answers}
+use Rattle.job_board.specs.BatchText.{ReadsJobs}
 use Rattle.tilebench.specs.Growing.{TellsGrowth}
+use Rattle.tilebench.specs.Commands.Batch.{IsBatchAnswer}
 use Rattle.tilebench.specs.Commands.Grow.{IsGrowthText}
+use Rattle.tilebench.specs.Commands.Watch.{TellsWatchedGrowth}
 use Rattle.tilebench.specs.Growths.{IsGrowth, growth_text, is_unique}
-use Rattle.tilebench.specs.Headline.{IsHeadline}
+use Rattle.tilebench.specs.Headline.{IsBatchHeadline, IsHeadline, IsJobHeadline, IsWatchedHeadline}
+use Rattle.tilebench.specs.Inputs.{IsSystemAlone}
+use Rattle.tilebench.proofs.Orders.{canonical_whole}
 use Rattle.tilebench.proofs.ReadingBack.{growth_may, sequence_back}
+use Rattle.tilebench.proofs.Spelling.{spelled}
 
 -- a verdict is a yes exactly where it is `Yes`
 unique_yes : (verdict : Verdict) → is_unique verdict ≡ true → verdict ≡ Yes
@@ -59,35 +71,107 @@ growth_of_deterministic sys seeds tiles outcome grown s found =
       };
     }
 
-pub headline : (workers : ℕ) (grown : Option GrownValue) (input : List ℕ) (is_yes : Bool) (text : List ℕ) → TellsGrowth IsGrowthText workers grown input is_yes text → IsHeadline input is_yes text
-headline workers grown input is_yes text answer =
-    let sys = answer.sys in
-    let valid = any_valid input _ answer.read.end sys answer.read.reads in
+-- where the verdict is a yes, every growth of the system prints the same bytes
+pub one_text : (sys : TileSystem) (table : GrownValue) (is_yes : Bool) (text : List ℕ) → HasDistinctSites sys.seeds → IsGrowthText sys table is_yes text → is_yes ≡ true →
+    (others : List Place) (other : Outcome) → IsOutcome sys others other → growth_text sys other ≡ text
+one_text sys table is_yes text seeds told positive others other others_grown =
+    let yes : told.outcome.verdict ≡ Yes = unique_yes told.outcome.verdict (sym told.answer ∙ positive) in
+    let one = one_outcome sys seeds table.grid.tiles others told.outcome other told.grown.outcome_is yes others_grown in
+    ap (growth_text sys) (sym one.1) ∙ sym told.printed
+
+-- of the text of what the input's system grew into
+pub growth_headline : (input : List ℕ) (sys : TileSystem) (table : GrownValue) (is_yes : Bool) (text : List ℕ) → IsSystemAlone input sys → IsGrowthText sys table is_yes text → IsHeadline input is_yes text
+growth_headline input sys table is_yes text read told =
+    let valid = any_valid input _ read.end sys read.reads in
     let seeds : HasDistinctSites sys.seeds = valid.distinct_seeds in
-    let tiles = answer.table.grid.tiles in
-    let outcome = answer.told.outcome in
-    let is = answer.told.grown.outcome_is in
+    let tiles = table.grid.tiles in
+    let outcome = told.outcome in
+    let is = told.grown.outcome_is in
     let tells = verdict_yes sys outcome.order outcome.verdict is.judged in
     let tells_some = yes_in_some_order sys seeds tiles outcome.order outcome.verdict is.full.distinct is.full.producible is.canonical is.judged in
-    let yes_it_is : is_yes ≡ true → outcome.verdict ≡ Yes = λ positive. unique_yes outcome.verdict (sym answer.told.answer ∙ positive) in
+    let yes_it_is : is_yes ≡ true → outcome.verdict ≡ Yes = λ positive. unique_yes outcome.verdict (sym told.answer ∙ positive) in
     record {
       sys = sys;
-      read = answer.read;
+      read = read;
       tiles = tiles;
       outcome = outcome;
-      grown = answer.told.grown;
-      printed = answer.told.printed;
-      legal = answer.told.grown.ordered.legal;
-      same = answer.told.grown.ordered.same;
+      grown = told.grown;
+      printed = told.printed;
+      legal = told.grown.ordered.legal;
+      same = told.grown.ordered.same;
       reads_back = sequence_back sys valid outcome.order (Some outcome.outside) (Some outcome.verdict) text
-          (growth_may sys valid tiles outcome.order outcome.outside outcome.verdict is.full.inside answer.told.grown.ordered.fits is.least is.judged) answer.told.printed;
+          (growth_may sys valid tiles outcome.order outcome.outside outcome.verdict is.full.inside told.grown.ordered.fits is.least is.judged) told.printed;
       closed = is.full.closed;
       outside = is.least;
-      yes = (λ positive. tells.0 (yes_it_is positive), λ deterministic. answer.told.answer ∙ ap is_unique (tells.1 deterministic));
-      some_order = (λ positive. tells_some.0 (yes_it_is positive), λ order. answer.told.answer ∙ ap is_unique (tells_some.1 order));
+      yes = (λ positive. tells.0 (yes_it_is positive), λ deterministic. told.answer ∙ ap is_unique (tells.1 deterministic));
+      some_order = (λ positive. tells_some.0 (yes_it_is positive), λ order. told.answer ∙ ap is_unique (tells_some.1 order));
       only = λ positive b legal. grows_into_outcome sys seeds tiles b outcome is (yes_it_is positive) legal;
-      same_bytes = λ positive others other others_grown.
-          let one = one_outcome sys seeds tiles others outcome other is (yes_it_is positive) others_grown in
-          ap (growth_text sys) (sym one.1) ∙ sym answer.told.printed;
-      determined = growth_of_deterministic sys seeds tiles outcome answer.told.grown;
+      same_bytes = λ positive others other others_grown. one_text sys table is_yes text seeds told positive others other others_grown;
+      determined = growth_of_deterministic sys seeds tiles outcome told.grown;
     }
+
+-- of an answer of `grow`
+pub headline : (workers : ℕ) (grown : Option GrownValue) (input : List ℕ) (is_yes : Bool) (text : List ℕ) → TellsGrowth IsGrowthText workers grown input is_yes text → IsHeadline input is_yes text
+headline workers grown input is_yes text answer = growth_headline input answer.sys answer.table is_yes text answer.read answer.told
+
+-- of an answer of `watch`, behind its frames
+pub watched_headline : (frames : ℕ) (grown : Option GrownValue) (input : List ℕ) (is_yes : Bool) (text : List ℕ) → TellsWatchedGrowth frames grown input is_yes text →
+    IsWatchedHeadline frames input is_yes text
+unfolding growth_headline
+watched_headline frames grown input is_yes text answer =
+    let told = answer.told in
+    record {
+      growth = told.growth;
+      headline = growth_headline input answer.sys answer.table is_yes told.growth answer.read told.grown;
+      watched = record {
+        places = told.places;
+        counts = told.counts;
+        watched = told.watched;
+        growth = told.growth;
+        grown = refl;
+        text = told.text;
+      };
+    }
+
+-- the tiles that answer a system grew from it
+answered_growth : (sys : TileSystem) (outcome : Outcome) → HasDistinctSites sys.seeds → (answers : Answers sys outcome) → IsGrowth sys answers.tiles outcome
+answered_growth sys outcome seeds answers =
+    let is = answers.told in
+    let full = is.full in
+    let fits : Fits sys answers.tiles = record { types = producible_types sys answers.tiles full.producible; sites = full.inside } in
+    record { outcome_is = is; ordered = canonical_whole sys answers.tiles outcome.order seeds full.distinct fits full.producible is.canonical }
+
+-- of what answers one job
+job_headline : (job : Job) (outcome : Outcome) → IsValid job.sys → Answers job.sys outcome → IsJobHeadline job outcome
+unfolding growth_headline
+job_headline job outcome valid answers =
+    let sys = job.sys in
+    let table : GrownValue = record { grid = record { area = sys.area; tiles = answers.tiles }; won = [] } in
+    let told : IsGrowthText sys table (is_unique outcome.verdict) (growth_text sys outcome) =
+    record { outcome = outcome; grown = answered_growth sys outcome valid.distinct_seeds answers; printed = refl; answer = refl } in
+    let back : IsSystemAlone (spelling sys) sys = (spelled sys valid).reads_back in
+    record {
+      headline = growth_headline (spelling sys) sys table (is_unique outcome.verdict) (growth_text sys outcome) back told;
+      of_job = refl;
+      its_outcome = refl;
+    }
+
+-- and of what answers jobs that are read one after another
+job_headlines : (text : List ℕ) (from to : Mark) (before : ℕ) (jobs : List Job) (outcomes : List Outcome) → ReadsJobs text from before jobs to →
+    AllZip (λ job outcome. Answers job.sys outcome) jobs outcomes → AllZip IsJobHeadline jobs outcomes
+job_headlines text from to before [] [] reads answers = tt
+job_headlines text from to before [] (outcome ∷ outcomes) reads answers = absurd answers
+job_headlines text from to before (job ∷ jobs) [] reads answers = absurd answers
+job_headlines text from to before (job ∷ jobs) (outcome ∷ outcomes) (next, first, rest) answers =
+    (job_headline job outcome (any_valid text first.behind next job.sys first.system) answers.0, job_headlines text next to (before + 1) jobs outcomes rest answers.1)
+
+-- of an answer of `batch`
+pub batch_headline : (input : List ℕ) (is_yes : Bool) (text : List ℕ) → IsBatchAnswer input is_yes text → IsBatchHeadline input is_yes text
+batch_headline input is_yes text answer = record {
+  jobs = answer.jobs;
+  read = answer.read;
+  outcomes = answer.outcomes;
+  each = job_headlines input answer.read.begins.start answer.read.last 0 answer.jobs answer.outcomes answer.read.begins.each answer.answered;
+  printed = answer.printed;
+  answer = answer.answer;
+}

@@ -1,3 +1,4 @@
+pub mod Certificates
 pub mod Endings
 pub mod Growths
 pub mod Headlines
@@ -9,4 +10,5 @@ pub mod Scheduling
 pub mod Sources
 pub mod Spelling
 pub mod Tops
+pub mod Watches
 pub mod Writing

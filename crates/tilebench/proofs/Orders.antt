@@ -15,7 +15,7 @@ use Rattle.replay_order.specs.ReplayAnswers.{IsWholeOrder}
 use Rattle.replay_order.specs.ReplayAnswers as answers
 use Rattle.tile_system.specs.declared.memory.NoMemory.{NoMemory}
 use Rattle.seq_text.specs.GrowthLines.{place_lines}
-use Rattle.tilebench.specs.declared.commands.replay.Reordering.{Reordering}
+use Rattle.tilebench.specs.declared.reordering.Reordering.{Reordering}
 use Rattle.tilebench.specs.Commands.Replay.{IsReordering, IsReplayAnswer, is_whole, reordering_text}
 use Rattle.tilebench.proofs.ReadingBack.{placements_back}
 use Rattle.tile_io.specs.declared.mark.Mark.{Mark}

@@ -3,8 +3,9 @@ use Rattle.std.proofs.Common.{◌≡◌, ◌≢◌, ◌⊎◌, ◌≤◌, ◌∙
 use Rattle.tile_io.specs.Faults.{Rose}
 use Rattle.fan_out.specs.declared.worker_count.WorkerCount.{WorkerCount}
 use Rattle.command_line.specs.declared.commands.Command.{Command}
-use Rattle.command_line.specs.declared.commands.Command.TheVariants.{Grow}
+use Rattle.command_line.specs.declared.commands.Command.TheVariants.{Batch, Grow, Watch}
 use Rattle.command_line.specs.declared.commands.CommandName.{CommandName}
+use Rattle.command_line.specs.declared.frame_count.FrameCount.{FrameCount}
 use Rattle.command_line.specs.declared.words_stop.WordsStop.{WordsStop}
 use Rattle.command_line.specs.declared.words_stop.WordsStop.TheVariants.{NoCommand, Usage, NoMemory}
 use Rattle.command_line.specs.Commands.{IsCallOf, IsTaken, IsUsage, command_named, name_of}
@@ -14,24 +15,38 @@ use Rattle.tilebench.specs.declared.status.Ran.{Ran}
 use Rattle.tilebench.specs.declared.status.Status.{Status}
 use Rattle.tilebench.specs.declared.status.Status.TheVariants as status
 use Rattle.tilebench.specs.Gains.{Gains}
-use Rattle.tilebench.specs.Headline.{Ends, IsAnswer, IsDue, IsHeadline, IsTextRefusal, IsWordsRefusal}
+use Rattle.tilebench.specs.Headline.{Ends, IsAnswer, IsBatchHeadline, IsDue, IsHeadline, IsTextRefusal, IsWatchedHeadline, IsWordsRefusal}
 use Rattle.tilebench.specs.Inputs.{AnswersInput}
 use Rattle.tilebench.specs.Rows.{AnswersLeft, FailsLeft}
 use Rattle.tilebench.specs.Commands.{room_of}
+use Rattle.tilebench.specs.Commands.Batch.{batch_row}
 use Rattle.tilebench.specs.Commands.Grow.{grow_row}
+use Rattle.tilebench.specs.Commands.Watch.{watch_row}
 use Rattle.tilebench.specs.Refusals.{IsReadingCall, IsRefusedAs, refused_words}
 use Rattle.tilebench.specs.Inner.Stops.{stop_of_words}
 use Rattle.tilebench.specs.Statuses.{IsAnswered, answer_status}
 use Rattle.tilebench.specs.Inner.Runs.{EndsCommand, IsFaultLine, IsNumbersLine}
 use Rattle.tilebench.specs.Inner.Tells.{Refuses, Writes}
 use Rattle.tilebench.proofs.Endings.{Ends-map, written_later}
-use Rattle.tilebench.proofs.Headlines.{headline}
+use Rattle.tilebench.proofs.Headlines.{batch_headline, headline, watched_headline}
 
 -- the growth answer to what was left of the source
 headline_of : (workers : ℕ) (grown : Option GrownValue) (left left_after : Option (List ℕ)) (is_yes : Bool) (text : List ℕ) →
     AnswersLeft (grow_row workers) grown left left_after is_yes text → AnswersInput IsHeadline left left_after is_yes text
 headline_of workers grown left left_after is_yes text answer =
     record { input = answer.input; whole = answer.read.whole refl; answer = headline workers grown answer.input is_yes text answer.answer }
+
+-- and that of a watched growth
+watched_headline_of : (frames : ℕ) (grown : Option GrownValue) (left left_after : Option (List ℕ)) (is_yes : Bool) (text : List ℕ) →
+    AnswersLeft (watch_row frames) grown left left_after is_yes text → AnswersInput (IsWatchedHeadline frames) left left_after is_yes text
+watched_headline_of frames grown left left_after is_yes text answer =
+    record { input = answer.input; whole = answer.read.whole refl; answer = watched_headline frames grown answer.input is_yes text answer.answer }
+
+-- and that of a batch
+batch_headline_of : (grown : Option GrownValue) (left left_after : Option (List ℕ)) (is_yes : Bool) (text : List ℕ) →
+    AnswersLeft batch_row grown left left_after is_yes text → AnswersInput IsBatchHeadline left left_after is_yes text
+batch_headline_of grown left left_after is_yes text answer =
+    record { input = answer.input; whole = answer.read.whole refl; answer = batch_headline answer.input is_yes text answer.answer.told }
 
 module _ {S K E : Type 0} (left : S → Option (List ℕ)) (read_faults : S → ℕ) (written : K → Option (List ℕ)) (out_faults : K → ℕ) (told : E → Option (List ℕ)) (err_faults : E → ℕ)
     (words : List (List ℕ)) (source after : S) (out out_after : K) (err err_after : E) where
@@ -56,25 +71,36 @@ module _ {S K E : Type 0} (left : S → Option (List ℕ)) (read_faults : S → 
         (IsFaultLine (FailsLeft (room_of command) (left source) (left after))) (IsNumbersLine (room_of command).refuses)
         source after out out_after err err_after s ran.grown
 
+    -- what holds of each answer of the command that is called holds of what was printed
+    module _ (other : Command) (Said : Bool → List ℕ → Type 0)
+        (says : (is_yes : Bool) (text : List ℕ) → AnswersLeft (room_of other) ran.grown (left source) (left after) is_yes text → Said is_yes text) where
+      answer_said : IsCallOf words other → (is_yes : Bool) → Gains written out_faults (AnswersLeft (room_of command) ran.grown (left source) (left after) is_yes) out out_after →
+          Gains written out_faults (Said is_yes) out out_after
+      answer_said calls is_yes gained =
+          let same : command ≡ other = call_once words command other called calls in
+          let Answers : Command → Type 0 = λ c. AnswersLeft (room_of c) ran.grown (left source) (left after) is_yes gained.text in
+          record { text = gained.text; said = says is_yes gained.text (subst Answers same gained.said); whole = gained.whole; quiet = gained.quiet }
+
+      status_said : IsCallOf words other → (is_yes : Bool) → Run (answer_status is_yes) → Gains written out_faults (Said is_yes) out out_after
+      status_said calls true ends = answer_said calls true ends.0
+      status_said calls false ends = answer_said calls false ends.0
+
+      call_said : (is_yes : Bool) → IsCallOf words other → ran.status ≡ answer_status is_yes → Gains written out_faults (Said is_yes) out out_after
+      call_said is_yes calls is = status_said calls is_yes (subst Run is run.ends)
+
     pub call_grown : (workers : WorkerCount) (choice : ℕ) (is_yes : Bool) → IsCallOf words (Grow workers choice) → ran.status ≡ answer_status is_yes →
         Gains written out_faults (AnswersInput IsHeadline (left source) (left after) is_yes) out out_after
-    call_grown workers choice is_yes grows is = go is_yes (subst Run is run.ends)
-      where
-        grown : (is_yes : Bool) → Gains written out_faults (AnswersLeft (room_of command) ran.grown (left source) (left after) is_yes) out out_after →
-            Gains written out_faults (AnswersInput IsHeadline (left source) (left after) is_yes) out out_after
-        grown is_yes gained =
-            let same : command ≡ Grow workers choice = call_once words command (Grow workers choice) called grows in
-            let Said : Command → Type 0 = λ c. AnswersLeft (room_of c) ran.grown (left source) (left after) is_yes gained.text in
-            record {
-              text = gained.text;
-              said = headline_of workers.count ran.grown (left source) (left after) is_yes gained.text (subst Said same gained.said);
-              whole = gained.whole;
-              quiet = gained.quiet;
-            }
+    call_grown workers choice is_yes = call_said (Grow workers choice) (AnswersInput IsHeadline (left source) (left after)) (headline_of workers.count ran.grown (left source) (left after)) is_yes
 
-        go : (is_yes : Bool) → Run (answer_status is_yes) → Gains written out_faults (AnswersInput IsHeadline (left source) (left after) is_yes) out out_after
-        go true ends = grown true ends.0
-        go false ends = grown false ends.0
+    pub call_watched : (workers : WorkerCount) (choice : ℕ) (frames : FrameCount) (is_yes : Bool) → IsCallOf words (Watch workers choice frames) → ran.status ≡ answer_status is_yes →
+        Gains written out_faults (AnswersInput (IsWatchedHeadline frames.count) (left source) (left after) is_yes) out out_after
+    call_watched workers choice frames is_yes =
+        call_said (Watch workers choice frames) (AnswersInput (IsWatchedHeadline frames.count) (left source) (left after)) (watched_headline_of frames.count ran.grown (left source) (left after)) is_yes
+
+    pub call_batched : (workers : WorkerCount) (is_yes : Bool) → IsCallOf words (Batch workers) → ran.status ≡ answer_status is_yes →
+        Gains written out_faults (AnswersInput IsBatchHeadline (left source) (left after) is_yes) out out_after
+    call_batched workers is_yes =
+        call_said (Batch workers) (AnswersInput IsBatchHeadline (left source) (left after)) (batch_headline_of ran.grown (left source) (left after)) is_yes
 
     pub call_named : command_named words ≡ None → ⊥
     call_named unnamed = let other : None ≡ Some (name_of command) = sym unnamed ∙ called.named in cc

@@ -1,10 +1,12 @@
 -- What the top call promises.
 use Rattle.std.specs.Prelude.{◌≡◌, ◌↔◌, ◌⊎◌, ◌++◌, ℕ, Bool, true, false, List, Option, None}
+use Rattle.std.specs.List.{AllZip}
 use Rattle.tilebench.specs.declared.status.Status.TheVariants.{Done, No, Words, Text, ReadFault, WriteFault, NoMemory}
 use Rattle.tilebench.specs.Terms.{Command, CommandName, CounterStop, WordsStop, IsCallOf, IsTaken, IsRefusedAs, refused_counter, refused_words, room_of}
 use Rattle.tilebench.specs.Terms.{Status, TextFault, Rose, Gains, GainsFront, AnswersLeft, FailsLeft, IsReadyFor, refused_text}
 use Rattle.tilebench.specs.Terms.{GrownValue, Outcome, IsOutcome, IsSystemThenSequence, spelling, Place, TileSystem, IsSystemAlone, IsGrowth, IsLegal, SamePlacements, growth_text}
-use Rattle.tilebench.specs.Terms.{IsClosedInBox, IsLeastOpenOutside, IsLocallyDeterministic, IsDeterministicInBox, IsDeterministicInSomeOrder, GrowsInto}
+use Rattle.tilebench.specs.Terms.{IsClosedInBox, IsLeastOpenOutside, IsLocallyDeterministic, IsDeterministicInBox, IsDeterministicInSomeOrder, GrowsInto, IsWatchAnswer}
+use Rattle.tilebench.specs.Terms.{Job, IsBatch, are_unique, batch_text, is_unique, outcome_text}
 
 -- An answer: the words call for a command, as clap reads them, and this is what it answers to what was left of the source, with the growth that it hands out.
 pub record IsAnswer (words : List (List ℕ)) (left left_after : Option (List ℕ)) (grown : Option GrownValue) (is_yes : Bool) (text : List ℕ) : Type 0 where
@@ -87,3 +89,24 @@ pub record IsHeadline (input : List ℕ) (is_yes : Bool) (text : List ℕ) : Typ
   pub same_bytes : is_yes ≡ true → (others : List Place) (other : Outcome) → IsOutcome sys others other → growth_text sys other ≡ text
   -- and where any sequence in the box is locally deterministic, this is the growth of its placements
   pub determined : (s : List Place) → IsDeterministicInBox sys s → IsGrowth sys s outcome
+
+-- The answer of a watched growth: so many frames of it, and behind the line `grown` the growth answer.
+pub record IsWatchedHeadline (frames : ℕ) (input : List ℕ) (is_yes : Bool) (text : List ℕ) : Type 0 where
+  pub growth : List ℕ
+  pub headline : IsHeadline input is_yes growth
+  pub watched : IsWatchAnswer (λ behind. behind ≡ growth) headline.sys frames headline.tiles text
+
+-- What answers one job of a batch: the growth answer to the spelling of its system.
+pub record IsJobHeadline (job : Job) (outcome : Outcome) : Type 0 where
+  pub headline : IsHeadline (spelling job.sys) (is_unique outcome.verdict) (outcome_text job.sys outcome)
+  pub of_job : headline.sys ≡ job.sys
+  pub its_outcome : headline.outcome ≡ outcome
+
+-- The answer to a batch: under the number of each job what answers it, and then how many jobs there are and how many of the verdicts are a yes. It is a yes where each of them is.
+pub record IsBatchHeadline (input : List ℕ) (is_yes : Bool) (text : List ℕ) : Type 0 where
+  pub jobs : List Job
+  pub read : IsBatch input jobs
+  pub outcomes : List Outcome
+  pub each : AllZip IsJobHeadline jobs outcomes
+  pub printed : text ≡ batch_text jobs outcomes
+  pub answer : is_yes ≡ are_unique outcomes

@@ -1,3 +1,4 @@
+pub mod BatchReadings
 pub mod Gives
 pub mod Races
 pub mod Readings

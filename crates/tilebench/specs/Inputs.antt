@@ -14,10 +14,14 @@ use Rattle.atam.specs.TileSystem.{TileSystem}
 use Rattle.atam.specs.Placements.{HasDistinctSites, SamePlacements}
 use Rattle.tile_text.specs.SystemText.{FaultAny, ReadsAny}
 use Rattle.seq_text.specs.GrowthText.{ReadsPlacements, ReadsSequence}
+use Rattle.cert_check.specs.declared.entry.Entry.{Entry}
+use Rattle.cert_text.specs.CertificateText.{ReadsCertificate}
 use Rattle.machine_text.specs.Machines.{TuringMachine}
 use Rattle.machine_text.specs.MachineText.{ReadsMachine, machine_format}
 use Rattle.quadrant_compile.specs.Weaves.{Weave}
 use Rattle.quadrant_compile.specs.WeaveText.{ReadsQuadrant, quadrant_format}
+use Rattle.job_board.specs.declared.job.Job.{Job}
+use Rattle.job_board.specs.BatchText.{FaultBatch, ReadsBatch}
 
 -- the start of an input
 abbrev pub first_mark : Mark
@@ -49,6 +53,10 @@ IsSystemThenSequence input sys sequence = IsSystemThen (λ s end. ReadsSequence 
 -- the input is the text of a system and then of these placements, with one line for a site at most
 abbrev pub IsSystemThenPlacements : List ℕ → TileSystem → List Place → Type 0
 IsSystemThenPlacements input sys places = IsSystemThen (λ s end. ReadsPlacements s input end places) input sys
+
+-- the input is the text of a system and then of a certificate with these entries
+abbrev pub IsSystemThenCertificate : List ℕ → TileSystem → List Entry → Type 0
+IsSystemThenCertificate input sys entries = IsSystemThen (λ s end. ReadsCertificate s input end entries) input sys
 
 -- the assembly has exactly the placements, one at each site
 pub record IsAssemblyOf (places tiles : List Place) : Type 0 where
@@ -86,6 +94,16 @@ IsReadableQuadrant format input = IsReadableAs ReadsQuadrant (Fault quadrant_for
 
 abbrev pub FailsWithinQuadrant : {Item : Type 0} → (Weave → Format Item) → List ℕ → TextFault → Type 0
 FailsWithinQuadrant format input fault = FailsWithinAs ReadsQuadrant (Fault quadrant_format) format input fault
+
+-- the input is the text of a batch of these jobs, which goes on to its end
+abbrev pub IsBatch : List ℕ → List Job → Type 0
+IsBatch input jobs = ReadsBatch input first_mark jobs
+
+abbrev pub IsReadableBatch : List ℕ → Type 0
+IsReadableBatch input = (jobs : List Job) × IsBatch input jobs
+
+abbrev pub FailsBatch : List ℕ → TextFault → Type 0
+FailsBatch input fault = FaultBatch input first_mark fault.line fault.cause
 
 -- what follows where nothing may
 abbrev pub alone : {Value : Type 0} → Value → Format ⊥

@@ -5,6 +5,7 @@ pub mod Growths
 pub mod Headline
 pub mod Inner
 pub mod Inputs
+pub mod Laws
 pub mod Refusals
 pub mod Rows
 pub mod Spelled

@@ -5,6 +5,8 @@ ghost use Rattle.tile_io.specs.declared.limits.TheConstants.{MOST_INPUT};
 ghost use Rattle.tilebench.specs.Commands.{room_of};
 ghost use Rattle.tilebench.specs.Inner.Runs.{EndsCommand};
 
+mod batch;
+mod certify;
 mod check;
 mod counter;
 mod format;
@@ -18,16 +20,19 @@ mod reports;
 mod schedule;
 mod turing;
 mod upgrade;
+mod verify;
+mod watch;
 
 use crate::resources::{Crew, Resources};
 use crate::run::{run, run_by};
 use crate::status::Ran;
 use command_line::Command;
+use std::sync::Wait;
 use std::thread::Threads;
 use tile_io::{Gate, Sink, Source};
 
-/// Runs a command.
-pub fn run_command<R: Threads + Sync, G: Gate, S: Source, K: Sink, E: Sink>(
+/// Runs a command. It may wait: `batch` does at a lock.
+pub fn run_command<R: Threads + Wait + Sync, G: Gate, S: Source, K: Sink, E: Sink>(
     resources: &Resources<'_, R, G>,
     command: Command,
     source: &mut S,
@@ -59,6 +64,25 @@ pub fn run_command<R: Threads + Sync, G: Gate, S: Source, K: Sink, E: Sink>(
             { room.answer(resources, input) };
             run_by(resources.alloc, &room, answer, source, out, err)
         }
+        Command::Watch {
+            workers,
+            choice,
+            frames,
+        } => {
+            let crew = Crew { workers, choice };
+            let room = watch::Watch { crew, frames };
+            let answer = |input: Vec<u8>|
+                requires { IsSync R.row × IsSync G.row × (length input.items ≤ MOST_INPUT) }
+            { room.answer(resources, input) };
+            run_by(resources.alloc, &room, answer, source, out, err)
+        }
+        Command::Batch { workers } => {
+            let room = batch::Batch { workers };
+            let answer = |input: Vec<u8>|
+                requires { IsSync R.row × IsSync G.row × (length input.items ≤ MOST_INPUT) }
+            { room.answer(resources, input) };
+            run_by(resources.alloc, &room, answer, source, out, err)
+        }
         Command::Check => run(resources, &check::Check, source, out, err),
         Command::Replay => run(resources, &replay::Replay, source, out, err),
         Command::Schedule => run(resources, &schedule::Schedule, source, out, err),
@@ -67,6 +91,14 @@ pub fn run_command<R: Threads + Sync, G: Gate, S: Source, K: Sink, E: Sink>(
         Command::Turing => run(resources, &turing::Turing, source, out, err),
         Command::Quadrant => run(resources, &quadrant::Quadrant, source, out, err),
         Command::Picture => run(resources, &pictures::Picture, source, out, err),
+        Command::Certify => run(resources, &certify::Certify, source, out, err),
+        Command::Verify { workers } => {
+            let room = verify::Verify { workers };
+            let answer = |input: Vec<u8>|
+                requires { IsSync R.row × IsSync G.row × (length input.items ≤ MOST_INPUT) }
+            { room.answer(resources, input) };
+            run_by(resources.alloc, &room, answer, source, out, err)
+        }
         Command::Counter { bits, start } => {
             run(
                 resources,

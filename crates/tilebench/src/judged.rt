@@ -68,8 +68,8 @@ fn judge_grown<R: Threads + Sync, G: Gate>(
     judge_grid(resources, sys, types, grown.grid(), known, workers)
 }
 
-// The verdict on a full growth, whose canonical order may be known, by so many workers.
-fn judge_grid<R: Threads + Sync, G: Gate>(
+/// The verdict on a full growth, whose canonical order may be known, by so many workers.
+pub fn judge_grid<R: Threads + Sync, G: Gate>(
     resources: &Resources<'_, R, G>,
     sys: &System,
     types: &TypeIndex,

@@ -8,7 +8,9 @@ mod commands;
 mod growth;
 mod input;
 mod judged;
+mod laws;
 mod order;
+mod reordering;
 mod resources;
 mod room;
 mod run;
@@ -19,5 +21,6 @@ mod telling;
 mod top;
 mod wins;
 
+pub use laws::law_watch;
 pub use status::{Ran, Status};
 pub use top::tilebench;

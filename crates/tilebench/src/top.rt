@@ -2,10 +2,11 @@
 ghost use Rattle.std.specs.Prelude.{◌≡◌, ◌≢◌, ◌⊎◌, ◌≤◌, ℕ, Bool, None, map, string_bytes};
 ghost use Rattle.tile_io.specs.Faults.{Rose};
 ghost use Rattle.fan_out.specs.declared.worker_count.WorkerCount.{WorkerCount};
-ghost use Rattle.command_line.specs.declared.commands.Command.TheVariants.{Grow};
+ghost use Rattle.command_line.specs.declared.commands.Command.TheVariants.{Batch, Grow, Watch};
+ghost use Rattle.command_line.specs.declared.frame_count.FrameCount.{FrameCount};
 ghost use Rattle.command_line.specs.Commands.{IsCallOf, command_named};
 ghost use Rattle.tilebench.specs.Gains.{Gains};
-ghost use Rattle.tilebench.specs.Headline.{Ends, IsAnswer, IsDue, IsHeadline, IsTextRefusal, IsWordsRefusal};
+ghost use Rattle.tilebench.specs.Headline.{Ends, IsAnswer, IsBatchHeadline, IsDue, IsHeadline, IsTextRefusal, IsWatchedHeadline, IsWordsRefusal};
 ghost use Rattle.tilebench.specs.Inputs.{AnswersInput};
 ghost use Rattle.tilebench.specs.Refusals.{IsReadingCall};
 ghost use Rattle.tilebench.specs.Statuses.{IsAnswered, answer_status};
@@ -17,13 +18,15 @@ use crate::stop::Stop;
 use crate::telling::refuse;
 use command_line::command_of;
 use std::alloc::Global;
+use std::sync::Wait;
 use std::thread::Threads;
 use tile_io::{Gate, Sink, Source};
 
 /// Runs a command: reads `source`, and writes the answer to `out` or a refusal to `err`.
 ///
-/// `words` do not hold the program's name. All memory is taken before the first write.
-pub fn tilebench<R: Threads + Sync, S: Source, K: Sink, E: Sink, G: Gate>(
+/// `words` do not hold the program's name. All memory is taken before the first write. It may wait:
+/// `batch` does at a lock.
+pub fn tilebench<R: Threads + Wait + Sync, S: Source, K: Sink, E: Sink, G: Gate>(
     rt: &R,
     alloc: Global,
     words: &[String],
@@ -46,6 +49,22 @@ pub fn tilebench<R: Threads + Sync, S: Source, K: Sink, E: Sink, G: Gate>(
         → result.status ≡ answer_status is_yes
         → Gains K.written K.faults
         (AnswersInput IsHeadline (S.left source.old) (S.left source.new) is_yes) out.old out.new }
+
+    // What `watch` printed.
+    ensures watched { (workers : WorkerCount) (choice : ℕ) (frames : FrameCount) (is_yes : Bool)
+        → IsCallOf (map string_bytes words.now) (Watch workers choice frames)
+        → result.status ≡ answer_status is_yes
+        → Gains K.written K.faults
+        (AnswersInput (IsWatchedHeadline frames.count) (S.left source.old) (S.left source.new) is_yes)
+        out.old out.new }
+
+    // What `batch` printed.
+    ensures batched { (workers : WorkerCount) (is_yes : Bool)
+        → IsCallOf (map string_bytes words.now) (Batch workers)
+        → result.status ≡ answer_status is_yes
+        → Gains K.written K.faults
+        (AnswersInput IsBatchHeadline (S.left source.old) (S.left source.new) is_yes)
+        out.old out.new }
 
     // Words that call for no command that reads leave the source as it was, and so does want of
     // memory while they are read.

@@ -1,6 +1,7 @@
 // Where several types may come first, each choice takes one of them.
 use program_runs::answered;
 use std::alloc::{AllocError, Global};
+use std::sync::Wait;
 use std::test::Fail;
 use std::thread::Threads;
 use worked_systems::{PAIRED_RIVALS, RACE, RIVALS, THREE_RIVALS};
@@ -25,7 +26,7 @@ const OF_A_RACE: [&str; 2] = [
 ];
 
 // The number of the end in which a growth with this choice ends.
-fn end_of<R: Threads + Sync>(
+fn end_of<R: Threads + Wait + Sync>(
     rt: &R,
     alloc: Global,
     system: &str,
@@ -45,7 +46,7 @@ fn end_of<R: Threads + Sync>(
 }
 
 // How many of these ends some choice has, where each choice has one of them.
-fn count_of_ends<R: Threads + Sync>(
+fn count_of_ends<R: Threads + Wait + Sync>(
     rt: &R,
     alloc: Global,
     system: &str,

@@ -1,6 +1,7 @@
 // Systems that the program compiles, grown by it.
 use program_runs::{Failures, Outcome, answered, run};
 use std::alloc::{AllocError, Global};
+use std::sync::Wait;
 use std::test::Fail;
 use std::thread::Threads;
 use tilebench::Status;
@@ -60,7 +61,7 @@ const COMPILED: [Compiled; 5] = [
 ];
 
 // What these words make of a text, grown by so many workers.
-fn grown<R: Threads + Sync>(
+fn grown<R: Threads + Wait + Sync>(
     rt: &R,
     alloc: Global,
     words: &[&str],
@@ -77,7 +78,7 @@ fn grown<R: Threads + Sync>(
     )
 }
 
-fn grows_so<R: Threads + Sync>(
+fn grows_so<R: Threads + Wait + Sync>(
     rt: &R,
     alloc: Global,
     compiled: &Compiled,

@@ -1,6 +1,7 @@
 // Growths whose text is made by rule, and what is read of a growth.
 use program_runs::{answered, behind};
 use std::alloc::{AllocError, Global};
+use std::sync::Wait;
 use std::test::Fail;
 use std::thread::Threads;
 use tilebench::Status;
@@ -11,7 +12,7 @@ use worked_systems::{
 
 // Whether `check` and `replay` take what `grow` prints, behind its own system text, and `replay`
 // leaves its own order as it is.
-fn reads_what_it_prints<R: Threads + Sync>(
+fn reads_what_it_prints<R: Threads + Wait + Sync>(
     rt: &R,
     alloc: Global,
     system: &str,
@@ -81,7 +82,7 @@ fn sierpinski_places(alloc: Global) -> Result<String, AllocError> {
 
 // The number of the first of these by which the system does not grow into these places and a no in
 // these words.
-fn first_unlike_workers<R: Threads + Sync>(
+fn first_unlike_workers<R: Threads + Wait + Sync>(
     rt: &R,
     alloc: Global,
     workers: &[&str],

@@ -2,6 +2,7 @@
 use program_runs::{Failures, Outcome, answered, run_at};
 use site_table::Grown;
 use std::alloc::{AllocError, Global};
+use std::sync::Wait;
 use std::sync::atomic::{AtomicU64, Ordering};
 use std::test::Fail;
 use std::thread::Threads;
@@ -10,7 +11,7 @@ use tilebench::Status;
 use worked_systems::{COUNTED, CountingGate, RIVALS, SMALL_COUNTER};
 
 // Whether the small counter grows into its places by so many workers, at each of three choices.
-fn grows_at_any_choice<R: Threads + Sync>(
+fn grows_at_any_choice<R: Threads + Wait + Sync>(
     rt: &R,
     alloc: Global,
     workers: &str,
@@ -65,7 +66,7 @@ fn prints_what_each_worker_won(rt: HostRuntime) -> Result<(), Fail> {
 }
 
 // A run with a gate.
-fn gated<R: Threads + Sync, G: Gate>(
+fn gated<R: Threads + Wait + Sync, G: Gate>(
     rt: &R,
     alloc: Global,
     words: &[&str],
@@ -77,7 +78,7 @@ fn gated<R: Threads + Sync, G: Gate>(
 }
 
 // Whether each worker comes to the gate once, with a number of its own, and no other.
-fn each_comes_once<R: Threads + Sync>(
+fn each_comes_once<R: Threads + Wait + Sync>(
     rt: &R,
     alloc: Global,
     words: &[&str],

@@ -9,8 +9,8 @@ use Rattle.tile_text.specs.Spelling.{spelling}
 use Rattle.seq_text.specs.GrowthText.{grid_format}
 use Rattle.seq_text.specs.GrowthLines.{place_lines}
 use Rattle.seq_text.specs.StuckLines.{stuck_line, stuck_seed_line}
-use Rattle.tilebench.specs.declared.commands.replay.Reordering.{Reordering}
-use Rattle.tilebench.specs.declared.commands.replay.Reordering.TheVariants.{Whole, SeedMissing, Stuck}
+use Rattle.tilebench.specs.declared.reordering.Reordering.{Reordering}
+use Rattle.tilebench.specs.declared.reordering.Reordering.TheVariants.{Whole, SeedMissing, Stuck}
 use Rattle.tilebench.specs.Growing.{TellsNoGrowth}
 use Rattle.tilebench.specs.Inputs.{FailsWithin, IsAssemblyOf, IsReadable, IsSystemThenPlacements}
 use Rattle.tilebench.specs.Rows.{RoomRow, refuses_none}

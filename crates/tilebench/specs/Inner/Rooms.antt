@@ -7,6 +7,9 @@ use Rattle.grow_core.specs.declared.event.Event.{Event}
 use Rattle.seq_text.specs.SeenLines.{HasLine}
 use Rattle.seq_text.specs.VerdictLines.{NamesTypes}
 use Rattle.unique_law.specs.Outcomes.{Outcome}
+use Rattle.cert_check.specs.Certificates.{places_of}
+use Rattle.tilebench.specs.declared.commands.certify.Certification.{Certification}
+use Rattle.tilebench.specs.declared.commands.certify.Certification.TheVariants.{Given, Refuted, Unordered}
 use Rattle.tilebench.specs.declared.commands.check.Judgement.{Judgement}
 use Rattle.tilebench.specs.declared.commands.check.Judgement.TheVariants.{Legal, Breach}
 use Rattle.tilebench.specs.declared.growth.Growth.{Growth}
@@ -14,8 +17,8 @@ use Rattle.tilebench.specs.declared.judged.Judged.{Judged}
 use Rattle.replay_order.specs.ReplayAnswers.{IsWholeOrder}
 use Rattle.local_check.specs.declared.verdict.Verdict.{Verdict}
 use Rattle.local_check.specs.Judgement.{IsVerdict}
-use Rattle.tilebench.specs.declared.commands.replay.Reordering.{Reordering}
-use Rattle.tilebench.specs.declared.commands.replay.Reordering.TheVariants.{Whole}
+use Rattle.tilebench.specs.declared.reordering.Reordering.{Reordering}
+use Rattle.tilebench.specs.declared.reordering.Reordering.TheVariants.{Whole}
 use Rattle.tilebench.specs.declared.commands.schedule.Scheduled.{Scheduled}
 use Rattle.tile_io.specs.Lines.{line_of}
 use Rattle.tilebench.specs.declared.wins.Win.{Win}
@@ -64,6 +67,12 @@ NamesItsTypes sys (Breach breach) = Unit {0}
 abbrev pub OrdersTypes : TileSystem → Reordering → Type 0
 OrdersTypes sys (Whole order) = All (λ p. IsType sys p.tile) order
 OrdersTypes sys _ = Unit {0}
+
+-- the types of a certificate, or of what stands in its place, are those of the system
+abbrev pub CertifiesTypes : TileSystem → Certification → Type 0
+CertifiesTypes sys (Given entries) = All (λ p. IsType sys p.tile) (places_of entries)
+CertifiesTypes sys (Refuted verdict) = NamesTypes sys verdict
+CertifiesTypes sys (Unordered reordering) = OrdersTypes sys reordering
 
 -- each reply has a line, and the tiles are of types of the system
 pub record HasLines (sys : TileSystem) (schedule : ScheduleOutcome) : Type 0 where

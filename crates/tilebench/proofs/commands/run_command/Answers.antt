@@ -9,6 +9,12 @@ returns-in-Race g c = rw c.in-Race.is c.run_by-in-Race.ensures
 pub returns-in-Report : goal.returns-in-Report
 returns-in-Report g c = rw c.in-Report.is c.run_by-in-Report.ensures
 
+pub returns-in-Watch : goal.returns-in-Watch
+returns-in-Watch g c = rw c.in-Watch.is c.run_by-in-Watch.ensures
+
+pub returns-in-Batch : goal.returns-in-Batch
+returns-in-Batch g c = rw c.in-Batch.is c.run_by-in-Batch.ensures
+
 pub returns-in-Check : goal.returns-in-Check
 returns-in-Check g c = rw c.in-Check.is c.run.ensures
 
@@ -32,6 +38,12 @@ returns-in-Quadrant g c = rw c.in-Quadrant.is c.run-in-Quadrant.ensures
 
 pub returns-in-Picture : goal.returns-in-Picture
 returns-in-Picture g c = rw c.in-Picture.is c.run-in-Picture.ensures
+
+pub returns-in-Certify : goal.returns-in-Certify
+returns-in-Certify g c = rw c.in-Certify.is c.run-in-Certify.ensures
+
+pub returns-in-Verify : goal.returns-in-Verify
+returns-in-Verify g c = rw c.in-Verify.is c.run_by-in-Verify.ensures
 
 pub returns-in-Counter : goal.returns-in-Counter
 returns-in-Counter g c = rw c.in-Counter.is c.run-in-Counter.ensures

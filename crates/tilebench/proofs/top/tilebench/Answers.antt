@@ -3,7 +3,7 @@ use Rattle.command_line.specs.declared.words_stop.WordsStop.TheVariants.{NoComma
 use Rattle.tilebench.specs.declared.stop.Stop.{Stop}
 use Rattle.tilebench.specs.Inner.Stops.{stop_of_words}
 use Rattle.tilebench.specs.Inner.Tells.{Refuses}
-use Rattle.tilebench.proofs.Tops.{call_ended, call_grown, call_named, call_complete, call_unread, call_read_fault, call_no_memory, same_stop, stop_ended, stop_no_read_fault, stop_no_answer, stop_unnamed, stop_later, stop_complete}
+use Rattle.tilebench.proofs.Tops.{call_ended, call_batched, call_grown, call_watched, call_named, call_complete, call_unread, call_read_fault, call_no_memory, same_stop, stop_ended, stop_no_read_fault, stop_no_answer, stop_unnamed, stop_later, stop_complete}
 use Rattle.tilebench.proofs.top.tilebench.Goals as goal
 
 pub returns-in-Ok-clause-ends : goal.returns-in-Ok-clause-ends
@@ -11,6 +11,12 @@ returns-in-Ok-clause-ends g c = call_ended _ _ _ _ _ _ _ _ _ _ _ _ _ c.in-Ok.com
 
 pub returns-in-Ok-clause-growth : goal.returns-in-Ok-clause-growth
 returns-in-Ok-clause-growth g c = call_grown _ _ _ _ _ _ _ _ _ _ _ _ _ c.in-Ok.command c.in-Ok.ensures.called c.run_command.result c.run_command.ensures
+
+pub returns-in-Ok-clause-watched : goal.returns-in-Ok-clause-watched
+returns-in-Ok-clause-watched g c = call_watched _ _ _ _ _ _ _ _ _ _ _ _ _ c.in-Ok.command c.in-Ok.ensures.called c.run_command.result c.run_command.ensures
+
+pub returns-in-Ok-clause-batched : goal.returns-in-Ok-clause-batched
+returns-in-Ok-clause-batched g c = call_batched _ _ _ _ _ _ _ _ _ _ _ _ _ c.in-Ok.command c.in-Ok.ensures.called c.run_command.result c.run_command.ensures
 
 pub returns-in-Ok-clause-unread : goal.returns-in-Ok-clause-unread
 returns-in-Ok-clause-unread g c = call_unread _ _ _ _ _ _ _ _ _ _ _ _ _ c.in-Ok.command c.in-Ok.ensures.called c.run_command.result c.run_command.ensures
@@ -47,6 +53,22 @@ returns-in-Err-clause-ends g c =
 
 pub returns-in-Err-clause-growth : goal.returns-in-Err-clause-growth
 returns-in-Err-clause-growth g c = λ workers choice is_yes _ is.
+    let stop = c.in-Err.stop in
+    let status = c.refuse.result in
+    let Told : Stop → Type 0 = λ told. Refuses g.E.Sink.written g.E.Sink.faults c.args.err.now c.refuse.new.err told status in
+    let refuses : Refuses g.E.Sink.written g.E.Sink.faults c.args.err.now c.refuse.new.err (stop_of_words stop) status = subst Told c.from.ensures c.refuse.ensures in
+    absurd (stop_no_answer g.E.Sink.written g.E.Sink.faults (map string_bytes c.args.words.now) c.args.err.now c.refuse.new.err stop status is_yes refuses is)
+
+pub returns-in-Err-clause-watched : goal.returns-in-Err-clause-watched
+returns-in-Err-clause-watched g c = λ workers choice frames is_yes _ is.
+    let stop = c.in-Err.stop in
+    let status = c.refuse.result in
+    let Told : Stop → Type 0 = λ told. Refuses g.E.Sink.written g.E.Sink.faults c.args.err.now c.refuse.new.err told status in
+    let refuses : Refuses g.E.Sink.written g.E.Sink.faults c.args.err.now c.refuse.new.err (stop_of_words stop) status = subst Told c.from.ensures c.refuse.ensures in
+    absurd (stop_no_answer g.E.Sink.written g.E.Sink.faults (map string_bytes c.args.words.now) c.args.err.now c.refuse.new.err stop status is_yes refuses is)
+
+pub returns-in-Err-clause-batched : goal.returns-in-Err-clause-batched
+returns-in-Err-clause-batched g c = λ workers is_yes _ is.
     let stop = c.in-Err.stop in
     let status = c.refuse.result in
     let Told : Stop → Type 0 = λ told. Refuses g.E.Sink.written g.E.Sink.faults c.args.err.now c.refuse.new.err told status in

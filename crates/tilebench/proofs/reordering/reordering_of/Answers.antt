@@ -1,4 +1,4 @@
-use Rattle.tilebench.proofs.commands.replay.reordering_of.Goals as goal
+use Rattle.tilebench.proofs.reordering.reordering_of.Goals as goal
 
 pub returns-in-Ok-clause-reordered : goal.returns-in-Ok-clause-reordered
 returns-in-Ok-clause-reordered c = c.in-Ok.ensures.answer

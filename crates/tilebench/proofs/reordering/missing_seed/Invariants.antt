@@ -2,7 +2,7 @@ use Rattle.std.proofs.Common.{◌≡◌, ◌<◌, ℕ, Some}
 use Rattle.std.specs.Prelude.{slice_get}
 use Rattle.atam.specs.declared.place.Place.{Place}
 use Rattle.atam.specs.Placements.{tile_at}
-use Rattle.tilebench.proofs.commands.replay.missing_seed.Given as goal
+use Rattle.tilebench.proofs.reordering.missing_seed.Given as goal
 
 -- the seeds so far are there
 abbrev pub invariant-loop-seed : goal.invariant-loop-seed

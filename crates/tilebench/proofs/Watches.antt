@@ -1,0 +1,140 @@
+-- What is told of a watched growth, and how it stands to what is told of a growth.
+use Rattle.std.proofs.Common.{◌≡◌, ◌≢◌, ◌⊎◌, ◌∙◌, ◌++◌, ◌+◌, ◌<◌, ◌≤◌, ℕ, zero, suc, Bool, true, All, List, [], ◌∷◌, length, Option, Some, unwrap_or, ap, refl, subst, sym, arith, inl, inr}
+use Rattle.std.specs.Prelude.{slice_index, sum}
+use Rattle.std.proofs.lemmas.List.Sums.{sum_by-cons}
+use Rattle.atam.specs.declared.place.Place.{Place}
+use Rattle.atam.specs.TileSystem.{TileSystem, IsType}
+use Rattle.atam.specs.Growth.{IsFullGrowth}
+use Rattle.atam.specs.Placements.{IsPartOf}
+use Rattle.atam.proofs.Canon.{producible_types}
+use Rattle.atam.proofs.Opening.{Fits-part}
+use Rattle.site_table.specs.Seats.{GrownValue}
+use Rattle.tile_text.proofs.Eithers.{any_one_system, any_valid}
+use Rattle.grow_workers.specs.Workers.{IsGrownBy, worker_number}
+use Rattle.watch_frames.specs.Frames.{FrameList}
+use Rattle.watch_frames.specs.FrameText.{IsWatchAnswer, frames_text}
+use Rattle.watch_frames.specs.Watched.{GrewBesideWatcher, IsWatched, IsWatchedGrowth}
+use Rattle.tilebench.specs.declared.growth.Growth.{Growth}
+use Rattle.tilebench.specs.Commands.Grow.{IsGrowthText}
+use Rattle.tilebench.specs.Commands.Watch.{TellsWatchedGrowth}
+use Rattle.tilebench.specs.Growing.{TellsGrowth}
+use Rattle.tilebench.specs.Growths.{growth_text, is_unique}
+use Rattle.tilebench.specs.Inputs.{IsSystemAlone}
+use Rattle.tilebench.specs.Inner.Rooms.{GrowsTo, HasTypes, outcome_of}
+use Rattle.tilebench.specs.Laws.{HasFramesBefore, IsGrowAnswerOf, WatchAnswersAsGrow, WatchPrintsAsGrow}
+use Rattle.tilebench.proofs.Growths.{growth_told}
+use Rattle.tilebench.proofs.Headlines.{one_text}
+
+-- a watched growth is told by the text of its frames and that of what grew
+pub watched_told : (sys : TileSystem) (frames : FrameList) (many : ℕ) (table : GrownValue) (growth : Growth) → IsWatched sys many frames.places frames.counts table.grid.tiles →
+    GrowsTo sys table.grid.tiles growth →
+    IsWatchAnswer (IsGrowthText sys table (is_unique growth.verdict)) sys many table.grid.tiles
+    (frames_text growth.sys frames.places frames.counts ++ growth_text growth.sys (outcome_of growth))
+watched_told sys frames many table growth watched grows = record {
+  places = frames.places;
+  counts = frames.counts;
+  watched = watched;
+  growth = growth_text growth.sys (outcome_of growth);
+  grown = growth_told sys table growth grows;
+  text = ap (λ (s : TileSystem). frames_text s frames.places frames.counts ++ growth_text growth.sys (outcome_of growth)) grows.same;
+}
+
+-- the tiles of the frames are of types of the system
+pub frame_types : (sys own : TileSystem) (places tiles : List Place) → own ≡ sys → IsPartOf places tiles → IsFullGrowth sys tiles → All (λ p. IsType own p.tile) places
+frame_types sys own places tiles same part full =
+    let Types : TileSystem → Type 0 = λ s. All (λ p. IsType s p.tile) places in
+    subst Types (sym same) (Fits-part sys places tiles part (record { types = producible_types sys tiles full.producible; sites = full.inside })).types
+
+-- ---- how it stands to `grow`
+
+-- a list of so many zeros
+zeros : ℕ → List ℕ
+zeros zero = []
+zeros (suc n) = 0 ∷ zeros n
+
+zeros_many : (n : ℕ) → length (zeros n) ≡ n
+unfolding zeros
+zeros_many zero = refl
+zeros_many (suc n) = ap suc (zeros_many n)
+
+zeros_none : (n k : ℕ) → slice_index (zeros n) k ≡ 0
+unfolding zeros
+zeros_none zero k = refl
+zeros_none (suc n) zero = refl
+zeros_none (suc n) (suc k) = zeros_none n k
+
+zeros_sum : (n : ℕ) → sum (zeros n) ≡ 0
+unfolding zeros
+zeros_sum zero = refl
+zeros_sum (suc n) = let rest = zeros_sum n in let first = sum_by-cons (λ (x : ℕ). x) 0 (zeros n) in omega (arith, rest, first)
+
+-- the same tiles, of which the first worker has won all
+by_one : GrownValue → GrownValue
+by_one table = record { grid = table.grid; won = sum table.won ∷ zeros 63 }
+
+grown_by_one : (sys : TileSystem) (workers : ℕ) (table : GrownValue) → 1 ≤ workers → GrewBesideWatcher sys table → IsFullGrowth sys table.grid.tiles → IsGrownBy sys workers (by_one table)
+unfolding by_one
+grown_by_one sys workers table some grew full = record {
+  area = grew.area;
+  distinct = full.distinct;
+  producible = full.producible;
+  closed = full.closed;
+  numbers = ap suc (zeros_many 63);
+  idle = idle;
+  total = let all = grew.total in let rest = zeros_sum 63 in let first = sum_by-cons (λ (x : ℕ). x) (sum table.won) (zeros 63) in omega (arith, all, rest, first);
+}
+  where
+    idle : (n : ℕ) → n < 64 → ((w : ℕ) → w < workers → n ≢ worker_number w) → slice_index (by_one table).won n ≡ 0
+    idle zero below none = absurd (none 0 (omega (arith, some)) refl)
+    idle (suc n) below none = zeros_none 63 n
+
+-- what stands before the text of the growth
+frames_before : (frames : ℕ) (input growth text : List ℕ) (grown : Option GrownValue) (is_yes : Bool) (answer : TellsWatchedGrowth frames grown input is_yes text) → growth ≡ answer.told.growth →
+    HasFramesBefore frames input growth text
+frames_before frames input growth text grown is_yes answer same = record {
+  sys = answer.sys;
+  read = answer.read;
+  places = answer.told.places;
+  counts = answer.told.counts;
+  are = answer.told.watched.frames;
+  taken = answer.told.watched.taken;
+  printed = answer.told.text ∙ ap (λ (behind : List ℕ). frames_text answer.sys answer.told.places answer.told.counts ++ behind) (sym same);
+}
+
+pub answers_as_grow : WatchAnswersAsGrow
+unfolding by_one
+answers_as_grow frames workers table input is_yes text some answer =
+    let own : answer.table ≡ table = ap (λ (o : Option GrownValue). unwrap_or o table) (sym answer.handed_out) in (
+      answer.told.growth,
+      frames_before frames input answer.told.growth text (Some table) is_yes answer refl,
+      record {
+        grown = by_one answer.table;
+        same = ap (λ (t : GrownValue). t.grid) own;
+        answer = record {
+          sys = answer.sys;
+          read = answer.read;
+          table = by_one answer.table;
+          handed_out = refl;
+          grew = grown_by_one answer.sys workers answer.table some answer.grew answer.told.watched.full;
+          told = record { outcome = answer.told.grown.outcome; grown = answer.told.grown.grown; printed = answer.told.grown.printed; answer = answer.told.grown.answer };
+        };
+      },
+    )
+
+-- two texts of what one system grew into, of which one is a yes
+prints_once : (sys : TileSystem) (input : List ℕ) (table table_too : GrownValue) (is_yes is_yes_too : Bool) (text text_too : List ℕ) → IsSystemAlone input sys → IsGrowthText sys table is_yes text →
+    IsGrowthText sys table_too is_yes_too text_too → is_yes ≡ true → text_too ≡ text
+prints_once sys input table table_too is_yes is_yes_too text text_too read told other positive =
+    let valid = any_valid input _ read.end sys read.reads in
+    other.printed ∙ one_text sys table is_yes text valid.distinct_seeds told positive table_too.grid.tiles other.outcome other.grown.outcome_is
+
+pub prints_as_grow : WatchPrintsAsGrow
+prints_as_grow frames workers watched grown input is_yes is_yes_too text growth watch grow positive =
+    let Told : TileSystem → Type 0 = λ s. IsGrowthText s grow.table is_yes_too growth in
+    let one = any_one_system input _ grow.read.end watch.read.end grow.sys watch.sys grow.read.reads watch.read.reads in
+    let told : IsGrowthText watch.sys grow.table is_yes_too growth = subst Told one.0 grow.told in
+    let same : growth ≡ watch.told.growth = elim positive [
+      | inl watch_yes ↦ prints_once watch.sys input watch.table grow.table is_yes is_yes_too watch.told.growth growth watch.read watch.told.grown told watch_yes
+      | inr grow_yes ↦ sym (prints_once watch.sys input grow.table watch.table is_yes_too is_yes growth watch.told.growth watch.read told watch.told.grown grow_yes)
+    ] in
+    frames_before frames input growth text watched is_yes watch same

@@ -1,0 +1,40 @@
+-- `verify`: whether a certificate is good.
+use Rattle.std.specs.Prelude.{◌≡◌, ◌↔◌, ℕ, Bool, true, false, List}
+use Rattle.atam.specs.declared.place.Place.{Place}
+use Rattle.atam.specs.TileSystem.{TileSystem}
+use Rattle.cert_check.specs.declared.entry.Entry.{Entry}
+use Rattle.cert_check.specs.declared.verdict.CertVerdict.{CertVerdict}
+use Rattle.cert_check.specs.declared.verdict.CertVerdict.TheVariants.{Yes}
+use Rattle.cert_check.specs.Judgement.{IsVerdict}
+use Rattle.cert_check.specs.Laws.{IsCertified}
+use Rattle.cert_text.specs.CertificateLines.{verified_line}
+use Rattle.cert_text.specs.CertificateText.{certificate_format}
+use Rattle.tilebench.specs.Growing.{TellsNoGrowth}
+use Rattle.tilebench.specs.Inputs.{FailsWithin, IsReadable, IsSystemThenCertificate}
+use Rattle.tilebench.specs.Rows.{RoomRow, refuses_none}
+
+-- it is a yes where no check fails
+abbrev pub is_verified : CertVerdict → Bool
+is_verified Yes = true
+is_verified _ = false
+
+-- the input is the text of a system and then of a certificate, and this is the line of the one verdict on it, whatever the number of workers
+pub record IsVerifyAnswer (input : List ℕ) (is_yes : Bool) (text : List ℕ) : Type 0 where
+  pub sys : TileSystem
+  pub entries : List Entry
+  pub read : IsSystemThenCertificate input sys entries
+  pub verdict : CertVerdict
+  pub judged : IsVerdict sys entries verdict
+  pub printed : text ≡ verified_line sys verdict
+  pub answer : is_yes ≡ is_verified verdict
+  -- a yes exactly where some locally deterministic sequence has exactly the entries' places, their sides as its input sides, and ranks that rise
+  pub certified : is_yes ≡ true ↔ ((s : List Place) × IsCertified sys entries s)
+
+abbrev pub verify_row : RoomRow
+verify_row = record {
+  reads = true;
+  answers = TellsNoGrowth IsVerifyAnswer;
+  takes = IsReadable certificate_format;
+  fails = FailsWithin certificate_format;
+  refuses = refuses_none;
+}

@@ -1,0 +1,86 @@
+// `batch`: what many systems grow into, each within its own box.
+ghost use Rattle.std.specs.Prelude.{◌≡◌, ◌≤◌, length};
+ghost use Rattle.tile_io.specs.declared.limits.TheConstants.{MOST_INPUT};
+ghost use Rattle.job_board.specs.AnswerText.{batch_text};
+ghost use Rattle.job_board.specs.Answers.{AnswerEach};
+ghost use Rattle.tilebench.specs.Commands.Batch.{are_unique, batch_row};
+ghost use Rattle.tilebench.specs.Inner.BatchReadings.{taken_or_faulty_batch};
+ghost use Rattle.tilebench.specs.Inner.Gives.{GivesAnswer};
+
+use crate::input::read_jobs;
+use crate::judged::is_unique;
+use crate::resources::Resources;
+use crate::room::{Reply, Room};
+use crate::stop::Stop;
+use fan_out::WorkerCount;
+use job_board::{Job, Outcome, print_batch, run_board};
+use site_table::Grown;
+use std::sync::Wait;
+use std::thread::Threads;
+use tile_io::{Failed, Gate, Sink};
+
+/// The command.
+#[derive(Clone, Copy)]
+pub struct Batch {
+    pub workers: WorkerCount,
+}
+
+impl Room for Batch {
+    type Answer = Batched;
+
+    ghost room_row = { λ room. batch_row };
+
+    fn reads_input(&self) -> bool {
+        true
+    }
+
+    ghost one_of_two = { λ room. taken_or_faulty_batch };
+}
+
+impl Batch {
+    /// Its answer to an input. No growth is handed out. It may wait at the lock of the board.
+    pub fn answer<R: Threads + Wait + Sync, G: Gate>(
+        &self,
+        resources: &Resources<'_, R, G>,
+        input: Vec<u8>,
+    ) -> Result<(Batched, Option<Grown>), Stop>
+        requires { length input.items ≤ MOST_INPUT }
+        ensures { GivesAnswer ⟦<Batched as Reply>⟧.yes ⟦<Batched as Reply>⟧.text ⟦<Batched as Reply>⟧.printable
+            batch_row input.items result }
+    {
+        let jobs = read_jobs(resources.alloc, &input)?;
+        let outcomes = run_board(
+            resources.rt,
+            resources.alloc,
+            jobs.as_slice(),
+            self.workers.get(),
+            resources.gate,
+        )?;
+        Ok((Batched { jobs, outcomes }, None))
+    }
+}
+
+/// Jobs, and what answers each.
+#[derive(Drop)]
+pub struct Batched {
+    pub jobs: Vec<Job>,
+    pub outcomes: Vec<Outcome>,
+}
+
+impl Reply for Batched {
+    ghost text = { λ batched. batch_text batched.jobs.items batched.outcomes.items };
+
+    ghost yes = { λ batched. are_unique batched.outcomes.items };
+
+    ghost printable = { λ batched. AnswerEach batched.jobs.items batched.outcomes.items };
+
+    fn is_yes(&self) -> bool {
+        self.outcomes
+            .iter()
+            .all(|outcome| is_unique(*outcome.verdict()))
+    }
+
+    fn print<K: Sink>(&self, out: &mut K) -> Result<(), Failed> {
+        print_batch(self.jobs.as_slice(), self.outcomes.as_slice(), out)
+    }
+}

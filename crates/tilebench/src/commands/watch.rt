@@ -1,0 +1,128 @@
+// `watch`: frames of a growth that are taken while it runs, and then what the system grew into.
+ghost use Rattle.std.specs.Prelude.{◌≡◌, ◌≤◌, ◌++◌, All, IfOk, length};
+ghost use Rattle.atam.specs.Growth.{IsFullGrowth};
+ghost use Rattle.atam.specs.TileSystem.{IsType};
+ghost use Rattle.tile_io.specs.declared.limits.TheConstants.{MOST_INPUT};
+ghost use Rattle.watch_frames.specs.FrameText.{frames_text};
+ghost use Rattle.watch_frames.specs.Watched.{IsWatchedGrowth};
+ghost use Rattle.tilebench.specs.Commands.Watch.{watch_row};
+ghost use Rattle.tilebench.specs.Growths.{growth_text, is_unique};
+ghost use Rattle.tilebench.specs.Inner.Gives.{GivesAnswer};
+ghost use Rattle.tilebench.specs.Inner.Readings.{taken_or_faulty};
+ghost use Rattle.tilebench.specs.Inner.Rooms.{HasTypes, IsJudged, outcome_of};
+ghost use Rattle.tilebench.specs.Inputs.{alone};
+
+use crate::growth::{Growth, growth_of};
+use crate::input::read_alone;
+use crate::judged::{Judged, is_unique, judge_grid};
+use crate::resources::{Crew, Resources};
+use crate::room::{Reply, Room};
+use crate::stop::Stop;
+use command_line::FrameCount;
+use fan_out::WorkerCount;
+use site_table::Grown;
+use std::thread::Threads;
+use tile_io::{Failed, Gate, Sink};
+use tile_system::{NoMemory, System};
+use type_index::TypeIndex;
+use watch_frames::{Frames, print_frames, watch};
+
+/// The command.
+#[derive(Clone, Copy)]
+pub struct Watch {
+    pub crew: Crew,
+    pub frames: FrameCount,
+}
+
+impl Room for Watch {
+    type Answer = Watched;
+
+    ghost room_row = { λ room. watch_row room.frames.count };
+
+    fn reads_input(&self) -> bool {
+        true
+    }
+
+    ghost one_of_two = { λ room. taken_or_faulty alone };
+}
+
+impl Watch {
+    /// Its answer to an input, with the growth that is to be handed out.
+    pub fn answer<R: Threads + Sync, G: Gate>(
+        &self,
+        resources: &Resources<'_, R, G>,
+        input: Vec<u8>,
+    ) -> Result<(Watched, Option<Grown>), Stop>
+        requires { length input.items ≤ MOST_INPUT }
+        ensures { GivesAnswer ⟦<Watched as Reply>⟧.yes ⟦<Watched as Reply>⟧.text ⟦<Watched as Reply>⟧.printable
+            (watch_row self.now.frames.count) input.items result }
+    {
+        let sys = read_alone(resources.alloc, &input)?;
+        let (frames, grown) = grow_watched(resources, &sys, self.crew, self.frames)?;
+        let judged = judge_watched(resources, &sys, &grown, self.crew.workers)?;
+        let growth = growth_of(sys, grown.grid(), judged);
+        Ok((Watched { frames, growth }, Some(grown)))
+    }
+}
+
+// Grows a system while so many frames of it are taken.
+fn grow_watched<R: Threads + Sync, G: Gate>(
+    resources: &Resources<'_, R, G>,
+    sys: &System,
+    crew: Crew,
+    frames: FrameCount,
+) -> Result<(Frames, Grown), NoMemory>
+    ensures { IfOk result (λ r. IsWatchedGrowth sys.now frames.count r.0 r.1) }
+{
+    let Crew { workers, choice } = crew;
+    watch(
+        resources.rt,
+        resources.alloc,
+        sys,
+        workers.get(),
+        choice,
+        frames.get(),
+        resources.gate,
+    )
+}
+
+// The verdict on what has grown, by so many workers.
+fn judge_watched<R: Threads + Sync, G: Gate>(
+    resources: &Resources<'_, R, G>,
+    sys: &System,
+    grown: &Grown,
+    workers: WorkerCount,
+) -> Result<Judged, NoMemory>
+    requires area { grown.now.grid.area ≡ sys.now.area }
+    requires full { IsFullGrowth sys.now grown.now.grid.tiles }
+    ensures { IfOk result (IsJudged sys.now grown.now.grid.tiles) }
+{
+    let types = TypeIndex::build(resources.alloc, sys)?;
+    judge_grid(resources, sys, &types, grown.grid(), None, workers)
+}
+
+/// Frames of a growth, and what the system grew into.
+#[derive(Drop)]
+pub struct Watched {
+    pub frames: Frames,
+    pub growth: Growth,
+}
+
+impl Reply for Watched {
+    ghost text = { λ watched. frames_text watched.growth.sys watched.frames.places watched.frames.counts
+        ++ growth_text watched.growth.sys (outcome_of watched.growth) };
+
+    ghost yes = { λ watched. is_unique watched.growth.verdict };
+
+    ghost printable = { λ watched. All (λ p. IsType watched.growth.sys p.tile) watched.frames.places
+        × HasTypes watched.growth.sys (outcome_of watched.growth) };
+
+    fn is_yes(&self) -> bool {
+        is_unique(self.growth.verdict)
+    }
+
+    fn print<K: Sink>(&self, out: &mut K) -> Result<(), Failed> {
+        print_frames(&self.growth.sys, &self.frames, out)?;
+        self.growth.print(out)
+    }
+}
