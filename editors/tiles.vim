@@ -1,6 +1,6 @@
-" Vim syntax for the texts of tilebench: systems, growths, schedules and answers.
+" Vim syntax for the texts of tilebench: systems, batches, growths, schedules, certificates and answers.
 " Use: copy it to ~/.vim/syntax/tiles.vim, and put into ~/.vimrc
-"     autocmd BufRead,BufNewFile *.tiles,*.growth,*.schedule setfiletype tiles
+"     autocmd BufRead,BufNewFile *.tiles,*.growth,*.schedule,*.batch setfiletype tiles
 if exists('b:current_syntax')
   finish
 endif
@@ -9,9 +9,9 @@ syntax case match
 " A line whose first word is no keyword, and bytes that part no words.
 syntax match tilesError /^ *[^ #]\S*/
 syntax match tilesError /[\t\r]/
-syntax match tilesKeyword /^ *\zs\%(tiles\|tau\|glue\|pair\|tile\|box\|seed\|end\)\ze\%( \|$\)/
-syntax match tilesKeyword /^ *\zs\%(place\|look\|claim\|split\|join\)\ze\%( \|$\)/
-syntax match tilesAnswer /^ *\zs\%(closed\|unique\|legal\|stuck\|saw\|won\|total\|held\|joined\|refused\)\ze\%( \|$\)/
+syntax match tilesKeyword /^ *\zs\%(batch\|job\|tiles\|tau\|glue\|pair\|tile\|box\|seed\|end\)\ze\%( \|$\)/
+syntax match tilesKeyword /^ *\zs\%(place\|mark\|look\|claim\|split\|join\)\ze\%( \|$\)/
+syntax match tilesAnswer /^ *\zs\%(frame\|grown\|done\|closed\|unique\|legal\|stuck\|verified\|saw\|won\|total\|held\|joined\|refused\)\ze\%( \|$\)/
 syntax match tilesNumber /\%(^\| \)\zs-\?\d\{1,10}\ze\%( \|$\)/
 syntax match tilesNone / \zs-\ze\%( \|$\)/
 syntax match tilesYes /\<\%(yes\|terminal\)\>/

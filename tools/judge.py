@@ -26,11 +26,11 @@ SIGNS = b"ABCDEFGHIJKLMNOPQRSTUVWXYZabcdefghijklmnopqrstuvwxyz0123456789"
 NUMBER = re.compile(rb"-?[0-9]{1,10}")
 NAME = re.compile(rb"[A-Za-z0-9_:.]{1,40}")
 SHORT_NAME = re.compile(rb"[A-Za-z0-9_]{1,8}")
-GROWERS = ("grow", "race", "report")
-READERS = (*GROWERS, "check", "replay", "schedule", "format", "upgrade", "turing", "picture", "quadrant")
+GROWERS = ("grow", "race", "report", "watch")
+READERS = (*GROWERS, "check", "certify", "verify", "replay", "schedule", "format", "upgrade", "turing", "picture", "quadrant", "batch")
 # the options of a command, with the range of each and what is meant where it is left out
-WORKERS, CHOICE = ("--workers", 1, 16, 1), ("--choice", 0, 2**64 - 1, 0)
-OPTIONS = {"grow": (WORKERS, CHOICE), "race": (WORKERS, CHOICE), "report": (WORKERS, CHOICE)}
+WORKERS, CHOICE, FRAMES = ("--workers", 1, 16, 1), ("--choice", 0, 2**64 - 1, 0), ("--frames", 1, 1000, 1)
+OPTIONS = {"grow": (WORKERS, CHOICE), "race": (WORKERS, CHOICE), "report": (WORKERS, CHOICE), "watch": (WORKERS, CHOICE, FRAMES), "verify": (WORKERS,), "batch": (WORKERS,)}
 COMMANDS = (*READERS, "counter", "load")
 
 
@@ -277,9 +277,11 @@ class System:
         return b"\n".join(lines + [b"end\n"])
 
 
-def read_system(lines):
-    """The system of a text of either version."""
+def read_system(lines, missing="NoHeader"):
+    """The system of a text of either version; where the input ends before its header the cause is the `missing` one."""
     system, header = System(), lines.next()
+    if header is None:
+        raise Fault(lines.number, missing)
     if header not in ([b"tiles", b"1"], [b"tiles", b"2"]):
         raise Fault(lines.number, "NoHeader")
     read_text(lines, None, SYSTEMS[int(header[1])], system.item, header[0])
@@ -753,6 +755,15 @@ def check_report(system, workers, tiles):
     return check
 
 
+def stuck(system, tiles):
+    """What must come where the seeds are not there or can't reach all tiles, or None."""
+    for site, kind in system.seeds:
+        if tiles.get(site) != kind:
+            return Wanted(1, b"stuck seed %d %d\n" % site)
+    left = set(tiles) - {site for site, _ in canonical(system, tiles)}
+    return Wanted(1, b"stuck %d %d %d\n" % (len(left), *min(left, key=lambda it: (it[1], it[0])))) if left else None
+
+
 class Judge:
     """Says what must come. What it works out of an input stands in `memory` for the next question about it."""
 
@@ -770,13 +781,16 @@ class Judge:
         return self.memory[1]
 
     def grown(self, command, numbers, text):
-        """`grow`, `race`, `report`."""
+        """`grow`, `race`, `report`, `watch`."""
         system, tiles, told, said = self.system_grown(text)
         workers, is_yes = numbers[0], said == b"yes"
         if command == "race":
             return Wanted(0, check=check_race(system, workers, len(tiles) if is_yes else None))
         if command == "report":
             return Wanted(0 if is_yes else 1, check=check_report(system, workers, tiles if is_yes else None))
+        if command == "watch":
+            check = (lambda out: None if out == told else "the growth is another one than grow prints") if is_yes else check_growth(system)
+            return Wanted(0 if is_yes else 1, check=judge_frames.check_watch(system, numbers[2], check))
         return Wanted(0, told) if is_yes else Wanted(1, check=check_growth(system))
 
     def checked(self, system, lines):
@@ -789,14 +803,18 @@ class Judge:
 
     def replayed(self, system, lines):
         tiles = dict(read_places(lines, system, True))
-        for site, kind in system.seeds:
-            if tiles.get(site) != kind:
-                return Wanted(1, b"stuck seed %d %d\n" % site)
-        order = canonical(system, tiles)
-        left = set(tiles) - {site for site, _ in order}
-        if left:
-            return Wanted(1, b"stuck %d %d %d\n" % (len(left), *min(left, key=lambda it: (it[1], it[0]))))
-        return Wanted(0, places_text(system, order))
+        return stuck(system, tiles) or Wanted(0, places_text(system, canonical(system, tiles)))
+
+    def certified(self, system, lines):
+        tiles = dict(read_places(lines, system, True))
+        if stuck(system, tiles):
+            return stuck(system, tiles)
+        text, is_yes = judge_certificates.certified(system, tiles)
+        return Wanted(0 if is_yes else 1, text)
+
+    def verified(self, system, lines):
+        said = judge_certificates.verified(system, judge_certificates.read_certificate(lines, system))
+        return Wanted(0 if said == b"yes" else 1, b"verified %s\n" % said)
 
     def scheduled(self, system, lines):
         scouts = Scouts(system)
@@ -813,6 +831,9 @@ class Judge:
             compiled = read_machine(lines) if command == "turing" else judge_rules.read_quadrant(lines)
             lines.end()
             return Wanted(0, compiled.system())
+        if command == "batch":
+            text, is_yes = judge_batches.batch_text(judge_batches.read_batch(lines), self.most_tiles)
+            return Wanted(0 if is_yes else 1, text)
         system = read_system(lines)
         if command in ("format", "upgrade"):
             lines.end()
@@ -821,7 +842,7 @@ class Judge:
             if system.width() * system.height() > 64 * self.most_tiles:
                 raise TooLarge
             return Wanted(0, picture_text(system, dict(read_places(lines, system, True))))
-        ways = {"check": self.checked, "replay": self.replayed, "schedule": self.scheduled}
+        ways = {"check": self.checked, "replay": self.replayed, "schedule": self.scheduled, "certify": self.certified, "verify": self.verified}
         return ways[command](system, lines)
 
     def counted(self, command, numbers):
@@ -983,5 +1004,8 @@ def built(path):
     return program
 
 
-# (it asks for what stands above)
+# (they ask for what stands above)
+import judge_batches
+import judge_certificates
+import judge_frames
 import judge_rules

@@ -3,10 +3,11 @@
 Everything comes from one random number generator, so the same seed makes the same texts.
 """
 import judge
+import judge_certificates
 import judge_rules
 
 KEYWORDS = b"tiles tau glue pair tile box seed end place closed unique look claim split join machine state symbol rule cells rows head tape".split()
-KEYWORDS += b"quadrant size bottom left".split()
+KEYWORDS += b"quadrant size bottom left frame grown mark batch job done".split()
 NUMBERS = [b"%d" % it for it in (-1000001, -1000000, -1, 0, 1, 2, 15, 16, 17, 63, 64, 250, 251, 255, 512, 513, 1000, 1001, 1023, 1024, 1025)]
 NUMBERS += [b"%d" % it for it in (1000000, 1000001, 2**31, 2**32 - 1, 2**32, 2**63, 2**64 - 1, 9999999999, 10000000000)]
 WORDS = NUMBERS + KEYWORDS + [b"-0", b"-", b"--1", b"-01", b"007", b"0000000001", b"00000000001", b"+1", b"1.5", b"1e3", b"0x1", b"#", b"#x"]
@@ -189,6 +190,20 @@ def machine_system(rng, side=9):
     return judge.read_machine(judge.Lines(joined(machine_lines(rng, side)))).system().split(b"\n")[:-1]
 
 
+def batch_lines(rng, side=7):
+    """A few systems of all kinds, each a job."""
+    lines = [b"batch 1"]
+    for _ in range(rng.choice((1, 1, 2, 3, 5, 12))):
+        lines.append(b"job %d" % rng.choice((0, 0, 1, 7, rng.randrange(2**32), judge.U32)))
+        lines += random_system(rng, side)[1]
+    way = rng.random()
+    if way < 0.04:
+        lines = lines[: rng.randrange(1, len(lines))]
+    elif way < 0.06:
+        lines = [it for it in lines if not it.startswith(rng.choice((b"job", b"tiles", b"end")))]
+    return lines
+
+
 def widened(rng, lines):
     """The lines of a system by version 2: with further seeds, with pairs of its glues, with both or with neither."""
     glues = [it.split()[1] for it in lines if it.startswith(b"glue ")]
@@ -293,6 +308,57 @@ def growth_lines(rng, system, is_grid):
     if rng.random() < 0.5:
         lines += rng.choice(([b"closed terminal"], [b"unique yes"], [b"closed x y z", b"unique no 1"], [b"closed \xff", b"unique  #"]))
     return lines
+
+
+def certificate_lines(rng, system):
+    """Marks of a whole growth, or of a part of one: with ranks of some kind and in some order, and mostly with slips."""
+    places = sequence(rng, system, rng.choice((1, 3, 1000, 1000, 1000, 1000)))
+    if rng.random() < 0.5:
+        places = judge.canonical(system, dict(places))
+    marks = {}
+    for at, ((site, kind), sides) in enumerate(zip(places, judge_certificates.input_sides(system, places))):
+        marks[site] = judge_certificates.Mark(kind, sides, at)
+    ranks = rng.choice(("places", "far", "lengths", "lengths"))
+    for site, mark in marks.items():
+        before = [marks[site[0] + judge.STEPS[it][0], site[1] + judge.STEPS[it][1]].rank for it in mark.sides]
+        if ranks != "places":
+            mark.rank = max(before, default=-1) + (1 if ranks == "lengths" else rng.choice((1, 1, 2, 1000000)))
+    if rng.random() < 0.1:
+        for mark in marks.values():
+            mark.rank += judge.U32 - max(it.rank for it in marks.values())
+    for _ in range(rng.choice((0, 0, 1, 1, 1, 2))):
+        with_slip(rng, system, marks)
+    lines = [judge_certificates.mark_line(system, site, mark)[:-1] for site, mark in marks.items()]
+    if rng.random() < 0.5:
+        rng.shuffle(lines)
+    return lines
+
+
+def with_slip(rng, system, marks):
+    """Marks with one that is taken away, added, or states something else."""
+    if not marks:
+        return
+    site, way = rng.choice(list(marks)), rng.random()
+    mark = marks[site]
+    if way < 0.12:
+        del marks[site]
+    elif way < 0.3:
+        mark.sides = mark.sides ^ {rng.randrange(4)}
+    elif way < 0.45:
+        mark.rank = rng.choice((0, max(0, mark.rank - 1), mark.rank + 1, rng.choice(list(marks.values())).rank, judge.U32))
+    elif way < 0.6:
+        mark.kind = rng.randrange(len(system.sides))
+    elif way < 0.7:
+        # (an input side from which the neighbour is held in turn)
+        mark.sides = {rng.choice(range(4)) for _ in mark.sides}
+    elif way < 0.85:
+        # (a side that rests on this one is stated no longer)
+        a, b = rng.choice(judge.STEPS)
+        other = marks.get((site[0] + a, site[1] + b))
+        if other:
+            other.sides = set(list(other.sides)[:-1])
+    else:
+        marks[inner(rng, system)] = judge_certificates.Mark(rng.randrange(len(system.sides)), {rng.randrange(4)} if rng.random() < 0.5 else set(), mark.rank + 1)
 
 
 def schedule_lines(rng, system):
@@ -432,12 +498,15 @@ ODD_WORDS = ["", "grown", "Grow", "GROW", "help", "--help", "-h", "--version", "
 def growing_words(rng, command):
     """A growing command with its options."""
     words, way = [command], rng.random()
-    if way < 0.4:
+    if way < 0.4 or command in ("verify", "batch") and way < 0.6:
         words += ["--workers", str(rng.choice((1, 2, 2, 3, 4, 16)))]
-    if 0.2 < way < 0.6:
+    if 0.2 < way < 0.6 and command not in ("verify", "batch"):
         words += ["--choice", str(rng.choice((0, 1, 2, 3, rng.randrange(2**64), 2**64 - 1)))]
     if len(words) == 5 and rng.random() < 0.5:
         words = [command, *words[3:], *words[1:3]]
+    if command == "watch" and rng.random() < 0.8:
+        at = rng.randrange(1, len(words) + 1, 2)
+        words[at:at] = ["--frames", str(rng.choice((1, 2, 3, 5, 20, 1000)))]
     return words
 
 
@@ -449,7 +518,7 @@ def odd_words(rng):
     elif way < 0.5:
         words = [rng.choice(list(judge.OPTIONS))]
         for _ in range(rng.randrange(1, 4)):
-            option, number = rng.choice(("--workers", "--workers", "--choice", "--choice", "--worker", "-w", "--", "-")), rng.choice(ODD_NUMBERS)
+            option, number = rng.choice(("--workers", "--workers", "--choice", "--choice", "--frames", "--worker", "-w", "--", "-")), rng.choice(ODD_NUMBERS)
             words += rng.choice(([option, number], [option, number], [option, number], [f"{option}={number}"], [option], [number]))
     elif way < 0.7:
         words = ["counter", *rng.choices(ODD_NUMBERS + ["3", "5", "32", "33", "4294966784", "4294966783"], k=rng.choice((1, 2, 2, 2, 2, 2, 3)))]

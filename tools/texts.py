@@ -113,6 +113,18 @@ def lines_of(text, first=1):
             yield number, words
 
 
+def jobs_of(text):
+    """What stands behind each `job` line of a batch, or of the answer to one, with the number of that line."""
+    jobs = []
+    for number, line in enumerate(text.splitlines(True), 1):
+        words = line.split()
+        if words[:1] == ["job"]:
+            jobs.append((number, []))
+        elif jobs and words[:1] != ["done"]:
+            jobs[-1][1].append(line)
+    return [(number, "".join(lines)) for number, lines in jobs]
+
+
 def integer(number, word):
     try:
         return int(word)
@@ -162,10 +174,13 @@ def system_of(text):
 
 
 class Growth:
-    """What a growth text says: its places in their order, and the words of its closed and unique lines, if it has them."""
+    """What a growth text says: its places in their order, and the words of its closed and unique lines, if it has them.
+    In front of it may stand frames, each a number and how many of the places `seen` it has."""
 
     def __init__(self):
-        self.places, self.closed, self.unique = [], None, None
+        self.places, self.closed, self.unique, self.frames, self.seen = [], None, None, [], []
+        # of a certificate the stated sides, as letters, and the rank of each site
+        self.marks = {}
 
     def tiles(self):
         return dict(self.places)
@@ -185,6 +200,18 @@ def growth_of(system, rows):
                 raise Unreadable(number, f"{words[1]} {words[2]} is no site") from None
         elif words[0] in ("closed", "unique") and len(words) > 1:
             setattr(growth, words[0], words[1:])
+        elif words[0] == "mark" and len(words) == 6:
+            if words[3] not in types:
+                raise Unreadable(number, f"no type {words[3]}")
+            site = integer(number, words[1]), integer(number, words[2])
+            add((site, words[3]))
+            growth.marks[site] = words[4].replace("-", ""), integer(number, words[5])
+        elif words[0] == "frame" and len(words) == 3 and not growth.seen:
+            growth.frames.append((integer(number, words[1]), integer(number, words[2])))
+        elif words == ["grown"] and growth.frames and not growth.seen:
+            # (the growth behind the frames lists all places anew)
+            growth.seen, growth.places = growth.places, []
+            add = growth.places.append
         else:
             raise Unreadable(number, f"{' '.join(words)[:40]} is no line of a growth text")
     return growth
@@ -261,12 +288,48 @@ def meaning_of(system, places, words):
         if words[2] == "2":
             return f"{name} comes at {site}, where an earlier tile stands"
         return f"{name} at {site} is held by {bond_words(system, dict(places[: numbers[3]]), site, name)}, and {tau}"
-    if words[:2] == ["stuck", "seed"]:
+    if words[:2] == ["verified", "yes"]:
+        return "the certificate is good: nothing else can grow than the tiles that it lists"
+    if words[:1] == ["stuck"] and words[1:2] == ["seed"]:
         return f"the seed at {numbers[2], numbers[3]} is missing"
     if words[:1] == ["stuck"] and len(words) == 4:
         site = numbers[2], numbers[3]
         return f"{words[1]} tiles can't be reached from the seeds; {standing(tiles, site)} at {site} is the first of them"
     return None
+
+
+def meaning_of_certificate(system, marks, words):
+    """What a `verified no` line means; `marks` are the places of the certificate, with their sides and ranks."""
+    tiles, code, site = {it: name for it, (name, _, _) in marks.items()}, words[2], (int(words[3]), int(words[4]))
+    tau, name = f"the temperature is {system.tau}", tiles.get(site)
+    bonds = system.bonds(tiles, site, name) if name else ()
+    stated = [side for side in range(4) if name and SIDES[side][0].upper() in marks[site][1]]
+    if code == "1":
+        return f"the seed at {site} has no mark with its type" + (f"; the mark there has {name}" if name else "")
+    if code == "2":
+        return f"{name} at {site} is a seed, which comes by no side, and its mark states {marks[site][1]}"
+    if code == "3":
+        told = []
+        for side in stated:
+            other = marks.get(neighbour(site, side))
+            if not bonds[side]:
+                told.append(f"on its {SIDES[side]} side {'no bond' if other else 'no tile'}")
+            elif other[2] >= marks[site][2]:
+                told.append(f"on its {SIDES[side]} side a tile of rank {other[2]}, and its own is {marks[site][2]}")
+        return f"{name} at {site} has {'; '.join(told)}"
+    if code == "4":
+        told = " + ".join(f"{SIDES[side]} {bonds[side]}" for side in stated) or "no side"
+        return f"the sides that {name} at {site} states bond with {told} = {words[5]}, and {tau}"
+    if code == "5":
+        side = "NESW".index(words[5])
+        return f"{name} at {site} has a bond of {bonds[side]} on its {SIDES[side]} side, which neither it states nor {tiles.get(neighbour(site, side))} beside it"
+    rests = [neighbour(site, side) for side in range(4) if SIDES[opposite(side)][0].upper() in marks.get(neighbour(site, side), ("", "", 0))[1]]
+    left = {it: kind for it, kind in tiles.items() if it != site and (code == "7" or it not in rests)}
+    held = bond_words(system, left, site, words[5])
+    if code == "6":
+        return f"{words[5]} could come at {site} in place of {name}, once that and the neighbours that rest on it are away: {held}, and {tau}"
+    outside = beyond(system, site)
+    return f"{words[5]} attaches at {site}, which has no mark ({held}, and {tau})" + (f"; that is outside the box, to the {outside}" if outside else "")
 
 
 def meaning_of_no(system, places, tiles, site, words, tau):
