@@ -1,8 +1,8 @@
 // Who comes to the gate of `verify`, and that its workers run side by side.
+use meeting_gate::MeetingGate;
 use program_runs::{Failures, Outcome, run_at};
 use std::alloc::{AllocError, Global};
 use std::sync::Wait;
-use std::sync::atomic::{AtomicU64, Ordering};
 use std::test::Fail;
 use std::thread::Threads;
 use tile_io::Gate;
@@ -50,58 +50,9 @@ fn each_worker_comes_once(rt: HostRuntime) -> Result<(), Fail> {
     Ok(())
 }
 
-// A worker waits for the other for so many loads at most.
-const MOST_LOADS: u64 = 1_000_000_000;
-
-// Holds workers 0 and 1 until both have come.
-#[derive(Drop)]
-struct MeetingGate {
-    first: AtomicU64,
-    second: AtomicU64,
-    missed: AtomicU64,
-}
-
-impl MeetingGate {
-    fn make() -> MeetingGate {
-        MeetingGate {
-            first: AtomicU64::new(0),
-            second: AtomicU64::new(0),
-            missed: AtomicU64::new(0),
-        }
-    }
-
-    // Whether both came, and neither waited in vain.
-    fn is_met(&self) -> bool {
-        self.first.load(Ordering::SeqCst) == 1
-            && self.second.load(Ordering::SeqCst) == 1
-            && self.missed.load(Ordering::SeqCst) == 0
-    }
-}
-
-// Marks an arrival, and waits for the other.
-fn meet(mine: &AtomicU64, other: &AtomicU64, missed: &AtomicU64) {
-    mine.store(1, Ordering::SeqCst);
-    for _ in 0..MOST_LOADS {
-        if other.load(Ordering::SeqCst) == 1 {
-            return;
-        }
-    }
-    missed.store(1, Ordering::SeqCst);
-}
-
-impl Gate for MeetingGate {
-    fn arrive(&self, worker: u32) {
-        match worker {
-            0 => meet(&self.first, &self.second, &self.missed),
-            1 => meet(&self.second, &self.first, &self.missed),
-            _ => (),
-        }
-    }
-}
-
 #[test]
 fn two_workers_check_side_by_side(rt: HostRuntime) -> Result<(), Fail> {
-    let gate = MeetingGate::make();
+    let gate = MeetingGate::make(1);
     let ran = gated(&rt, rt.alloc(), &["verify", "--workers", "2"], &gate)?;
     assert!(rt; ran.is(Status::Done, "verified yes\n", ""));
     assert!(rt; gate.is_met());

@@ -1,10 +1,10 @@
 // Who comes to the gate, and that the watcher takes its frames while workers run.
 ghost use Rattle.std.specs.Prelude.{◌≤◌};
 
+use meeting_gate::MeetingGate;
 use program_runs::{Failures, Outcome, run_at};
 use std::alloc::{AllocError, Global};
 use std::sync::Wait;
-use std::sync::atomic::{AtomicU64, Ordering};
 use std::test::Fail;
 use std::thread::Threads;
 use tile_io::Gate;
@@ -51,58 +51,6 @@ fn workers_and_the_watcher_come_once(rt: HostRuntime) -> Result<(), Fail> {
         assert!(rt; each_comes_once(&rt, rt.alloc(), words, comers)?);
     }
     Ok(())
-}
-
-// One waits for the other for so many loads at most.
-const MOST_LOADS: u64 = 1_000_000_000;
-
-// Holds worker 0 and the watcher until both have come.
-#[derive(Drop)]
-struct MeetingGate {
-    watcher: u32,
-    worker_came: AtomicU64,
-    watcher_came: AtomicU64,
-    missed: AtomicU64,
-}
-
-impl MeetingGate {
-    // Of a growth by so many workers, whose number the watcher has.
-    fn make(workers: u32) -> MeetingGate {
-        MeetingGate {
-            watcher: workers,
-            worker_came: AtomicU64::new(0),
-            watcher_came: AtomicU64::new(0),
-            missed: AtomicU64::new(0),
-        }
-    }
-
-    // Whether both came, and neither waited in vain.
-    fn is_met(&self) -> bool {
-        self.worker_came.load(Ordering::SeqCst) == 1
-            && self.watcher_came.load(Ordering::SeqCst) == 1
-            && self.missed.load(Ordering::SeqCst) == 0
-    }
-}
-
-// Marks an arrival, and waits for the other.
-fn meet(mine: &AtomicU64, other: &AtomicU64, missed: &AtomicU64) {
-    mine.store(1, Ordering::SeqCst);
-    for _ in 0..MOST_LOADS {
-        if other.load(Ordering::SeqCst) == 1 {
-            return;
-        }
-    }
-    missed.store(1, Ordering::SeqCst);
-}
-
-impl Gate for MeetingGate {
-    fn arrive(&self, worker: u32) {
-        if worker == 0 {
-            meet(&self.worker_came, &self.watcher_came, &self.missed);
-        } else if worker == self.watcher {
-            meet(&self.watcher_came, &self.worker_came, &self.missed);
-        }
-    }
 }
 
 #[test]

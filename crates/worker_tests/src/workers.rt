@@ -1,9 +1,9 @@
 // What several workers do, and that they come.
+use meeting_gate::MeetingGate;
 use program_runs::{Failures, Outcome, answered, run_at};
 use site_table::Grown;
 use std::alloc::{AllocError, Global};
 use std::sync::Wait;
-use std::sync::atomic::{AtomicU64, Ordering};
 use std::test::Fail;
 use std::thread::Threads;
 use tile_io::Gate;
@@ -118,48 +118,12 @@ fn each_worker_comes_once(rt: HostRuntime) -> Result<(), Fail> {
     Ok(())
 }
 
-// A worker waits for the other for so many loads at most.
-const MOST_LOADS: u64 = 1_000_000_000;
-
-// Holds workers 0 and 1 until both have come.
-#[derive(Drop)]
-struct MeetingGate {
-    first: AtomicU64,
-    second: AtomicU64,
-    missed: AtomicU64,
-}
-
-// Marks an arrival, and waits for the other.
-fn meet(mine: &AtomicU64, other: &AtomicU64, missed: &AtomicU64) {
-    mine.store(1, Ordering::SeqCst);
-    for _ in 0..MOST_LOADS {
-        if other.load(Ordering::SeqCst) == 1 {
-            return;
-        }
-    }
-    missed.store(1, Ordering::SeqCst);
-}
-
-impl Gate for MeetingGate {
-    fn arrive(&self, worker: u32) {
-        match worker {
-            0 => meet(&self.first, &self.second, &self.missed),
-            1 => meet(&self.second, &self.first, &self.missed),
-            _ => (),
-        }
-    }
-}
-
 #[test]
 fn workers_run_side_by_side(rt: HostRuntime) -> Result<(), Fail> {
-    let gate = MeetingGate {
-        first: AtomicU64::new(0),
-        second: AtomicU64::new(0),
-        missed: AtomicU64::new(0),
-    };
+    let gate = MeetingGate::make(1);
     let words = ["grow", "--workers", "2"];
     let ran = gated(&rt, rt.alloc(), &words, SMALL_COUNTER, &gate)?;
     assert_eq!(rt; ran.status, Status::Done);
-    assert_eq!(rt; gate.missed.load(Ordering::SeqCst), 0);
+    assert!(rt; gate.is_met());
     Ok(())
 }
