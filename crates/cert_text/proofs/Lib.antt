@@ -1,1 +1,3 @@
 pub mod Keeping
+pub mod Printed
+pub mod SidesWords

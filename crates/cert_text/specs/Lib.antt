@@ -1,3 +1,4 @@
 pub mod CertificateText
 pub mod CertificateLines
+pub mod PrintedCertificates
 pub mod Inner

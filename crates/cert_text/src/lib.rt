@@ -2,11 +2,13 @@
 #![tactic(auto)]
 
 mod keyword;
+mod laws;
 mod printing;
 mod reader;
 mod sides;
 mod verdict;
 
+pub use laws::law_certificate_reads_printed;
 pub use printing::print_certificate;
 pub use reader::read_certificate;
 pub use verdict::print_cert_verdict;
