@@ -1,5 +1,5 @@
 -- What the reader of a certificate holds of the lines that it took.
-use Rattle.std.specs.Prelude.{◌≡◌, List, Some, None}
+use Rattle.std.specs.Prelude.{◌≡◌, List}
 use Rattle.tile_io.specs.Checks.{Keyword}
 use Rattle.atam.specs.Assembly.{Fits}
 use Rattle.atam.specs.TileSystem.{TileSystem}

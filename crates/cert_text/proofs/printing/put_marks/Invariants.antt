@@ -1,4 +1,4 @@
-use Rattle.std.proofs.Common.{◌≡◌, take, Ok}
+use Rattle.std.proofs.Common.{take, Ok}
 use Rattle.tile_io.specs.declared.outside.Failed.{Failed}
 use Rattle.tile_io.specs.Chunks.{PassesOn}
 use Rattle.cert_text.specs.CertificateLines.{mark_lines}
