@@ -9,7 +9,7 @@ use Rattle.clap.proofs.WalkLemmas.{both}
 use Rattle.clap.specs.declared.parser.matches.ArgMatches.{ArgMatches}
 use Rattle.clap.proofs.OnLiterals.{clap_on_literals}
 use Rattle.command_line.specs.declared.commands.Command.{Command}
-use Rattle.command_line.specs.declared.commands.Command.TheVariants.{Grow, Race, Report, Watch, Batch, Check, Replay, Schedule, Format, Upgrade, Turing, Quadrant, Picture, Certify, Verify, Counter, Load}
+use Rattle.command_line.specs.declared.commands.Command.TheVariants.{Grow, Race, Report, Watch, Batch, Verify}
 use Rattle.command_line.specs.declared.commands.CommandName.{CommandName}
 use Rattle.command_line.specs.declared.commands.CommandName.TheVariants as name
 use Rattle.command_line.specs.declared.words_stop.WordsStop.{WordsStop}
@@ -17,9 +17,9 @@ use Rattle.command_line.specs.declared.words_stop.WordsStop.TheVariants.{NoComma
 use Rattle.command_line.specs.Commands.{IsCallOf, IsTaken, IsUsage, Spells, SpellsArguments, SpellsNumbers, SpellsOptions, command_app, command_named, command_word, name_of, arguments_of, values_of}
 use Rattle.command_line.specs.Numbers.{AreInRange, NumberArgument, StatesValues, may_be_left_out, number_rule, option_words}
 use Rattle.command_line.specs.Inner.Found.{HasValues, IsExact}
-use Rattle.fan_out.proofs.Counts.{nearest, nearest_itself}
+use Rattle.fan_out.proofs.Counts.{nearest_itself}
 use Rattle.command_line.proofs.CommandLemmas.{app_is, app_simple}
-use Rattle.command_line.proofs.FrameCounts.{nearest_frames, nearest_frames_itself}
+use Rattle.command_line.proofs.FrameCounts.{nearest_frames_itself}
 use Rattle.command_line.proofs.NumberLemmas.{not_both, number_stated, states_once}
 use Rattle.command_line.proofs.OptionLemmas.{app_with, are_plain_options, is_not, options_spelled, options_taken}
 use Rattle.command_line.proofs.NumberWordLemmas.{are_plain_numbers, numbers_spelled}
@@ -55,45 +55,17 @@ values_once app words (argument ∷ arguments) a [] states other = absurd other
 values_once app words (argument ∷ arguments) (value ∷ values) (value_too ∷ values_too) states other =
     ap₂ (λ (v : ℕ) (vs : List ℕ). v ∷ vs) (states_once app words argument.id value value_too states.0 other.0) (values_once app words arguments values values_too states.1 other.1)
 
--- the command of a name with these values
-made : CommandName → List ℕ → Command
-made name.Grow (workers ∷ choice ∷ values) = Grow (nearest workers) choice
-made name.Grow _ = Grow (nearest 0) 0
-made name.Race (workers ∷ choice ∷ values) = Race (nearest workers) choice
-made name.Race _ = Race (nearest 0) 0
-made name.Report (workers ∷ choice ∷ values) = Report (nearest workers) choice
-made name.Report _ = Report (nearest 0) 0
-made name.Watch (workers ∷ choice ∷ frames ∷ values) = Watch (nearest workers) choice (nearest_frames frames)
-made name.Watch _ = Watch (nearest 0) 0 (nearest_frames 0)
-made name.Batch (workers ∷ values) = Batch (nearest workers)
-made name.Batch _ = Batch (nearest 0)
-made name.Check values = Check
-made name.Replay values = Replay
-made name.Schedule values = Schedule
-made name.Format values = Format
-made name.Upgrade values = Upgrade
-made name.Turing values = Turing
-made name.Quadrant values = Quadrant
-made name.Picture values = Picture
-made name.Certify values = Certify
-made name.Verify (workers ∷ values) = Verify (nearest workers)
-made name.Verify _ = Verify (nearest 0)
-made name.Counter (bits ∷ start ∷ values) = Counter bits start
-made name.Counter _ = Counter 0 0
-made name.Load (number ∷ values) = Load number
-made name.Load _ = Load 0
-
-made_again : (command : Command) → made (name_of command) (values_of command) ≡ command
-unfolding made
-made_again (Grow workers choice) = ap (λ w. Grow w choice) (nearest_itself workers)
-made_again (Race workers choice) = ap (λ w. Race w choice) (nearest_itself workers)
-made_again (Report workers choice) = ap (λ w. Report w choice) (nearest_itself workers)
-made_again (Watch workers choice frames) = ap₂ (λ w f. Watch w choice f) (nearest_itself workers) (nearest_frames_itself frames)
-made_again (Batch workers) = ap (λ w. Batch w) (nearest_itself workers)
-made_again (Verify workers) = ap Verify (nearest_itself workers)
-made_again (Counter bits start) = refl
-made_again (Load number) = refl
-made_again _ = refl
+-- commands that say the same are one; those are told apart that say a number of workers or of frames, which is known by its number
+same_said : (a b : Command) → name_of a ≡ name_of b → values_of a ≡ values_of b → a ≡ b
+same_said (Grow workers choice) (Grow others other) named values = cc (nearest_itself workers, nearest_itself others)
+same_said (Race workers choice) (Race others other) named values = cc (nearest_itself workers, nearest_itself others)
+same_said (Report workers choice) (Report others other) named values = cc (nearest_itself workers, nearest_itself others)
+same_said (Watch workers choice frames) (Watch others other more) named values =
+    cc (nearest_itself workers, nearest_itself others, nearest_frames_itself frames, nearest_frames_itself more)
+same_said (Batch workers) (Batch others) named values = cc (nearest_itself workers, nearest_itself others)
+same_said (Verify workers) (Verify others) named values = cc (nearest_itself workers, nearest_itself others)
+same_said _ (Grow others other) named values = cc
+same_said _ _ named values = cc
 
 -- a name that two names of a list are
 same_name : (words : List Text) (a b : CommandName) → command_named words ≡ Some a → command_named words ≡ Some b → a ≡ b
@@ -105,7 +77,7 @@ one_command : (words : List Text) (a b : Command) → name_of a ≡ name_of b �
 one_command words a b same states other =
     let Stated : CommandName → Type 0 = λ n. StatesValues (command_app n) words (arguments_of n) (values_of b) in
     let values = values_once (command_app (name_of a)) words (arguments_of (name_of a)) (values_of a) (values_of b) states (subst Stated (sym same) other) in
-    sym (made_again a) ∙ ap₂ made same values ∙ made_again b
+    same_said a b same values
 
 -- words call for one command
 pub call_once : (words : List Text) (a b : Command) → IsCallOf words a → IsCallOf words b → a ≡ b
