@@ -1,4 +1,4 @@
--- What is printed of a certificate reads as its entries.
+-- What is printed of a certificate reads as its entries, behind its system's text too.
 use Rattle.std.proofs.Common.{◌≡◌, ◌^◌, ℕ, ◌+◌, ◌≤◌, ◌<◌, List, [], ◌∷◌, ◌++◌, length, map, drop, get_or, slice_get, codes, decimal, All, Some, None, Ok, inr, refl, sym, ap, subst, ◌∙◌, append_assoc, length-append, arith}
 use Rattle.std.specs.Prelude.{flat_map, pos}
 use Rattle.std.specs.Fmt.{signed_decimal}
@@ -20,15 +20,21 @@ use Rattle.atam.specs.Sites.{InBox}
 use Rattle.atam.specs.Placements.{HasDistinctSites, tile_at}
 use Rattle.atam.specs.TileSystem.{TileSystem, IsValid, IsType, type_name}
 use Rattle.atam.proofs.Placements.{distinct-empty}
+use Rattle.tile_text.specs.declared.version.Version.{Version}
 use Rattle.tile_text.specs.Fields.{site_field, type_field, place_field}
+use Rattle.tile_text.specs.Spelling.{end_of_print}
+use Rattle.tile_text.specs.SystemText.{IsSystemOf}
 use Rattle.tile_text.proofs.Boxes.{inside_passes}
 use Rattle.tile_text.proofs.Names.{named_seed, at_seam}
 use Rattle.tile_text.proofs.PlainWords.{plain_seed, name_word, name_short, keyword_word}
+use Rattle.tile_text.proofs.SystemSpelled.{printed_any}
+use Rattle.seq_text.specs.PrintedGrowths.{start_mark}
+use Rattle.seq_text.proofs.Printed.{behind_text}
 use Rattle.cert_check.specs.declared.entry.Entry.{Entry}
 use Rattle.cert_check.specs.Certificates.{places_of}
 use Rattle.cert_text.specs.CertificateLines.{mark_lines, mark_line, sides_word}
 use Rattle.cert_text.specs.CertificateText.{certificate_table, certificate_format, entry_fields, mark_fields, ReadsCertificate}
-use Rattle.cert_text.specs.PrintedCertificates.{MayBePrinted}
+use Rattle.cert_text.specs.PrintedCertificates.{MayBePrinted, ReadsBack, printed_input}
 use Rattle.cert_text.proofs.SidesWords.{sides_told}
 
 abbrev entry_words : TileSystem → Entry → List (List ℕ)
@@ -122,4 +128,14 @@ module _ (sys : TileSystem) (valid : IsValid sys) where
       record {
         to = mark_after (lines_from text from) from (length (lines_from text from));
         reads = inr (record { passed = subst (λ l. Passes format l c) (sym whole) passed; complete = refl; place = refl });
+      }
+
+  -- and behind the text of a version that has the system
+  pub reads_back : (version : Version) → IsSystemOf version sys → (c : List Entry) → MayBePrinted sys c → ReadsBack version sys c
+  reads_back version has c may =
+      let text = printed_input version sys c in
+      let lines = mark_lines sys c in
+      record {
+        system = printed_any version sys text lines start_mark valid has refl;
+        entries = printed_reads c text (end_of_print version sys start_mark) may (behind_text version sys lines);
       }

@@ -1,16 +1,13 @@
 // Laws of certificate texts.
-ghost use Rattle.std.specs.Prelude.{◌≡◌, ◌++◌, ℕ, List, drop};
+ghost use Rattle.std.specs.Prelude.{◌≡◌, ℕ, List, drop};
 ghost use Rattle.tile_io.specs.declared.mark.Mark.{Mark};
 ghost use Rattle.atam.specs.TileSystem.{TileSystem, IsValid};
-ghost use Rattle.tile_text.specs.declared.version.Version.{Version};
 ghost use Rattle.tile_text.specs.declared.version.Version.TheVariants.{Two};
-ghost use Rattle.tile_text.specs.SystemText.{ReadsAny};
-ghost use Rattle.tile_text.specs.Spelling.{spelling, newest_spelling, version_of, end_of_print};
-ghost use Rattle.seq_text.specs.PrintedGrowths.{start_mark};
+ghost use Rattle.tile_text.specs.Spelling.{version_of};
 ghost use Rattle.cert_check.specs.declared.entry.Entry.{Entry};
 ghost use Rattle.cert_text.specs.CertificateLines.{mark_lines};
 ghost use Rattle.cert_text.specs.CertificateText.{ReadsCertificate};
-ghost use Rattle.cert_text.specs.PrintedCertificates.{MayBePrinted};
+ghost use Rattle.cert_text.specs.PrintedCertificates.{MayBePrinted, ReadsBack};
 
 /// The lines of a certificate that fits a valid system read as its entries, to the end of the
 /// text, whatever stands before them. Behind the system's one text, or behind that of the newest
@@ -20,13 +17,7 @@ pub fn law_certificate_reads_printed()
         MayBePrinted sys c → drop from.at text ≡ mark_lines sys c →
         ReadsCertificate sys text from c }
     ensures input { (sys : TileSystem) (c : List Entry) → IsValid sys → MayBePrinted sys c →
-        ReadsAny (spelling sys ++ mark_lines sys c) start_mark sys
-        (end_of_print (version_of sys) sys start_mark)
-        × ReadsCertificate sys (spelling sys ++ mark_lines sys c)
-        (end_of_print (version_of sys) sys start_mark) c }
+        ReadsBack (version_of sys) sys c }
     ensures newest { (sys : TileSystem) (c : List Entry) → IsValid sys → MayBePrinted sys c →
-        ReadsAny (newest_spelling sys ++ mark_lines sys c) start_mark sys
-        (end_of_print Two sys start_mark)
-        × ReadsCertificate sys (newest_spelling sys ++ mark_lines sys c)
-        (end_of_print Two sys start_mark) c }
+        ReadsBack Two sys c }
 {}
