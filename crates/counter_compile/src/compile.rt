@@ -44,9 +44,9 @@ pub fn compile_counter(alloc: Global, bits: u32, start: u64) -> Result<System, C
     Ok(system)
 }
 
-// Tries each reason to refuse a counter.
+/// Tries each reason to refuse a counter.
 #[tactic(auto, using(crate::proofs::Limits::accepted), unfolding(crate::specs::Counters::counter_refusal))]
-fn check_counter(bits: u32, start: u64) -> Result<(), CounterStop>
+pub fn check_counter(bits: u32, start: u64) -> Result<(), CounterStop>
     ensures refusal { refusal_of result ≡ counter_refusal bits start }
     ensures accepted { OnOk result (IsAccepted bits start) }
 {
@@ -62,8 +62,8 @@ fn check_counter(bits: u32, start: u64) -> Result<(), CounterStop>
     Ok(())
 }
 
-// The box of a counter.
-fn box_of(bits: u32, start: u64) -> BoxArea
+/// The box of a counter.
+pub fn box_of(bits: u32, start: u64) -> BoxArea
     requires { IsAccepted bits start }
     ensures value { result ≡ counter_box bits start }
     ensures limits { IsBox result }

@@ -1,13 +1,14 @@
 // The table of a counter.
 ghost use Rattle.std.specs.Prelude.{ℕ, ◌≡◌, ◌-◌, ◌<◌, ◌^◌, ◌++◌, IfOk, map};
 ghost use Rattle.std.specs.List.{range_with_len};
-ghost use Rattle.counter_compile.specs.Tiles.{bit, by_column, chain_east, chain_west, kinds_of, labels_of, shown_bit, sides_of, sum_west};
+ghost use Rattle.counter_compile.specs.Tiles.{bit, by_column, chain_east, chain_west, kinds_of, labels_of, on_side, shown_bit, sides_of, sum_west};
 ghost use Rattle.counter_compile.specs.declared.label.Label.TheVariants.{Bit, BitEast, BitWest};
 
 use crate::kind::{Kind, LATER_KINDS};
 use crate::label::{FIXED_LABELS, Label};
 use atam::Side;
 use std::alloc::Global;
+use table_text::{NamedTable, ShortText, kind_name, label_name};
 use tile_system::NoMemory;
 use tile_table::Table;
 
@@ -18,18 +19,35 @@ pub struct Counter {
     pub start: u64,
 }
 
+impl NamedTable<Kind, Label> for Counter {
+    ghost use Rattle.counter_compile.specs.Tiles.{tiles_of};
+
+    ghost tiles = { λ c. tiles_of c.last c.start };
+
+    fn side(&self, kind: Kind, side: Side) -> Option<Label> {
+        self.label_on(kind, side)
+    }
+
+    fn strength(&self, label: Label) -> u32 {
+        label.strength()
+    }
+
+    fn add_kind_name(&self, text: &mut ShortText, kind: Kind) {
+        kind.add_name(text)
+    }
+
+    fn add_label_name(&self, text: &mut ShortText, label: Label) {
+        label.add_name(text)
+    }
+}
+
 impl Table<Kind, Label> for Counter {
     ghost use Rattle.counter_compile.specs.Tiles.{tiles_of};
 
     ghost tiles = { λ c. tiles_of c.last c.start };
 
     fn side(&self, kind: Kind, side: Side) -> Option<Label> {
-        match side {
-            Side::North => self.north(kind),
-            Side::East => self.east(kind),
-            Side::South => south(kind),
-            Side::West => west(kind),
-        }
+        self.label_on(kind, side)
     }
 
     fn strength(&self, label: Label) -> u32 {
@@ -41,11 +59,11 @@ impl Table<Kind, Label> for Counter {
     }
 
     fn kind_name(&self, alloc: Global, kind: Kind) -> Result<Vec<u8>, NoMemory> {
-        Ok(format!(in alloc; "{kind}")?.into_bytes())
+        kind_name(alloc, self, kind)
     }
 
     fn label_name(&self, alloc: Global, label: Label) -> Result<Vec<u8>, NoMemory> {
-        Ok(format!(in alloc; "{label}")?.into_bytes())
+        label_name(alloc, self, label)
     }
 }
 
@@ -92,6 +110,18 @@ impl Counter {
         ensures { result ≡ bit (self.now.last - column) self.now.start }
     {
         has_bit(self.start, self.last.saturating_sub(column))
+    }
+
+    // The label on a side of a kind.
+    fn label_on(&self, kind: Kind, side: Side) -> Option<Label>
+        ensures { result ≡ on_side (sides_of self.now.last self.now.start kind) side }
+    {
+        match side {
+            Side::North => self.north(kind),
+            Side::East => self.east(kind),
+            Side::South => south(kind),
+            Side::West => west(kind),
+        }
     }
 
     fn north(&self, kind: Kind) -> Option<Label>

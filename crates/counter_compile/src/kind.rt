@@ -1,8 +1,9 @@
 // The kinds of a counter's tiles.
-ghost use Rattle.std.specs.Prelude.{◌≡◌};
-ghost use Rattle.counter_compile.specs.Tiles.{digit};
+ghost use Rattle.std.specs.Prelude.{◌≡◌, ◌≤◌, ◌+◌, ◌++◌, length, decimal};
+ghost use Rattle.table_text.specs.declared.short_text.TheConstants.{SHORT_ROOM};
+ghost use Rattle.counter_compile.specs.Tiles.{digit, kind_name};
 
-use std::fmt;
+use table_text::ShortText;
 
 /// A kind of tile, by its row, its column and the bits that it takes.
 #[derive(Clone, Copy, Debug, PartialEq, Eq)]
@@ -43,23 +44,44 @@ pub const LATER_KINDS: [Kind; 16] = [
     Kind::CopyEast(true),
 ];
 
-impl fmt::Display for Kind {
-    ghost use Rattle.std.specs.Prelude.{Some};
-    ghost use Rattle.counter_compile.specs.Tiles.{kind_name};
-
-    ghost output = { λ kind. Some (kind_name kind) };
-
-    fn fmt<W: fmt::Write>(&self, f: &mut fmt::Formatter<W>) -> fmt::Result {
-        match *self {
-            Kind::First(column) => write!(f, "t:{column}"),
-            Kind::AddEast(bit) => write!(f, "ie:{}", digit(bit)),
-            Kind::AddMiddle(bit, carry) => write!(f, "im:{}{}", digit(bit), digit(carry)),
-            Kind::AddWest(bit, carry) => write!(f, "iw:{}{}", digit(bit), digit(carry)),
-            Kind::CopyWest(bit) => write!(f, "cw:{}", digit(bit)),
-            Kind::CopyMiddle(bit) => write!(f, "cm:{}", digit(bit)),
-            Kind::CopyEast(bit) => write!(f, "ce:{}", digit(bit)),
+impl Kind {
+    /// Adds the name to a text.
+    pub fn add_name(self, text: &mut ShortText)
+        requires { length text.old + length (kind_name self) ≤ SHORT_ROOM }
+        ensures { text.new ≡ text.old ++ kind_name self }
+    {
+        match self {
+            Kind::First(column) => {
+                text.add(b"t:");
+                text.add_number(column);
+            }
+            Kind::AddEast(bit) => add_with_bit(text, b"ie:", bit),
+            Kind::AddMiddle(bit, carry) => add_with_bits(text, b"im:", bit, carry),
+            Kind::AddWest(bit, carry) => add_with_bits(text, b"iw:", bit, carry),
+            Kind::CopyWest(bit) => add_with_bit(text, b"cw:", bit),
+            Kind::CopyMiddle(bit) => add_with_bit(text, b"cm:", bit),
+            Kind::CopyEast(bit) => add_with_bit(text, b"ce:", bit),
         }
     }
+}
+
+/// Adds a piece and the digit of a bit.
+pub fn add_with_bit(text: &mut ShortText, piece: &[u8], bit: bool)
+    requires { length text.old + (length piece.now + length (decimal (digit bit))) ≤ SHORT_ROOM }
+    ensures { text.new ≡ text.old ++ (piece.now ++ decimal (digit bit)) }
+{
+    text.add(piece);
+    text.add_number(u32::from(digit(bit)));
+}
+
+// Adds a piece and the digits of two bits.
+fn add_with_bits(text: &mut ShortText, piece: &[u8], bit: bool, carry: bool)
+    requires { length text.old + (length piece.now + length (decimal (digit bit)) + length (decimal (digit carry)))
+        ≤ SHORT_ROOM }
+    ensures { text.new ≡ text.old ++ (piece.now ++ decimal (digit bit) ++ decimal (digit carry)) }
+{
+    add_with_bit(text, piece, bit);
+    text.add_number(u32::from(digit(carry)));
 }
 
 /// 1 for true, 0 for false.

@@ -1,10 +1,11 @@
 // The labels on a counter's tiles.
-ghost use Rattle.std.specs.Prelude.{◌≡◌, ◌<◌};
+ghost use Rattle.std.specs.Prelude.{◌≡◌, ◌<◌, ◌≤◌, ◌+◌, ◌++◌, length};
 ghost use Rattle.atam.specs.declared.limits.TheConstants.{MOST_GLUES};
-ghost use Rattle.counter_compile.specs.Tiles.{label_number, strength};
+ghost use Rattle.table_text.specs.declared.short_text.TheConstants.{SHORT_ROOM};
+ghost use Rattle.counter_compile.specs.Tiles.{label_name, label_number, strength};
 
-use crate::kind::digit;
-use std::fmt;
+use crate::kind::{add_with_bit, digit};
+use table_text::ShortText;
 
 /// A label, by where it is and the bit that it stands for.
 #[derive(Clone, Copy, Debug, PartialEq, Eq)]
@@ -70,24 +71,24 @@ impl Label {
             Label::Chain(column) => 12 + column,
         }
     }
-}
 
-impl fmt::Display for Label {
-    ghost use Rattle.std.specs.Prelude.{Some};
-    ghost use Rattle.counter_compile.specs.Tiles.{label_name};
-
-    ghost output = { λ label. Some (label_name label) };
-
-    fn fmt<W: fmt::Write>(&self, f: &mut fmt::Formatter<W>) -> fmt::Result {
-        match *self {
-            Label::BitWest(bit) => write!(f, "w{}", digit(bit)),
-            Label::Bit(bit) => write!(f, "v{}", digit(bit)),
-            Label::BitEast(bit) => write!(f, "e{}", digit(bit)),
-            Label::SumEast(bit) => write!(f, "x{}", digit(bit)),
-            Label::Carry(bit) => write!(f, "c{}", digit(bit)),
-            Label::SumWest(bit) => write!(f, "t{}", digit(bit)),
-            Label::GoAhead => write!(f, "k"),
-            Label::Chain(column) => write!(f, "p:{column}"),
+    /// Adds the name to a text.
+    pub fn add_name(self, text: &mut ShortText)
+        requires { length text.old + length (label_name self) ≤ SHORT_ROOM }
+        ensures { text.new ≡ text.old ++ label_name self }
+    {
+        match self {
+            Label::BitWest(bit) => add_with_bit(text, b"w", bit),
+            Label::Bit(bit) => add_with_bit(text, b"v", bit),
+            Label::BitEast(bit) => add_with_bit(text, b"e", bit),
+            Label::SumEast(bit) => add_with_bit(text, b"x", bit),
+            Label::Carry(bit) => add_with_bit(text, b"c", bit),
+            Label::SumWest(bit) => add_with_bit(text, b"t", bit),
+            Label::GoAhead => text.add(b"k"),
+            Label::Chain(column) => {
+                text.add(b"p:");
+                text.add_number(column);
+            }
         }
     }
 }

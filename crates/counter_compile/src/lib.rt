@@ -9,8 +9,10 @@ mod label;
 mod laws;
 mod rows;
 mod stop;
+mod tiles;
 
 pub use compile::compile_counter;
 pub use laws::law_counter;
 pub use rows::row_value;
 pub use stop::CounterStop;
+pub use tiles::CounterTiles;

@@ -3,12 +3,13 @@ ghost use Rattle.std.specs.Prelude.{◌≡◌, IfOk};
 ghost use Rattle.quadrant_compile.specs.Woven.{area_of, woven};
 
 use crate::listing::{kinds, labels};
-use crate::names::{kind_name, label_name};
+use crate::names::{add_kind_name, add_label_name};
 use crate::quadrant::Quadrant;
 use crate::table::{label_number, label_on, strength};
 use crate::tile::{Kind, Label};
 use atam::{BoxArea, Side};
 use std::alloc::Global;
+use table_text::{NamedTable, ShortText, kind_name, label_name};
 use tile_system::{NoMemory, System};
 use tile_table::{Table, build_system};
 
@@ -34,8 +35,33 @@ pub fn compile_quadrant(alloc: Global, quadrant: &Quadrant) -> Result<System, No
 
 // The table of a quadrant.
 #[derive(Drop)]
-struct QuadrantTable<'a> {
-    quadrant: &'a Quadrant,
+pub(crate) struct QuadrantTable<'a> {
+    pub(crate) quadrant: &'a Quadrant,
+}
+
+impl<'a> NamedTable<Kind, Label> for QuadrantTable<'a> {
+    ghost use Rattle.quadrant_compile.specs.Woven.{tiles_of};
+
+    ghost tiles = { λ t. tiles_of t.quadrant.now };
+
+    fn side(&self, kind: Kind, side: Side) -> Option<Label> {
+        prove!(self.quadrant.symbols() > 0);
+        label_on(self.quadrant, kind, side)
+    }
+
+    fn strength(&self, label: Label) -> u32 {
+        strength(label)
+    }
+
+    fn add_kind_name(&self, text: &mut ShortText, kind: Kind) {
+        prove!(self.quadrant.symbols() > 0);
+        add_kind_name(text, self.quadrant, kind)
+    }
+
+    fn add_label_name(&self, text: &mut ShortText, label: Label) {
+        prove!(self.quadrant.symbols() > 0);
+        add_label_name(text, self.quadrant, label)
+    }
 }
 
 impl<'a> Table<Kind, Label> for QuadrantTable<'a> {
@@ -59,17 +85,17 @@ impl<'a> Table<Kind, Label> for QuadrantTable<'a> {
 
     fn kind_name(&self, alloc: Global, kind: Kind) -> Result<Vec<u8>, NoMemory> {
         prove!(self.quadrant.symbols() > 0);
-        kind_name(alloc, self.quadrant, kind)
+        kind_name(alloc, self, kind)
     }
 
     fn label_name(&self, alloc: Global, label: Label) -> Result<Vec<u8>, NoMemory> {
         prove!(self.quadrant.symbols() > 0);
-        label_name(alloc, self.quadrant, label)
+        label_name(alloc, self, label)
     }
 }
 
 // The box of the borders and the cells.
-fn area(quadrant: &Quadrant) -> BoxArea
+pub(crate) fn area(quadrant: &Quadrant) -> BoxArea
     ensures { result ≡ area_of quadrant.now }
 {
     prove!(quadrant.symbols() > 0);

@@ -18,6 +18,7 @@ mod ruled;
 mod table;
 mod take;
 mod tile;
+mod tiles;
 
 pub use cells::cell_at;
 pub use compiler::compile_quadrant;
@@ -26,3 +27,4 @@ pub use limits::{LONGEST_SIDE, MOST_SYMBOLS};
 pub use quadrant::Quadrant;
 pub use reader::read_quadrant;
 pub use rule::{Answer, Rule};
+pub use tiles::QuadrantTiles;

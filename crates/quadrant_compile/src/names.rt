@@ -1,78 +1,71 @@
 // The names of kinds and labels.
-ghost use Rattle.std.specs.Prelude.{◌≡◌, ◌<◌, ◌∷◌, ◌++◌, codes, decimal, length, IfOk};
+ghost use Rattle.std.specs.Prelude.{◌≡◌, ◌≤◌, ◌<◌, ◌+◌, ◌∷◌, ◌++◌, codes, decimal, length};
 ghost use Rattle.quadrant_compile.specs.Woven.{kind_name, label_name, symbol_name};
 ghost use Rattle.quadrant_compile.specs.Inner.Members.{IsKind, IsLabel};
 ghost use Rattle.quadrant_compile.specs.Weaves.{IsWeave};
+ghost use Rattle.table_text.specs.declared.short_text.TheConstants.{SHORT_ROOM};
 
 use crate::quadrant::Quadrant;
 use crate::tile::{Kind, Label};
-use itoa::Buffer;
-use std::alloc::Global;
-use tile_system::NoMemory;
+use table_text::ShortText;
 
-// Room for most names.
-const NAME_ROOM: usize = 16;
-
-/// The name of a kind.
-pub(crate) fn kind_name(alloc: Global, quadrant: &Quadrant, kind: Kind) -> Result<Vec<u8>, NoMemory>
+/// Adds the name of a kind to a text.
+pub(crate) fn add_kind_name(text: &mut ShortText, quadrant: &Quadrant, kind: Kind)
     requires valid { IsWeave quadrant.now }
     requires kind { IsKind quadrant.now kind }
-    ensures { IfOk result (λ name. name.items ≡ kind_name quadrant.now kind) }
+    requires room { length text.old + length (kind_name quadrant.now kind) ≤ SHORT_ROOM }
+    ensures { text.new ≡ text.old ++ kind_name quadrant.now kind }
 {
     match kind {
-        Kind::Corner => Ok(Vec::from_slice(alloc, b"o")?),
-        Kind::Bottom { column } => numbered(alloc, b'b', column),
-        Kind::Left { row } => numbered(alloc, b'a', row),
-        Kind::Cell { west, south } => paired(alloc, quadrant, west, south),
+        Kind::Corner => text.add(b"o"),
+        Kind::Bottom { column } => add_numbered(text, b'b', column),
+        Kind::Left { row } => add_numbered(text, b'a', row),
+        Kind::Cell { west, south } => add_paired(text, quadrant, west, south),
     }
 }
 
-/// The name of a label.
-pub(crate) fn label_name(
-    alloc: Global,
-    quadrant: &Quadrant,
-    label: Label,
-) -> Result<Vec<u8>, NoMemory>
-    requires { IsLabel quadrant.now label }
-    ensures { IfOk result (λ name. name.items ≡ label_name quadrant.now label) }
+/// Adds the name of a label to a text.
+pub(crate) fn add_label_name(text: &mut ShortText, quadrant: &Quadrant, label: Label)
+    requires label { IsLabel quadrant.now label }
+    requires room { length text.old + length (label_name quadrant.now label) ≤ SHORT_ROOM }
+    ensures { text.new ≡ text.old ++ label_name quadrant.now label }
 {
     match label {
-        Label::Eastward { symbol } => prefixed(alloc, b'h', symbol_name(quadrant, symbol)),
-        Label::Northward { symbol } => prefixed(alloc, b'v', symbol_name(quadrant, symbol)),
-        Label::Column { column } => numbered(alloc, b'b', column),
-        Label::Row { row } => numbered(alloc, b'a', row),
+        Label::Eastward { symbol } => add_prefixed(text, b'h', symbol_name(quadrant, symbol)),
+        Label::Northward { symbol } => add_prefixed(text, b'v', symbol_name(quadrant, symbol)),
+        Label::Column { column } => add_numbered(text, b'b', column),
+        Label::Row { row } => add_numbered(text, b'a', row),
     }
 }
 
-// The letter, a colon and the text.
-fn prefixed(alloc: Global, letter: u8, text: &[u8]) -> Result<Vec<u8>, NoMemory>
-    ensures { IfOk result (λ name. name.items ≡ letter ∷ codes ":" ++ text.now) }
+// Adds the letter, a colon and the name.
+fn add_prefixed(text: &mut ShortText, letter: u8, name: &[u8])
+    requires { length text.old + (2 + length name.now) ≤ SHORT_ROOM }
+    ensures { text.new ≡ text.old ++ (letter ∷ 58 ∷ name.now) }
 {
-    let mut name = Vec::with_capacity(alloc, NAME_ROOM)?;
-    name.push(letter)?;
-    name.push(b':')?;
-    name.extend_from_slice(text)?;
-    Ok(name)
+    text.add(&[letter, b':']);
+    text.add(name);
 }
 
-fn numbered(alloc: Global, letter: u8, number: u32) -> Result<Vec<u8>, NoMemory>
-    ensures { IfOk result (λ name. name.items ≡ letter ∷ codes ":" ++ decimal number) }
+fn add_numbered(text: &mut ShortText, letter: u8, number: u32)
+    requires { length text.old + (2 + length (decimal number)) ≤ SHORT_ROOM }
+    ensures { text.new ≡ text.old ++ (letter ∷ 58 ∷ decimal number) }
 {
-    let mut buffer = Buffer::new();
-    let text = buffer.format(number).as_bytes();
-    prefixed(alloc, letter, text)
+    text.add(&[letter, b':']);
+    text.add_number(number);
 }
 
-fn paired(alloc: Global, quadrant: &Quadrant, west: u32, south: u32) -> Result<Vec<u8>, NoMemory>
+fn add_paired(text: &mut ShortText, quadrant: &Quadrant, west: u32, south: u32)
     requires west { west < length quadrant.now.symbols }
     requires south { south < length quadrant.now.symbols }
-    ensures { IfOk result (λ name. name.items
-        ≡ codes "q:" ++ (symbol_name quadrant.now west ++ codes ":" ++ symbol_name quadrant.now south)) }
+    requires room { length text.old
+        + (3 + length (symbol_name quadrant.now west) + length (symbol_name quadrant.now south)) ≤ SHORT_ROOM }
+    ensures { text.new ≡ text.old
+        ++ (codes "q:" ++ (symbol_name quadrant.now west ++ codes ":" ++ symbol_name quadrant.now south)) }
 {
-    let mut name = prefixed(alloc, b'q', symbol_name(quadrant, west))?;
-    name.push(b':')?;
-    name.extend_from_slice(symbol_name(quadrant, south))?;
-    Ok(name)
+    add_prefixed(text, b'q', symbol_name(quadrant, west));
+    text.add(b":");
+    text.add(symbol_name(quadrant, south));
 }
 
 #[tactic(auto, using(std::proofs::lemmas::Option::get_or_from_slice_get))]

@@ -6,12 +6,13 @@ ghost use Rattle.turing_compile.specs.Inner.Counts.{AreRuleCounts};
 
 use crate::kind::{Kind, Label};
 use crate::listing::{kinds, labels};
-use crate::names::{kind_name, label_name};
+use crate::names::{add_kind_name, add_label_name};
 use crate::numbers::{RuleCounts, count_rules, label_number};
 use crate::table::{label_on, row_of_kind, strength};
 use atam::{BoxArea, Side};
 use machine_text::Machine;
 use std::alloc::Global;
+use table_text::{NamedTable, ShortText, kind_name, label_name};
 use tile_system::{NoMemory, System};
 use tile_table::{Table, build_system};
 
@@ -35,6 +36,38 @@ pub fn compile(alloc: Global, machine: &Machine) -> Result<System, NoMemory>
         seed,
         area(machine),
     )
+}
+
+// What the text of a machine's table is made of.
+#[derive(Drop)]
+pub struct MachineNames<'a> {
+    pub machine: &'a Machine,
+}
+
+impl<'a> NamedTable<Kind, Label> for MachineNames<'a> {
+    ghost use Rattle.turing_compile.specs.Compiled.{tiles_of};
+
+    ghost tiles = { λ t. tiles_of t.machine.now };
+
+    fn side(&self, kind: Kind, side: Side) -> Option<Label> {
+        prove!(self.machine.states() > 0);
+        let row = row_of_kind(self.machine, kind)?;
+        label_on(row, side)
+    }
+
+    fn strength(&self, label: Label) -> u32 {
+        strength(label)
+    }
+
+    fn add_kind_name(&self, text: &mut ShortText, kind: Kind) {
+        prove!(self.machine.states() > 0);
+        add_kind_name(text, self.machine, kind)
+    }
+
+    fn add_label_name(&self, text: &mut ShortText, label: Label) {
+        prove!(self.machine.states() > 0);
+        add_label_name(text, self.machine, label)
+    }
 }
 
 // The table of a machine.
@@ -67,17 +100,23 @@ impl<'a> Table<Kind, Label> for MachineTable<'a> {
 
     fn kind_name(&self, alloc: Global, kind: Kind) -> Result<Vec<u8>, NoMemory> {
         prove!(self.machine.states() > 0);
-        kind_name(alloc, self.machine, kind)
+        let names = MachineNames {
+            machine: self.machine,
+        };
+        kind_name(alloc, &names, kind)
     }
 
     fn label_name(&self, alloc: Global, label: Label) -> Result<Vec<u8>, NoMemory> {
         prove!(self.machine.states() > 0);
-        label_name(alloc, self.machine, label)
+        let names = MachineNames {
+            machine: self.machine,
+        };
+        label_name(alloc, &names, label)
     }
 }
 
 // The box of the machine's cells and rows.
-fn area(machine: &Machine) -> BoxArea
+pub fn area(machine: &Machine) -> BoxArea
     ensures { result ≡ area_of machine.now }
 {
     prove!(machine.states() > 0);

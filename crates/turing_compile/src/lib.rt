@@ -9,7 +9,9 @@ mod names;
 mod numbers;
 mod reading;
 mod table;
+mod tiles;
 
 pub use compiler::compile;
 pub use laws::{law_run, law_valid};
 pub use reading::row_config;
+pub use tiles::MachineTiles;

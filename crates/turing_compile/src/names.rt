@@ -1,86 +1,76 @@
 // The names of kinds and labels.
-ghost use Rattle.std.specs.Prelude.{◌≡◌, ◌<◌, ◌∷◌, ◌++◌, codes, decimal, length, IfOk};
+ghost use Rattle.std.specs.Prelude.{◌≡◌, ◌≤◌, ◌<◌, ◌+◌, ◌∷◌, ◌++◌, decimal, length};
 ghost use Rattle.turing_compile.specs.Compiled.{kind_name, label_name, pair_name, state_name, symbol_name};
 ghost use Rattle.turing_compile.specs.Inner.Members.{IsKind, IsLabel};
 ghost use Rattle.machine_text.specs.Machines.{IsMachine};
+ghost use Rattle.table_text.specs.declared.short_text.TheConstants.{SHORT_ROOM};
 
 use crate::kind::{Kind, Label};
-use itoa::Buffer;
 use machine_text::Machine;
-use std::alloc::Global;
-use tile_system::NoMemory;
+use table_text::ShortText;
 
-// Room for most names.
-const NAME_ROOM: usize = 16;
-
-/// The name of a kind.
-pub fn kind_name(alloc: Global, machine: &Machine, kind: Kind) -> Result<Vec<u8>, NoMemory>
+/// Adds the name of a kind to a text.
+pub fn add_kind_name(text: &mut ShortText, machine: &Machine, kind: Kind)
     requires valid { IsMachine machine.now }
     requires kind { IsKind machine.now kind }
-    ensures { IfOk result (λ name. name.items ≡ kind_name machine.now kind) }
+    requires room { length text.old + length (kind_name machine.now kind) ≤ SHORT_ROOM }
+    ensures { text.new ≡ text.old ++ kind_name machine.now kind }
 {
     match kind {
-        Kind::First { cell } => numbered(alloc, b't', cell),
-        Kind::Action { state, symbol } => paired(alloc, machine, b'a', state, symbol),
-        Kind::FromLeft { state, symbol } => paired(alloc, machine, b'R', state, symbol),
-        Kind::FromRight { state, symbol } => paired(alloc, machine, b'L', state, symbol),
-        Kind::RightOf { symbol } => prefixed(alloc, b'r', symbol_name(machine, symbol)),
-        Kind::LeftOf { symbol } => prefixed(alloc, b'l', symbol_name(machine, symbol)),
+        Kind::First { cell } => add_numbered(text, b't', cell),
+        Kind::Action { state, symbol } => add_paired(text, machine, b'a', state, symbol),
+        Kind::FromLeft { state, symbol } => add_paired(text, machine, b'R', state, symbol),
+        Kind::FromRight { state, symbol } => add_paired(text, machine, b'L', state, symbol),
+        Kind::RightOf { symbol } => add_prefixed(text, b'r', symbol_name(machine, symbol)),
+        Kind::LeftOf { symbol } => add_prefixed(text, b'l', symbol_name(machine, symbol)),
     }
 }
 
-/// The name of a label.
-pub fn label_name(alloc: Global, machine: &Machine, label: Label) -> Result<Vec<u8>, NoMemory>
+/// Adds the name of a label to a text.
+pub fn add_label_name(text: &mut ShortText, machine: &Machine, label: Label)
     requires valid { IsMachine machine.now }
     requires label { IsLabel machine.now label }
-    ensures { IfOk result (λ name. name.items ≡ label_name machine.now label) }
+    requires room { length text.old + length (label_name machine.now label) ≤ SHORT_ROOM }
+    ensures { text.new ≡ text.old ++ label_name machine.now label }
 {
     match label {
-        Label::Symbol { symbol } => prefixed(alloc, b's', symbol_name(machine, symbol)),
-        Label::Acting { state, symbol } => paired(alloc, machine, b'h', state, symbol),
-        Label::Rightward => Ok(Vec::from_slice(alloc, b"r")?),
-        Label::Leftward => Ok(Vec::from_slice(alloc, b"l")?),
-        Label::HeadRightward { state } => prefixed(alloc, b'R', state_name(machine, state)),
-        Label::HeadLeftward { state } => prefixed(alloc, b'L', state_name(machine, state)),
-        Label::Joint { cell } => numbered(alloc, b'c', cell),
+        Label::Symbol { symbol } => add_prefixed(text, b's', symbol_name(machine, symbol)),
+        Label::Acting { state, symbol } => add_paired(text, machine, b'h', state, symbol),
+        Label::Rightward => text.add(b"r"),
+        Label::Leftward => text.add(b"l"),
+        Label::HeadRightward { state } => add_prefixed(text, b'R', state_name(machine, state)),
+        Label::HeadLeftward { state } => add_prefixed(text, b'L', state_name(machine, state)),
+        Label::Joint { cell } => add_numbered(text, b'c', cell),
     }
 }
 
-// The letter, a colon and the text.
-fn prefixed(alloc: Global, letter: u8, text: &[u8]) -> Result<Vec<u8>, NoMemory>
-    ensures { IfOk result (λ name. name.items ≡ letter ∷ codes ":" ++ text.now) }
+// Adds the letter, a colon and the name.
+fn add_prefixed(text: &mut ShortText, letter: u8, name: &[u8])
+    requires { length text.old + (2 + length name.now) ≤ SHORT_ROOM }
+    ensures { text.new ≡ text.old ++ (letter ∷ 58 ∷ name.now) }
 {
-    let mut name = Vec::with_capacity(alloc, NAME_ROOM)?;
-    name.push(letter)?;
-    name.push(b':')?;
-    name.extend_from_slice(text)?;
-    Ok(name)
+    text.add(&[letter, b':']);
+    text.add(name);
 }
 
-fn numbered(alloc: Global, letter: u8, number: u32) -> Result<Vec<u8>, NoMemory>
-    ensures { IfOk result (λ name. name.items ≡ letter ∷ codes ":" ++ decimal number) }
+fn add_numbered(text: &mut ShortText, letter: u8, number: u32)
+    requires { length text.old + (2 + length (decimal number)) ≤ SHORT_ROOM }
+    ensures { text.new ≡ text.old ++ (letter ∷ 58 ∷ decimal number) }
 {
-    let mut buffer = Buffer::new();
-    let text = buffer.format(number).as_bytes();
-    prefixed(alloc, letter, text)
+    text.add(&[letter, b':']);
+    text.add_number(number);
 }
 
-fn paired(
-    alloc: Global,
-    machine: &Machine,
-    letter: u8,
-    state: u32,
-    symbol: u32,
-) -> Result<Vec<u8>, NoMemory>
+fn add_paired(text: &mut ShortText, machine: &Machine, letter: u8, state: u32, symbol: u32)
     requires state { state < length machine.now.states }
     requires symbol { symbol < length machine.now.symbols }
-    ensures { IfOk result (λ name. name.items
-        ≡ letter ∷ codes ":" ++ pair_name machine.now state symbol) }
+    requires room { length text.old
+        + (3 + length (state_name machine.now state) + length (symbol_name machine.now symbol)) ≤ SHORT_ROOM }
+    ensures { text.new ≡ text.old ++ (letter ∷ 58 ∷ pair_name machine.now state symbol) }
 {
-    let mut name = prefixed(alloc, letter, state_name(machine, state))?;
-    name.push(b':')?;
-    name.extend_from_slice(symbol_name(machine, symbol))?;
-    Ok(name)
+    add_prefixed(text, letter, state_name(machine, state));
+    text.add(b":");
+    text.add(symbol_name(machine, symbol));
 }
 
 #[tactic(auto, using(std::proofs::lemmas::Option::get_or_from_slice_get))]

@@ -1,0 +1,2 @@
+pub mod TableSpelled
+pub mod Lines
