@@ -1,10 +1,11 @@
 -- A counter that is not refused is within all limits, and its names are distinct.
-use Rattle.std.proofs.Common.{◌≡◌, ◌≢◌, ◌⊎◌, ◌≤◌, ◌+◌, ◌-◌, ◌^◌, ℕ, suc, not, ◌&&◌, nat_le, nat_lt, cond, Bool, true, false, List, length, length-append, map, get_or, Option, Some, None, bytes_eq, codes, zero-le, refl, sym, ◌∙◌, ap, subst, inl, inr, arith}
+use Rattle.std.proofs.Common.{◌≡◌, ◌≢◌, ◌⊎◌, ◌≤◌, ◌+◌, ◌-◌, ◌^◌, ℕ, suc, ◌∷◌, decimal, ◌<◌, not, ◌&&◌, nat_le, nat_lt, cond, Bool, true, false, List, length, length-append, map, get_or, Option, Some, None, bytes_eq, codes, zero-le, refl, sym, ◌∙◌, ap, subst, inl, inr, arith}
 use Rattle.std.specs.Prelude.{find}
 use Rattle.std.specs.Fmt.{digits}
 use Rattle.std.specs.List.{range_with_len}
 use Rattle.std.proofs.lemmas.Bool.Decides.{nat_tests}
 use Rattle.std.proofs.lemmas.Option.{none-some, same_Some}
+use Rattle.std.proofs.lemmas.Fmt.{length-decimal-le}
 use Rattle.std.proofs.lemmas.List.{length-map}
 use Rattle.std.proofs.lemmas.List.FromFn.{length-map-range_with_len}
 use Rattle.atam.specs.declared.limits.TheConstants.{MOST_STRENGTH}
@@ -14,6 +15,7 @@ use Rattle.atam.specs.TileSystem.{IsName, is_name, IsValid}
 use Rattle.design.specs.TileSets.{IsWithinLimits, cell_site, glue_of, tile_type}
 use Rattle.design.proofs.Validity.{is_valid}
 use Rattle.tile_table.proofs.Names.{numbered_name, numbered_apart}
+use Rattle.tile_text.proofs.PlainWords.{name_short}
 use Rattle.counter_compile.specs.declared.kind.Kind.{Kind}
 use Rattle.counter_compile.specs.declared.kind.Kind.TheVariants.{First, AddEast, AddMiddle, AddWest, CopyWest, CopyMiddle, CopyEast}
 use Rattle.counter_compile.specs.declared.kind.TheConstants.{LATER_KINDS}
@@ -160,6 +162,32 @@ label_named last small (SumWest false) within = refl
 label_named last small (SumWest true) within = refl
 label_named last small GoAhead within = refl
 label_named last small (Chain i) within = let most = within.1 in numbered_name (codes "p:") i (omega (arith, small, most)) (omega arith) refl
+
+-- names are short, however many columns there are
+within_room : (name : List ℕ) → IsName name → length name ≤ 256
+within_room name named = let short = name_short name named in omega (arith, short)
+
+numbered_room : (letter n : ℕ) → n < 2 ^ 32 → length (letter ∷ 58 ∷ decimal n) ≤ 256
+numbered_room letter n small = let few : length (decimal n) ≤ 10 = length-decimal-le 10 n (omega arith) (omega (arith, small)) (omega (arith, small)) in omega (arith, few)
+
+pub kind_short : (last : ℕ) → last < 2 ^ 32 → (k : Kind) → IsKind last k → length (kind_name k) ≤ 256
+kind_short last small (First i) within = numbered_room 116 i (omega (arith, small, within))
+kind_short last small (AddEast b) within = within_room (kind_name (AddEast b)) (kind_named 0 zero-le (AddEast b) tt)
+kind_short last small (AddMiddle b c) within = within_room (kind_name (AddMiddle b c)) (kind_named 0 zero-le (AddMiddle b c) tt)
+kind_short last small (AddWest b c) within = within_room (kind_name (AddWest b c)) (kind_named 0 zero-le (AddWest b c) tt)
+kind_short last small (CopyWest b) within = within_room (kind_name (CopyWest b)) (kind_named 0 zero-le (CopyWest b) tt)
+kind_short last small (CopyMiddle b) within = within_room (kind_name (CopyMiddle b)) (kind_named 0 zero-le (CopyMiddle b) tt)
+kind_short last small (CopyEast b) within = within_room (kind_name (CopyEast b)) (kind_named 0 zero-le (CopyEast b) tt)
+
+pub label_short : (last : ℕ) → last < 2 ^ 32 → (g : Label) → IsLabel last g → length (label_name g) ≤ 256
+label_short last small (BitWest b) within = within_room (label_name (BitWest b)) (label_named 0 zero-le (BitWest b) tt)
+label_short last small (Bit b) within = within_room (label_name (Bit b)) (label_named 0 zero-le (Bit b) tt)
+label_short last small (BitEast b) within = within_room (label_name (BitEast b)) (label_named 0 zero-le (BitEast b) tt)
+label_short last small (SumEast b) within = within_room (label_name (SumEast b)) (label_named 0 zero-le (SumEast b) tt)
+label_short last small (Carry b) within = within_room (label_name (Carry b)) (label_named 0 zero-le (Carry b) tt)
+label_short last small (SumWest b) within = within_room (label_name (SumWest b)) (label_named 0 zero-le (SumWest b) tt)
+label_short last small GoAhead within = within_room (label_name GoAhead) (label_named 0 zero-le GoAhead tt)
+label_short last small (Chain i) within = let most = within.1 in numbered_room 112 i (omega (arith, small, most))
 
 weak : (g : Label) → strength g ≤ MOST_STRENGTH
 weak (BitWest b) = omega arith

@@ -59,10 +59,12 @@ impl Table<Kind, Label> for Counter {
     }
 
     fn kind_name(&self, alloc: Global, kind: Kind) -> Result<Vec<u8>, NoMemory> {
+        prove!(self.last <= u32::MAX);
         kind_name(alloc, self, kind)
     }
 
     fn label_name(&self, alloc: Global, label: Label) -> Result<Vec<u8>, NoMemory> {
+        prove!(self.last <= u32::MAX);
         label_name(alloc, self, label)
     }
 }
