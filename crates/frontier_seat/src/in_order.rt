@@ -5,6 +5,7 @@ ghost use Rattle.atam.specs.Growth.{IsClosedInBox, IsFullGrowth};
 ghost use Rattle.atam.specs.Canonical.{IsCanonical};
 ghost use Rattle.assembly.specs.Cells.{cell_count};
 ghost use Rattle.number_set.specs.Numbers.{IsIn};
+ghost use Rattle.type_index.specs.Indexes.{IsIndexOf};
 ghost use Rattle.frontier_seat.specs.Inner.Fillings.{GrewInOrder, IsFilling, ListsOn, MayFill};
 ghost use Rattle.frontier_seat.specs.Inner.Listings.{AreEmptySites, IsSpot};
 ghost use Rattle.frontier_seat.specs.Inner.Looks.{IsClosedBut};
@@ -18,6 +19,7 @@ use crate::work_list::{Spot, WorkList};
 use assembly::{Grid, PlaceLog, Row, Sequence, put_seeds};
 use std::alloc::Global;
 use tile_system::{NoMemory, Place, System};
+use type_index::TypeIndex;
 
 // Looks at one empty site that is listed no longer. A type that attaches there fills it, and the
 // tile is logged.
@@ -107,12 +109,28 @@ pub fn fill_least_first<C: Chooser>(
     ensures full { IfOk result (λ r. IsFullGrowth sys.now r.0.tiles) }
     ensures order { IfOk result (λ r. IsCanonical sys.now r.0.tiles r.1) }
 {
+    let types = TypeIndex::build(alloc, sys)?;
+    fill_least_first_by_index(alloc, sys, &types, chooser)
+}
+
+/// The same where an index of the types is lent.
+pub fn fill_least_first_by_index<C: Chooser>(
+    alloc: Global,
+    sys: &System,
+    types: &TypeIndex,
+    chooser: &mut C,
+) -> Result<(Grid, Sequence), NoMemory>
+    requires { IsIndexOf sys.now types.now }
+    ensures area { IfOk result (λ r. r.0.area ≡ sys.now.area) }
+    ensures full { IfOk result (λ r. IsFullGrowth sys.now r.0.tiles) }
+    ensures order { IfOk result (λ r. IsCanonical sys.now r.0.tiles r.1) }
+{
     let area = sys.area();
     let mut grid = Grid::make(alloc, area)?;
     put_seeds(sys, &mut grid);
     grid.recall_sites();
     let mut log = PlaceLog::make(alloc, sys)?;
-    let mut picker = Picker::make(alloc, sys, Types::build(alloc, sys)?)?;
+    let mut picker = Picker::make(alloc, sys, Types::lent(types))?;
     let mut work = WorkList::make(alloc, area)?;
     fill_all(sys, &mut grid, chooser, &mut picker, &mut work, &mut log);
     Ok((grid, log.into_sequence()))

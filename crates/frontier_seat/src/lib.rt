@@ -20,5 +20,5 @@ pub use bursting::Burst;
 pub use chooser::{Chooser, First, RngChooser, Wanderer};
 pub use claim_log::ClaimLog;
 pub use growing::Growing;
-pub use in_order::fill_least_first;
+pub use in_order::{fill_least_first, fill_least_first_by_index};
 pub use scout::Scout;

@@ -1,3 +1,4 @@
+pub mod OneBatch
 pub mod Outcomes
 pub mod Printed
 pub mod Reading

@@ -1,7 +1,7 @@
 -- What is printed of the answers to a batch, one after another.
 use Rattle.std.proofs.Common.{◌≡◌, ℕ, zero, suc, ◌+◌, ◌≤◌, List, [], ◌∷◌, ◌++◌, length, drop, slice_get, Some, None, Option, Ok, refl, ap, sym, ◌∙◌, arith, add-one, append-nil}
 use Rattle.std.specs.Io.KnownBytes.{Appends}
-use Rattle.tile_io.specs.Prints.{Prints}
+use Rattle.tile_io.specs.Chunks.{PassesOn}
 use Rattle.unique_law.specs.Outcomes.{Outcome}
 use Rattle.job_board.specs.declared.job.Job.{Job}
 use Rattle.job_board.specs.AnswerText.{answer_text, answers_from}
@@ -10,9 +10,15 @@ Appends-nothing : (written : Option (List ℕ)) → Appends written written []
 Appends-nothing None = tt
 Appends-nothing (Some bytes) = sym (append-nil bytes)
 
--- nothing was printed
-pub Prints-nothing : {S E : Type 0} (written : S → Option (List ℕ)) (faults : S → ℕ) (sink : S) → Prints {T = Unit {0}} {E = E} written faults sink sink (Ok tt) []
-Prints-nothing written faults sink = record { whole = Appends-nothing (written sink); front = tt; cause = record { stays = refl; failed = tt; later = omega arith } }
+-- nothing was taken
+pub PassesOn-nothing : {S E : Type 0} (written : S → Option (List ℕ)) (faults : S → ℕ) (sink : S) (held : List ℕ) → PassesOn {T = Unit {0}} {E = E} written faults sink sink held held (Ok tt) []
+PassesOn-nothing written faults sink held =
+    record { taken = ([], Appends-nothing (written sink), append-nil held); front = tt; dropped = tt; cause = record { stays = refl; failed = tt; later = omega arith } }
+
+-- no answers to no jobs
+pub answers-empty : (jobs : List Job) (outcomes : List Outcome) → slice_get jobs 0 ≡ None → [] ≡ answers_from 0 jobs outcomes
+answers-empty [] outcomes none = refl
+answers-empty (job ∷ jobs) outcomes none = absurd (cc none)
 
 -- the answers from one number on begin with that of this number
 answers-suc : (number k : ℕ) (jobs : List Job) (outcomes : List Outcome) (job : Job) (outcome : Outcome) → slice_get jobs k ≡ Some job → slice_get outcomes k ≡ Some outcome →

@@ -30,7 +30,7 @@ pub mark_line : (text : List ℕ) (mark : Mark) → IsMark text mark → 1 ≤ m
 mark_line text mark is = omega (arith, ap (λ (m : Mark). m.line) is.place)
 
 -- at the start a line is found
-no_header : (text : List ℕ) (from to : Mark) → Reads (batch_format AtStart) text from [] to → ⊥
+pub no_header : (text : List ℕ) (from to : Mark) → Reads (batch_format AtStart) text from [] to → ⊥
 unfolding batch_table
 no_header text from to (inl ended) = absurd (omega (arith, length-append ended.earlier (ended.last ∷ []), ap length ended.whole))
 no_header text from to (inr done) = absurd (cc done.complete)

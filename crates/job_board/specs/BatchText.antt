@@ -102,6 +102,14 @@ pub record FailsBehind (text : List ℕ) (from : Mark) (number : ℕ) (cause : C
 abbrev pub FaultBatch : List ℕ → Mark → ℕ → Cause → Type 0
 FaultBatch text from number cause = Fault (batch_format AtStart) text from number cause ⊎ FailsBehind text from number cause
 
+-- the text is a batch of some jobs
+abbrev pub IsReadBatch : List ℕ → Mark → Type 0
+IsReadBatch text from = (jobs : List Job) × ReadsBatch text from jobs
+
+-- it has some fault
+abbrev pub IsFaultyBatch : List ℕ → Mark → Type 0
+IsFaultyBatch text from = (number : ℕ) × (cause : Cause) × FaultBatch text from number cause
+
 -- the text is a batch of the jobs that are answered; or it has the fault that is answered; or there was no memory
 abbrev pub ReadsBatchOrStops : {Answer : Type 0} → List ℕ → Mark → (Answer → Type 0) → Result Answer TextStop → Type 0
 ReadsBatchOrStops text from IsReadAs (Ok answer) = IsReadAs answer

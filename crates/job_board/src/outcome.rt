@@ -2,14 +2,15 @@
 ghost use Rattle.std.specs.Prelude.{◌≡◌, IfOk};
 ghost use Rattle.atam.specs.Canonical.{IsCanonical};
 ghost use Rattle.atam.specs.Growth.{IsFullGrowth, IsLeastOpenOutside};
+ghost use Rattle.type_index.specs.Indexes.{IsIndexOf};
 ghost use Rattle.local_check.specs.Judgement.{IsVerdict};
 ghost use Rattle.job_board.specs.Answers.{Answers};
 
 use crate::job::Job;
 use assembly::{Grid, Sequence};
 use fan_out::WorkerCount;
-use frontier_seat::{First, fill_least_first};
-use local_check::{Verdict, inputs_by_index, judge};
+use frontier_seat::{First, fill_least_first_by_index};
+use local_check::{Verdict, inputs_by_index, judge_closed};
 use std::alloc::Global;
 use std::marker::Model;
 use std::thread::Threads;
@@ -41,8 +42,9 @@ impl Outcome {
         ensures { IfOk result (Answers job.now.sys) }
     {
         let sys = &job.sys;
-        let (grid, order) = fill_least_first(alloc, sys, &mut First)?;
-        let (verdict, outside) = judge_order(rt, alloc, sys, grid, &order)?;
+        let types = TypeIndex::build(alloc, sys)?;
+        let (grid, order) = fill_least_first_by_index(alloc, sys, &types, &mut First)?;
+        let (verdict, outside) = judge_order(rt, alloc, sys, grid, &types, &order)?;
         Ok(Outcome {
             sequence: order.copy()?,
             outside,
@@ -76,19 +78,20 @@ fn judge_order<R: Threads + Sync>(
     alloc: Global,
     sys: &System,
     grid: Grid,
+    types: &TypeIndex,
     order: &Sequence,
 ) -> Result<(Verdict, Option<(Site, TypeId)>), NoMemory>
     requires area { grid.area ≡ sys.now.area }
+    requires index { IsIndexOf sys.now types.now }
     requires full { IsFullGrowth sys.now grid.tiles }
     requires order { IsCanonical sys.now grid.tiles order.now }
     ensures verdict { IfOk result (λ r. IsVerdict sys.now order.now r.0) }
     ensures outside { IfOk result (λ r. IsLeastOpenOutside sys.now grid.tiles r.1) }
 {
     sys.recall_valid();
-    let types = TypeIndex::build(alloc, sys)?;
     let alone = WorkerCount::new(1);
-    let sides = inputs_by_index(rt, alloc, sys, order, &grid, &types, alone)?;
-    let verdict = judge(sys, order, &sides);
+    let sides = inputs_by_index(rt, alloc, sys, order, &grid, types, alone)?;
     let outside = types.least_open_outside(sys, &grid);
+    let verdict = judge_closed(sys, order, &sides, outside);
     Ok((verdict, outside))
 }

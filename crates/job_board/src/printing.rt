@@ -1,6 +1,7 @@
 // The lines of the answers to a batch.
 ghost use Rattle.std.specs.Prelude.{◌≡◌, All, IfSome, length};
 ghost use Rattle.atam.specs.TileSystem.{IsType};
+ghost use Rattle.tile_io.specs.Chunks.{PassesOn};
 ghost use Rattle.tile_io.specs.Prints.{Prints};
 ghost use Rattle.seq_text.specs.VerdictLines.{NamesTypes};
 ghost use Rattle.job_board.specs.Answers.{AnswerEach, Answers};
@@ -10,8 +11,8 @@ use crate::job::Job;
 use crate::outcome::Outcome;
 use itoa::Buffer;
 use local_check::Verdict;
-use seq_text::{print_closed, print_places, print_verdict};
-use tile_io::{Failed, Sink, print_line};
+use seq_text::{PlacePieces, put_closed, put_places, put_verdict};
+use tile_io::{Chunk, Failed, Sink};
 use tile_system::System;
 
 /// Writes for each job its number and the text of its outcome, and then how many jobs there are and
@@ -21,61 +22,91 @@ pub fn print_batch<K: Sink>(jobs: &[Job], outcomes: &[Outcome], sink: &mut K) ->
     ensures { Prints K.written K.faults sink.old sink.new result
         (batch_text jobs.now outcomes.now) }
 {
-    print_answers(jobs, outcomes, sink)?;
-    print_done(jobs.len(), count_yes(outcomes), sink)
+    let mut chunk = Chunk::new();
+    put_answers(jobs, outcomes, &mut chunk, sink)?;
+    put_done(jobs.len(), count_yes(outcomes), &mut chunk, sink)?;
+    chunk.flush(sink)
 }
 
-// Writes what answers each job.
-fn print_answers<K: Sink>(jobs: &[Job], outcomes: &[Outcome], sink: &mut K) -> Result<(), Failed>
+// Adds what answers each job to what is held. The pieces are made once, and turned to one system
+// after another.
+fn put_answers<K: Sink>(
+    jobs: &[Job],
+    outcomes: &[Outcome],
+    chunk: &mut Chunk,
+    sink: &mut K,
+) -> Result<(), Failed>
     requires { AnswerEach jobs.now outcomes.now }
-    ensures { Prints K.written K.faults sink.old sink.new result
+    ensures { PassesOn K.written K.faults sink.old sink.new chunk.old chunk.new result
         (answers_from 0 jobs.now outcomes.now) }
 {
+    let Some(first) = jobs.first() else {
+        return Ok(());
+    };
+    let mut pieces = PlacePieces::new(&first.sys);
     for number in 0..jobs.len() {
-        print_answer(number, &jobs[number], &outcomes[number], sink)?;
+        put_answer(
+            number,
+            &jobs[number],
+            &outcomes[number],
+            &mut pieces,
+            chunk,
+            sink,
+        )?;
     }
     Ok(())
 }
 
-// Writes the number of a job, and what answers it.
-fn print_answer<K: Sink>(
+// Adds the number of a job, and what answers it.
+fn put_answer<'a, K: Sink>(
     number: usize,
-    job: &Job,
+    job: &'a Job,
     outcome: &Outcome,
+    pieces: &mut PlacePieces<'a>,
+    chunk: &mut Chunk,
     sink: &mut K,
 ) -> Result<(), Failed>
     requires { Answers job.now.sys outcome.now }
-    ensures { Prints K.written K.faults sink.old sink.new result
+    ensures { PassesOn K.written K.faults sink.old sink.new chunk.old chunk.new result
         (answer_text number job.now outcome.now) }
 {
     let mut text = Buffer::new();
-    print_line(sink, b"job", &[text.format(number).as_bytes()])?;
+    chunk.put_line(sink, b"job", &[text.format(number).as_bytes()])?;
     job.sys.recall_valid();
-    print_outcome(&job.sys, outcome, sink)
+    pieces.turn_to(&job.sys);
+    put_outcome(&job.sys, outcome, pieces, chunk, sink)
 }
 
-// Writes the places, what is open outside the box, and the verdict.
-fn print_outcome<K: Sink>(sys: &System, outcome: &Outcome, sink: &mut K) -> Result<(), Failed>
+// Adds the places, what is open outside the box, and the verdict.
+fn put_outcome<K: Sink>(
+    sys: &System,
+    outcome: &Outcome,
+    pieces: &mut PlacePieces,
+    chunk: &mut Chunk,
+    sink: &mut K,
+) -> Result<(), Failed>
+    requires pieces { pieces.old ≡ sys.now }
     requires order { All (λ p. IsType sys.now p.tile) outcome.now.order }
     requires outside { IfSome outcome.now.outside (λ found. IsType sys.now found.1) }
     requires verdict { NamesTypes sys.now outcome.now.verdict }
-    ensures { Prints K.written K.faults sink.old sink.new result
+    ensures { PassesOn K.written K.faults sink.old sink.new chunk.old chunk.new result
         (outcome_text sys.now outcome.now) }
 {
-    print_places(sys, outcome.sequence(), sink)?;
-    print_closed(sys, outcome.outside(), sink)?;
-    print_verdict(sys, outcome.verdict(), sink)
+    put_places(outcome.sequence(), pieces, chunk, sink)?;
+    put_closed(sys, outcome.outside(), chunk, sink)?;
+    put_verdict(sys, outcome.verdict(), chunk, sink)
 }
 
-// Writes the last line.
-fn print_done<K: Sink>(jobs: usize, yes: usize, sink: &mut K) -> Result<(), Failed>
-    ensures { Prints K.written K.faults sink.old sink.new result (done_line jobs yes) }
+// Adds the last line.
+fn put_done<K: Sink>(jobs: usize, yes: usize, chunk: &mut Chunk, sink: &mut K) -> Result<(), Failed>
+    ensures { PassesOn K.written K.faults sink.old sink.new chunk.old chunk.new result
+        (done_line jobs yes) }
 {
     let mut first = Buffer::new();
     let mut second = Buffer::new();
     let jobs = first.format(jobs).as_bytes();
     let yes = second.format(yes).as_bytes();
-    print_line(sink, b"done", &[jobs, b"yes", yes])
+    chunk.put_line(sink, b"done", &[jobs, b"yes", yes])
 }
 
 // How many of the verdicts are a yes.

@@ -8,7 +8,7 @@ use Rattle.atam.specs.declared.area.BoxArea.{BoxArea}
 use Rattle.atam.specs.Sites.{InBox, width_of, height_of}
 use Rattle.atam.specs.Placements.{HasDistinctSites, tile_at}
 use Rattle.atam.specs.TileSystem.{TileSystem}
-use Rattle.atam.specs.Growth.{IsLeastOpen, IsLeastOpenAmong, IsLeastOpenOutside}
+use Rattle.atam.specs.Growth.{IsClosedInBox, IsLeastOpen, IsLeastOpenOutside}
 use Rattle.atam.proofs.Count.{count_in_box}
 use Rattle.atam.proofs.Placements.{HasDistinctSites-push}
 use Rattle.attach_rule.proofs.LeastOfBoth.{least_inside, least_outside}
@@ -22,13 +22,13 @@ full_box area tiles distinct inside full m within empty =
     let never : ⊥ = omega (arith, few, full, length-append tiles (p ∷ [])) in
     never
 
--- then the least open site is the least one outside
+-- where nothing is open in the box the least open site is the least one outside
+pub least_open-closed : (sys : TileSystem) (tiles : List Place) → IsClosedInBox sys tiles → (found : Option (Site × TypeId)) → IsLeastOpenOutside sys tiles found → IsLeastOpen sys tiles found
+least_open-closed sys tiles closed None outside = least_inside sys tiles None None (λ m t within grows. closed m t within grows) outside (λ first. first)
+least_open-closed sys tiles closed (Some found) outside = least_outside sys tiles None (Some found) (λ m t within grows. closed m t within grows) outside tt
+
+-- so also in a full box
 pub least_open-full : (sys : TileSystem) (tiles : List Place) → HasDistinctSites tiles → All (λ p. InBox sys.area p.site) tiles → length tiles ≡ width_of sys.area * height_of sys.area →
     (found : Option (Site × TypeId)) → IsLeastOpenOutside sys tiles found → IsLeastOpen sys tiles found
 least_open-full sys tiles distinct inside full found outside =
-    let none : IsLeastOpenAmong sys tiles (InBox sys.area) None = λ m t within grows. full_box sys.area tiles distinct inside full m within grows.attaches.empty in
-    by_both found outside none
-  where
-    by_both : (o : Option (Site × TypeId)) → IsLeastOpenOutside sys tiles o → IsLeastOpenAmong sys tiles (InBox sys.area) None → IsLeastOpen sys tiles o
-    by_both None out none = least_inside sys tiles None None none out (λ first. first)
-    by_both (Some g) out none = least_outside sys tiles None (Some g) none out tt
+    least_open-closed sys tiles (λ m t within grows. full_box sys.area tiles distinct inside full m within grows.attaches.empty) found outside

@@ -1,6 +1,6 @@
 // The verdict on a legal sequence.
 ghost use Rattle.atam.specs.Assembly.{Fits};
-ghost use Rattle.atam.specs.Growth.{IsLeastOpen, IsLegal};
+ghost use Rattle.atam.specs.Growth.{IsClosedInBox, IsLeastOpen, IsLeastOpenOutside, IsLegal};
 ghost use Rattle.local_check.specs.SideSets.{AreSidesOf};
 ghost use Rattle.local_check.specs.Judgement.{IsVerdict};
 
@@ -27,6 +27,41 @@ pub fn judge(sys: &System, seq: &Sequence, sides: &SideSets) -> Verdict
     }
     match least_open(sys, seq, sides) {
         Some((site, tile)) => Verdict::NotTerminal { site, tile },
+        None => Verdict::Yes,
+    }
+}
+
+/// The verdict on a legal sequence that nothing extends in the box, by the least open site outside:
+/// no site is looked at.
+pub fn judge_closed(
+    sys: &System,
+    seq: &Sequence,
+    sides: &SideSets,
+    outside: Option<(Site, TypeId)>,
+) -> Verdict
+    requires legal { IsLegal sys.now seq.now }
+    requires sides { AreSidesOf sys.now seq.now sides.now }
+    requires closed { IsClosedInBox sys.now seq.now }
+    requires outside { IsLeastOpenOutside sys.now seq.now outside }
+    ensures { IsVerdict sys.now seq.now result }
+{
+    if let Some((at, held)) = sides.inexact() {
+        return Verdict::NotExact {
+            site: at,
+            sum: held,
+        };
+    }
+    if let Some((at, rival)) = sides.rival() {
+        return Verdict::Rival {
+            site: at,
+            tile: rival,
+        };
+    }
+    match outside {
+        Some((at, open)) => Verdict::NotTerminal {
+            site: at,
+            tile: open,
+        },
         None => Verdict::Yes,
     }
 }

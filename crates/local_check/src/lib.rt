@@ -13,7 +13,7 @@ mod stood_sites;
 mod survey;
 mod verdict;
 
-pub use judgement::judge;
+pub use judgement::{judge, judge_closed};
 pub use laws::{law_one_verdict, law_yes};
 pub use side_table::{SideSets, inputs, inputs_by_index, inputs_of_grid};
 pub use verdict::Verdict;

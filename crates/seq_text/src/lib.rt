@@ -16,15 +16,15 @@ mod seen;
 mod stuck;
 mod verdict;
 
-pub use closed::print_closed;
+pub use closed::{print_closed, put_closed};
 pub use laws::{
     law_growth_fits, law_growth_one_of_two, law_growth_reads_printed, law_input_reads_printed,
     law_schedule_one_of_two,
 };
 pub use legality::print_legality;
-pub use places::{PlacePieces, print_places};
+pub use places::{PlacePieces, print_places, put_places};
 pub use reader::{read_grid, read_grid_once, read_sequence, read_sequence_once};
 pub use schedule::read_events;
 pub use seen::{print_replies, print_seen, put_seen};
 pub use stuck::{print_stuck, print_stuck_seed};
-pub use verdict::print_verdict;
+pub use verdict::{print_verdict, put_verdict};

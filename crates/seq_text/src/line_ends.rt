@@ -2,7 +2,7 @@
 ghost use Rattle.std.specs.Prelude.{◌≡◌, ◌≤◌, ◌+◌, [], ◌∷◌, ◌++◌, length};
 ghost use Rattle.atam.specs.TileSystem.{IsType, IsValid, type_name};
 ghost use Rattle.tile_io.specs.declared.chunk.TheConstants.{CHUNK_ROOM};
-ghost use Rattle.seq_text.specs.Inner.LineEnds.{IsLineEnd};
+ghost use Rattle.seq_text.specs.Inner.LineEnds.{AreLineEnds, IsLineEnd};
 
 use std::marker::Model;
 use tile_io::Chunk;
@@ -61,10 +61,16 @@ impl<'a> LineEnds<'a> {
             text: [b'\n'; 16],
             len: 0,
         }; 1024];
-        for index in 0..sys.type_count().min(KEPT_NAMES) {
-            kept[index as usize] = LineEnd::new(sys.type_name(TypeId(index)));
-        }
+        make_ends(sys, &mut kept);
         LineEnds { sys, kept }
+    }
+
+    // Turns to another system.
+    pub fn turn_to(&mut self, sys: &'a System)
+        ensures { self.new ≡ sys.now }
+    {
+        make_ends(sys, &mut self.kept);
+        self.sys = sys;
     }
 
     // Adds a type's name and a newline to what is held.
@@ -89,5 +95,14 @@ impl<'a> LineEnds<'a> {
     {
         chunk.hold(self.sys.type_name(tile));
         chunk.hold(b"\n");
+    }
+}
+
+// Makes the line ends of a system's first types. Those behind them stay.
+fn make_ends(sys: &System, kept: &mut [LineEnd; 1024])
+    ensures { AreLineEnds sys.now kept.new }
+{
+    for index in 0..sys.type_count().min(KEPT_NAMES) {
+        kept[index as usize] = LineEnd::new(sys.type_name(TypeId(index)));
     }
 }

@@ -44,6 +44,14 @@ impl<'a> PlacePieces<'a> {
         }
     }
 
+    /// Turns to another system, in time that grows with the number of its first types alone.
+    pub fn turn_to(&mut self, sys: &'a System)
+        ensures { self.new ≡ sys.now }
+    {
+        sys.recall_valid();
+        self.ends.turn_to(sys);
+    }
+
     /// Adds the `place` line of one tile to what is held.
     #[inline(always)]
     pub fn put<K: Sink>(
@@ -77,15 +85,16 @@ pub fn print_places<K: Sink>(sys: &System, places: &Sequence, sink: &mut K) -> R
     chunk.flush(sink)
 }
 
-// Adds the lines to what is held.
-fn put_places<K: Sink>(
+/// Adds the `place` line of each tile, in order, to what is held. It takes no memory.
+pub fn put_places<K: Sink>(
     places: &Sequence,
     pieces: &mut PlacePieces,
     chunk: &mut Chunk,
     sink: &mut K,
 ) -> Result<(), Failed>
     requires { All (λ p. IsType pieces.old p.tile) places.now }
-    ensures { PassesOn K.written K.faults sink.old sink.new chunk.old chunk.new result
+    ensures same { pieces.new ≡ pieces.old }
+    ensures passes { PassesOn K.written K.faults sink.old sink.new chunk.old chunk.new result
         (place_lines pieces.old places.now) }
 {
     for index in 0..places.len() {

@@ -2,12 +2,13 @@
 ghost use Rattle.std.specs.Prelude.{List, ℕ};
 ghost use Rattle.atam.specs.TileSystem.{IsType, type_name};
 ghost use Rattle.tile_io.specs.Prints.{Prints};
+ghost use Rattle.tile_io.specs.Chunks.{PassesOn};
 ghost use Rattle.local_check.specs.declared.verdict.Verdict.TheVariants.{NotExact, Rival, NotTerminal};
 ghost use Rattle.seq_text.specs.VerdictLines.{verdict_line, failed_line, NamesTypes};
 
 use itoa::Buffer;
 use local_check::Verdict;
-use tile_io::{Failed, Sink, print_line};
+use tile_io::{Chunk, Failed, Sink};
 use tile_system::{Site, System};
 
 /// Writes the `unique` line. It takes no memory.
@@ -16,30 +17,49 @@ pub fn print_verdict<K: Sink>(sys: &System, verdict: &Verdict, sink: &mut K) -> 
     ensures { Prints K.written K.faults sink.old sink.new result
         (verdict_line sys.now verdict.now) }
 {
+    let mut chunk = Chunk::new();
+    put_verdict(sys, verdict, &mut chunk, sink)?;
+    chunk.flush(sink)
+}
+
+/// Adds the line to what is held. It takes no memory.
+pub fn put_verdict<K: Sink>(
+    sys: &System,
+    verdict: &Verdict,
+    chunk: &mut Chunk,
+    sink: &mut K,
+) -> Result<(), Failed>
+    requires { NamesTypes sys.now verdict.now }
+    ensures { PassesOn K.written K.faults sink.old sink.new chunk.old chunk.new result
+        (verdict_line sys.now verdict.now) }
+{
     match *verdict {
-        Verdict::Yes => print_line(sink, b"unique", &[b"yes"]),
+        Verdict::Yes => chunk.put_line(sink, b"unique", &[b"yes"]),
         Verdict::NotExact { site, sum } => {
             let mut number = Buffer::new();
-            print_failed(b"1", site, number.format(sum).as_bytes(), sink)
+            put_failed(b"1", site, number.format(sum).as_bytes(), chunk, sink)
         }
-        Verdict::Rival { site, tile } => print_failed(b"2", site, sys.type_name(tile), sink),
-        Verdict::NotTerminal { site, tile } => print_failed(b"3", site, sys.type_name(tile), sink),
+        Verdict::Rival { site, tile } => put_failed(b"2", site, sys.type_name(tile), chunk, sink),
+        Verdict::NotTerminal { site, tile } => {
+            put_failed(b"3", site, sys.type_name(tile), chunk, sink)
+        }
     }
 }
 
-// Writes the line of a condition that fails, with its site and what fails there.
-fn print_failed<K: Sink>(
+// Adds the line of a condition that fails, with its site and what fails there.
+fn put_failed<K: Sink>(
     condition: &[u8],
     site: Site,
     what: &[u8],
+    chunk: &mut Chunk,
     sink: &mut K,
 ) -> Result<(), Failed>
-    ensures { Prints K.written K.faults sink.old sink.new result
+    ensures { PassesOn K.written K.faults sink.old sink.new chunk.old chunk.new result
         (failed_line condition.now site what.now) }
 {
     let mut x = Buffer::new();
     let mut y = Buffer::new();
     let x = x.format(site.x).as_bytes();
     let y = y.format(site.y).as_bytes();
-    print_line(sink, b"unique", &[b"no", condition, x, y, what])
+    chunk.put_line(sink, b"unique", &[b"no", condition, x, y, what])
 }

@@ -6,8 +6,11 @@ use Rattle.atam.specs.TileSystem.{TileSystem}
 use Rattle.seq_text.specs.GrowthLines.{place_line}
 use Rattle.seq_text.proofs.places.put_places.Goals as goal
 
-pub returns-in_err-put : goal.returns-in_err-put
-returns-in_err-put g c =
+pub returns-in_err-put-clause-same : goal.returns-in_err-put-clause-same
+returns-in_err-put-clause-same g c = c.in_err-put.ensures.same ∙ c.loop-index.invariant.same
+
+pub returns-in_err-put-clause-passes : goal.returns-in_err-put-clause-passes
+returns-in_err-put-clause-passes g c =
     let line = place_line c.args.pieces.now in
     let places = c.args.places.now in
     let p = err_from_is_err_and c.from_residual.result c.from_residual.ensures.1 in

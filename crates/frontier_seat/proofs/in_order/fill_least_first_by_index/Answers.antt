@@ -2,7 +2,7 @@ use Rattle.std.proofs.Common.{◌∙◌, sym, subst}
 use Rattle.atam.specs.Canonical.{IsCanonical}
 use Rattle.atam.proofs.Opening.{Fits-part}
 use Rattle.frontier_seat.proofs.Ordering.{canonical_order, full_growth}
-use Rattle.frontier_seat.proofs.in_order.fill_least_first.Goals as goal
+use Rattle.frontier_seat.proofs.in_order.fill_least_first_by_index.Goals as goal
 
 pub fill_all-requires-clause-filling : goal.fill_all-requires-clause-filling
 fill_all-requires-clause-filling g c =

@@ -1,12 +1,11 @@
-use Rattle.std.proofs.Common.{◌≡◌, ◌<◌, length, replicate, subst, refl, arith}
-use Rattle.std.proofs.lemmas.List.{length-replicate, length-set}
-use Rattle.seq_text.specs.declared.line_ends.LineEnd.{LineEnd}
+use Rattle.std.proofs.Common.{◌≡◌, ◌<◌, length, subst, arith}
+use Rattle.std.proofs.lemmas.List.{length-set}
 use Rattle.seq_text.specs.Inner.LineEnds.{IsLineEnd}
-use Rattle.seq_text.proofs.LineEnds.{no_ends, end_set}
-use Rattle.seq_text.proofs.line_ends.LineEnds.new.Goals as goal
+use Rattle.seq_text.proofs.LineEnds.{end_set, ends_all}
+use Rattle.seq_text.proofs.line_ends.make_ends.Goals as goal
 
 pub loop-index-init : goal.loop-index-init
-loop-index-init c = let none : LineEnd = record { text = replicate 16 10; len = 0 } in (length-replicate 1024 none, no_ends c.args.sys.now 1024 none refl)
+loop-index-init c = (omega arith, λ index end below at. let never : ⊥ = omega (arith, below) in absurd never)
 
 pub loop-index-preserved : goal.loop-index-preserved
 loop-index-preserved c =
@@ -16,3 +15,8 @@ loop-index-preserved c =
     let within : index < length kept = omega (arith, count, c.loop-index-test.true, c.min-index-end.ensures) in
     let made = subst (λ name. IsLineEnd name c.new.result) c.type_name.ensures c.new.ensures in
     (omega (arith, length-set kept index c.new.result, count), end_set c.args.sys.now kept index c.new.result within c.loop-index.invariant.1 made)
+
+pub returns : goal.returns
+returns c =
+    ends_all c.args.sys.now c.loop-index.kept c.loop-index.index
+    (omega (arith, c.loop-index.invariant.0, c.loop-index-test.false, c.min-index-end.ensures, c.type_count.ensures.count)) c.loop-index.invariant.1

@@ -1,8 +1,8 @@
 use Rattle.std.proofs.Common.{◌≡◌, ◌∷◌, [], ℕ, List, codes, rules}
 use Rattle.std.specs.Fmt.{signed_decimal}
 use Rattle.tile_io.specs.Lines.{line_of}
-use Rattle.tile_io.proofs.Printing.{Prints-text}
-use Rattle.seq_text.proofs.closed.print_clipped.Goals as goal
+use Rattle.tile_io.proofs.Printing.{PassesOn-text}
+use Rattle.seq_text.proofs.closed.put_clipped.Goals as goal
 
 -- a line of the same words
 same_line : (x y name a b word : List ℕ) → x ≡ a → y ≡ b → name ≡ word →
@@ -13,4 +13,4 @@ pub returns : goal.returns
 returns g c =
     let same_x : c.as_bytes-x.result.now ≡ signed_decimal c.args.site.x = search rules in
     let same_y : c.as_bytes-y.result.now ≡ signed_decimal c.args.site.y = search rules in
-    Prints-text (same_line _ _ _ _ _ _ same_x same_y c.type_name.ensures) c.print_line.ensures
+    PassesOn-text (same_line _ _ _ _ _ _ same_x same_y c.type_name.ensures) c.put_line.ensures
