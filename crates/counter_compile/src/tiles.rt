@@ -45,7 +45,7 @@ impl CounterTiles {
     /// Lists the tiles of the counter that counts from a number to the last one of so many bits.
     pub fn new(alloc: Global, bits: u32, start: u64) -> Result<CounterTiles, CounterStop>
         ensures refusal { refusal_of result ≡ counter_refusal bits start }
-        ensures tiles { IfOk result (λ tiles. tiles ≡ counter_system bits start) }
+        ensures system { IfOk result (λ tiles. tiles ≡ counter_system bits start) }
     {
         check_counter(bits, start)?;
         let counter = Counter {

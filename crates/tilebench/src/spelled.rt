@@ -1,11 +1,14 @@
-// A system as an answer: its one spelling.
+// Systems as answers: their one spelling, printed from the system or from a table of its tiles.
 ghost use Rattle.std.specs.Prelude.{◌≡◌, true};
 ghost use Rattle.tile_text.specs.Spelling.{spelling};
 
 use crate::room::Reply;
+use counter_compile::CounterTiles;
+use quadrant_compile::QuadrantTiles;
 use tile_io::{Failed, Sink};
 use tile_system::System;
 use tile_text::print_system;
+use turing_compile::MachineTiles;
 
 /// A system, to be spelled.
 #[derive(Drop)]
@@ -26,5 +29,53 @@ impl Reply for Spelled {
 
     fn print<K: Sink>(&self, out: &mut K) -> Result<(), Failed> {
         print_system(&self.sys, out)
+    }
+}
+
+impl Reply for MachineTiles {
+    ghost text = { λ tiles. spelling tiles };
+
+    ghost yes = { λ tiles. true };
+
+    ghost printable = { λ tiles. Unit {0} };
+
+    fn is_yes(&self) -> bool {
+        true
+    }
+
+    fn print<K: Sink>(&self, out: &mut K) -> Result<(), Failed> {
+        self.print_tiles(out)
+    }
+}
+
+impl Reply for QuadrantTiles {
+    ghost text = { λ tiles. spelling tiles };
+
+    ghost yes = { λ tiles. true };
+
+    ghost printable = { λ tiles. Unit {0} };
+
+    fn is_yes(&self) -> bool {
+        true
+    }
+
+    fn print<K: Sink>(&self, out: &mut K) -> Result<(), Failed> {
+        self.print_tiles(out)
+    }
+}
+
+impl Reply for CounterTiles {
+    ghost text = { λ tiles. spelling tiles };
+
+    ghost yes = { λ tiles. true };
+
+    ghost printable = { λ tiles. Unit {0} };
+
+    fn is_yes(&self) -> bool {
+        true
+    }
+
+    fn print<K: Sink>(&self, out: &mut K) -> Result<(), Failed> {
+        self.print_tiles(out)
     }
 }

@@ -3,9 +3,8 @@ ghost use Rattle.tilebench.specs.Commands.Counter.{counter_row};
 
 use crate::resources::Resources;
 use crate::room::{PlainRoom, Room};
-use crate::spelled::Spelled;
 use crate::stop::Stop;
-use counter_compile::compile_counter;
+use counter_compile::CounterTiles;
 use site_table::Grown;
 use std::thread::Threads;
 use tile_io::Gate;
@@ -18,7 +17,7 @@ pub struct Counter {
 }
 
 impl Room for Counter {
-    type Answer = Spelled;
+    type Answer = CounterTiles;
 
     ghost room_row = { λ room. counter_row room.bits room.start };
 
@@ -34,8 +33,8 @@ impl PlainRoom for Counter {
         &self,
         resources: &Resources<'_, R, G>,
         _input: Vec<u8>,
-    ) -> Result<(Spelled, Option<Grown>), Stop> {
-        let sys = compile_counter(resources.alloc, self.bits, self.start)?;
-        Ok((Spelled { sys }, None))
+    ) -> Result<(CounterTiles, Option<Grown>), Stop> {
+        let tiles = CounterTiles::new(resources.alloc, self.bits, self.start)?;
+        Ok((tiles, None))
     }
 }

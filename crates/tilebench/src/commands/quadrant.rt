@@ -6,9 +6,8 @@ ghost use Rattle.tilebench.specs.Inner.Readings.{taken_or_faulty_quadrant};
 use crate::input::read_quadrant_alone;
 use crate::resources::Resources;
 use crate::room::{PlainRoom, Room};
-use crate::spelled::Spelled;
 use crate::stop::Stop;
-use quadrant_compile::compile_quadrant;
+use quadrant_compile::QuadrantTiles;
 use site_table::Grown;
 use std::thread::Threads;
 use tile_io::Gate;
@@ -18,7 +17,7 @@ use tile_io::Gate;
 pub struct Quadrant;
 
 impl Room for Quadrant {
-    type Answer = Spelled;
+    type Answer = QuadrantTiles;
 
     ghost room_row = { λ room. quadrant_row };
 
@@ -34,9 +33,9 @@ impl PlainRoom for Quadrant {
         &self,
         resources: &Resources<'_, R, G>,
         input: Vec<u8>,
-    ) -> Result<(Spelled, Option<Grown>), Stop> {
+    ) -> Result<(QuadrantTiles, Option<Grown>), Stop> {
         let quadrant = read_quadrant_alone(resources.alloc, &input)?;
-        let sys = compile_quadrant(resources.alloc, &quadrant)?;
-        Ok((Spelled { sys }, None))
+        let tiles = QuadrantTiles::new(resources.alloc, quadrant)?;
+        Ok((tiles, None))
     }
 }

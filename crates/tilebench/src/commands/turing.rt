@@ -6,19 +6,18 @@ ghost use Rattle.tilebench.specs.Inner.Readings.{taken_or_faulty_machine};
 use crate::input::read_machine_alone;
 use crate::resources::Resources;
 use crate::room::{PlainRoom, Room};
-use crate::spelled::Spelled;
 use crate::stop::Stop;
 use site_table::Grown;
 use std::thread::Threads;
 use tile_io::Gate;
-use turing_compile::compile;
+use turing_compile::MachineTiles;
 
 /// The command.
 #[derive(Clone, Copy)]
 pub struct Turing;
 
 impl Room for Turing {
-    type Answer = Spelled;
+    type Answer = MachineTiles;
 
     ghost room_row = { λ room. turing_row };
 
@@ -34,9 +33,9 @@ impl PlainRoom for Turing {
         &self,
         resources: &Resources<'_, R, G>,
         input: Vec<u8>,
-    ) -> Result<(Spelled, Option<Grown>), Stop> {
+    ) -> Result<(MachineTiles, Option<Grown>), Stop> {
         let machine = read_machine_alone(resources.alloc, &input)?;
-        let sys = compile(resources.alloc, &machine)?;
-        Ok((Spelled { sys }, None))
+        let tiles = MachineTiles::new(resources.alloc, machine)?;
+        Ok((tiles, None))
     }
 }

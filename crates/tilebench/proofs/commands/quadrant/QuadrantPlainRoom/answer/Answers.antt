@@ -21,7 +21,7 @@ returns g c =
           weave = weave;
           read = subst Alone c.deref.ensures.value c.in_ok-quadrant.ensures.read;
           is_weave = valid;
-          spelled = subst Spells (sym c.in_ok-sys.ensures) (spelled (woven weave) (woven_valid weave valid));
+          spelled = subst Spells (sym c.in_ok-tiles.ensures) (spelled (woven weave) (woven_valid weave valid));
           answer = refl;
         };
       };

@@ -21,7 +21,7 @@ returns g c =
           machine = machine;
           read = subst Alone c.deref.ensures.value c.in_ok-machine.ensures.read;
           is_machine = valid;
-          spelled = subst Spells (sym c.in_ok-sys.ensures) (spelled (compiled machine) (compiled_valid machine valid));
+          spelled = subst Spells (sym c.in_ok-tiles.ensures) (spelled (compiled machine) (compiled_valid machine valid));
           answer = refl;
         };
       };
