@@ -142,7 +142,8 @@ def layers():
             told.append(f"ARCHITECTURE.md: {name} stands on {order.get(name)}")
     picture = text.split("```")[1].split("\n")
     line_of = {name: number for number, line in enumerate(picture) for name in re.findall(r"\w+", line) if name in order}
-    tests = [name for name in order if "worked_systems" in order[name]] + ["worked_systems"]
+    for_tests = ["worked_systems", "meeting_gate"]
+    tests = [name for name in order if "worked_systems" in order[name]] + for_tests
     told += [f"ARCHITECTURE.md: the picture lacks {name}" for name in order if name not in line_of and name not in tests]
     told += [f"ARCHITECTURE.md: {name} is drawn below {below}, on which it stands" for name, number in line_of.items()
              for below in order[name] if line_of.get(below, number) < number]
