@@ -69,12 +69,12 @@ zeros_sum zero = refl
 zeros_sum (suc n) = let rest = zeros_sum n in let first = sum_by-cons (λ (x : ℕ). x) 0 (zeros n) in omega (arith, rest, first)
 
 -- the same tiles, of which the first worker has won all
-by_one : GrownValue → GrownValue
-by_one table = record { grid = table.grid; won = sum table.won ∷ zeros 63 }
+as_one_worker : GrownValue → GrownValue
+as_one_worker table = record { grid = table.grid; won = sum table.won ∷ zeros 63 }
 
-grown_by_one : (sys : TileSystem) (workers : ℕ) (table : GrownValue) → 1 ≤ workers → GrewBesideWatcher sys table → IsFullGrowth sys table.grid.tiles → IsGrownBy sys workers (by_one table)
-unfolding by_one
-grown_by_one sys workers table some grew full = record {
+grown_as_one_worker : (sys : TileSystem) (workers : ℕ) (table : GrownValue) → 1 ≤ workers → GrewBesideWatcher sys table → IsFullGrowth sys table.grid.tiles → IsGrownBy sys workers (as_one_worker table)
+unfolding as_one_worker
+grown_as_one_worker sys workers table some grew full = record {
   area = grew.area;
   distinct = full.distinct;
   producible = full.producible;
@@ -84,7 +84,7 @@ grown_by_one sys workers table some grew full = record {
   total = let all = grew.total in let rest = zeros_sum 63 in let first = sum_by-cons (λ (x : ℕ). x) (sum table.won) (zeros 63) in omega (arith, all, rest, first);
 }
   where
-    idle : (n : ℕ) → n < 64 → ((w : ℕ) → w < workers → n ≢ worker_number w) → slice_index (by_one table).won n ≡ 0
+    idle : (n : ℕ) → n < 64 → ((w : ℕ) → w < workers → n ≢ worker_number w) → slice_index (as_one_worker table).won n ≡ 0
     idle zero below none = absurd (none 0 (omega (arith, some)) refl)
     idle (suc n) below none = zeros_none 63 n
 
@@ -102,20 +102,20 @@ frames_before frames input growth text grown is_yes answer same = record {
 }
 
 pub answers_as_grow : WatchAnswersAsGrow
-unfolding by_one
+unfolding as_one_worker
 answers_as_grow frames workers table input is_yes text some answer =
     let own : answer.table ≡ table = ap (λ (o : Option GrownValue). unwrap_or o table) (sym answer.handed_out) in (
       answer.told.growth,
       frames_before frames input answer.told.growth text (Some table) is_yes answer refl,
       record {
-        grown = by_one answer.table;
+        grown = as_one_worker answer.table;
         same = ap (λ (t : GrownValue). t.grid) own;
         answer = record {
           sys = answer.sys;
           read = answer.read;
-          table = by_one answer.table;
+          table = as_one_worker answer.table;
           handed_out = refl;
-          grew = grown_by_one answer.sys workers answer.table some answer.grew answer.told.watched.full;
+          grew = grown_as_one_worker answer.sys workers answer.table some answer.grew answer.told.watched.full;
           told = record { outcome = answer.told.grown.outcome; grown = answer.told.grown.grown; printed = answer.told.grown.printed; answer = answer.told.grown.answer };
         };
       },
