@@ -57,9 +57,9 @@ fn prints_the_same_by_any_workers(rt: HostRuntime) -> Result<(), Fail> {
 fn one_wide_job(alloc: Global, types: u32) -> Result<String, AllocError> {
     let mut text = String::from_str(alloc, "batch 1\njob 0\ntiles 1\ntau 1\n")?;
     for number in 0..types {
-        text.push_str(format!(in alloc; "tile T{number} - - - -\n")?.as_str())?;
+        text.push_str(format!(in alloc; "tile t{number} - - - -\n")?.as_str())?;
     }
-    text.push_str("box 0 0 1 1\nseed 0 0 T7\nend\n")?;
+    text.push_str("box 0 0 1 1\nseed 0 0 t7\nend\n")?;
     for _ in 0..3 {
         text.push_str("job 1\n")?;
         text.push_str(SMALL_COUNTER)?;
@@ -72,7 +72,7 @@ fn one_job_has_all_the_types(rt: HostRuntime) -> Result<(), Fail> {
     let text = one_wide_job(rt.alloc(), 16_384)?;
     let ran = answered(&rt, rt.alloc(), &["batch", "--workers", "4"], text.as_str())?;
     assert_eq!(rt; ran.status, Status::Done);
-    assert!(rt; ran.out.starts_with(b"job 0\nplace 0 0 T7\nclosed terminal\nunique yes\njob 1\n"));
+    assert!(rt; ran.out.starts_with(b"job 0\nplace 0 0 t7\nclosed terminal\nunique yes\njob 1\n"));
     assert!(rt; ran.out.ends_with(b"done 4 yes 4\n"));
     Ok(())
 }
