@@ -1,16 +1,13 @@
 -- What a seat that looks has seen.
-use Rattle.std.proofs.Common.{◌≡◌, [], ◌∷◌, ◌++◌, Some, Contains, sym, ◌∙◌, subst, inl, inr}
-use Rattle.std.proofs.lemmas.Option.{same_Some}
+use Rattle.std.proofs.Common.{◌≡◌, [], ◌∷◌, ◌++◌, refl, ◌∙◌}
 use Rattle.std.proofs.lemmas.List.Elements.{Contains-append_left}
 use Rattle.atam.specs.declared.site.Site.{Site}
 use Rattle.atam.specs.declared.place.TypeId.{TypeId}
 use Rattle.atam.specs.declared.place.Place.{Place}
 use Rattle.atam.specs.Sites.{InBox}
-use Rattle.atam.specs.Placements.{HasDistinctSites, SamePlacements, tile_at}
+use Rattle.atam.specs.Placements.{SamePlacements}
 use Rattle.atam.specs.TileSystem.{TileSystem, IsType}
-use Rattle.atam.proofs.Lists.{Contains-push}
 use Rattle.atam.proofs.Opening.{Fits-part}
-use Rattle.atam.proofs.Placements.{Contains-tile_at, tile_at-Contains}
 use Rattle.atam.proofs.Sequences.{Fits-push}
 use Rattle.atam.proofs.Tiles.{same_back, SamePlacements-push, SamePlacements-trans}
 use Rattle.assembly.specs.Grids.{TileGrid}
@@ -36,27 +33,9 @@ looks_tile sys old new before after m t seen goes sees kind inside area placemen
       };
     }
 
--- a tile is seen again
-pub looks_again : (sys : TileSystem) (old new : SeatValue) (before : TileGrid) (m : Site) (t u : TypeId) → HasSeen sys old before → GoesOn old new → Sees old.scout (place m t) new.scout →
-    HasDistinctSites old.scout.seen → tile_at before.tiles m ≡ Some u → ((v : TypeId) → tile_at old.scout.seen m ≡ Some v → Some t ≡ Some v) → LooksOn sys old before new before
-looks_again sys old new before m t u seen goes sees distinct stands told =
-    let there : Contains old.scout.seen (place m u) = seen.same.whole (place m u) (tile_at-Contains before.tiles m u stands) in
-    let one : t ≡ u = same_Some t u (told u (Contains-tile_at old.scout.seen (place m u) distinct there)) in
-    let here : Contains old.scout.seen (place m t) = subst (λ (v : TypeId). Contains old.scout.seen (place m v)) (sym one) there in
-    record {
-      goes = goes;
-      mine = sees.mine;
-      kept = λ p in_before. in_before;
-      seen = record {
-        system = goes.sys ∙ seen.system;
-        area = seen.area;
-        same = record {
-          part = λ p in_new. seen.same.part p (elim (Contains-push old.scout.seen (place m t) p (sees.seen.whole p in_new)) [ inl old_one ↦ old_one | inr is ↦ subst (Contains old.scout.seen) is here ]);
-          whole = λ p in_grid. sees.seen.part p (Contains-append_left old.scout.seen (place m t ∷ []) p (seen.same.whole p in_grid));
-        };
-        fits = seen.fits;
-      };
-    }
+-- no look is made
+pub looks_nowhere : (sys : TileSystem) (seat : SeatValue) (grid : TileGrid) → HasSeen sys seat grid → LooksOn sys seat grid seat grid
+looks_nowhere sys seat grid seen = record { goes = record { table = refl; sys = refl; owned = refl }; mine = refl; kept = λ p in_grid. in_grid; seen = seen }
 
 -- looks one after another
 pub looks_twice : (sys : TileSystem) (a b c : SeatValue) (first second third : TileGrid) → LooksOn sys a first b second → LooksOn sys b second c third → LooksOn sys a first c third

@@ -8,7 +8,7 @@ use assembly::{Grid, Row};
 use site_table::{SiteSeat, SiteTable};
 use tile_system::{Place, Site, System};
 
-// Looks at each site of the box, in one pass.
+// Looks at each site of the box where it has seen no tile, in one pass: a tile that is there stays.
 pub(crate) fn look_over(sys: &System, table: &SiteTable, seat: &mut SiteSeat, seen: &mut Grid)
     requires seat { IsSeatOf table.now seat.old }
     requires system { table.now.sys ≡ sys.now }
@@ -24,7 +24,7 @@ pub(crate) fn look_over(sys: &System, table: &SiteTable, seat: &mut SiteSeat, se
     }
 }
 
-// One look.
+// One look, where no tile was seen.
 #[inline(always)]
 fn look_at(
     sys: &System,
@@ -41,13 +41,12 @@ fn look_at(
     requires number { site_at sys.now.area number ≡ site }
     ensures { LooksOn sys.now seat.old seen.old seat.new seen.new }
 {
-    sys.recall_valid();
-    seat.recall_possible();
-    let Some(tile) = table.look_at(seat, site, number) else {
-        return;
-    };
     if seen.tile(number).is_some() {
         return;
     }
+    sys.recall_valid();
+    let Some(tile) = table.look_at(seat, site, number) else {
+        return;
+    };
     seen.put_at(Place { site, tile }, number);
 }

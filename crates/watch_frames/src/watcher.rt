@@ -82,9 +82,9 @@ impl Watcher {
         })
     }
 
-    /// Looks at each site of the box, and takes a frame of what is seen then: the list goes on over
-    /// it. It takes no memory, and waits for nobody. It costs a pass over the box, and what is new
-    /// to it.
+    /// Looks at each site of the box where it has seen no tile, since a tile that is there stays, and
+    /// takes a frame of what is seen then: the list goes on over it. It takes no memory, and waits
+    /// for nobody. It costs two passes over the box, and what is new to it.
     pub fn frame(&mut self, sys: &System, table: &SiteTable)
         requires seat { IsSeatOf table.now self.old.seat }
         requires system { table.now.sys ≡ sys.now }
