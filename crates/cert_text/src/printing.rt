@@ -1,7 +1,8 @@
 // The lines of a certificate.
-ghost use Rattle.std.specs.Prelude.{◌≡◌, ◌<◌, All};
+ghost use Rattle.std.specs.Prelude.{◌≡◌, ◌<◌, ◌≤◌, ◌+◌, ◌++◌, All, length};
 ghost use Rattle.atam.specs.TileSystem.{IsType};
 ghost use Rattle.tile_io.specs.Chunks.{PassesOn};
+ghost use Rattle.tile_io.specs.declared.chunk.TheConstants.{CHUNK_ROOM};
 ghost use Rattle.tile_io.specs.Prints.{Prints};
 ghost use Rattle.cert_check.specs.Certificates.{places_of};
 ghost use Rattle.cert_text.specs.CertificateLines.{mark_line, mark_lines, mark_words};
@@ -11,6 +12,10 @@ use cert_check::{Certificate, Entry};
 use itoa::Buffer;
 use tile_io::{Chunk, Failed, Sink};
 use tile_system::{Site, System};
+
+// Room for a line: a keyword, two numbers of 32 bits, a name, a word of sides and a rank, behind
+// each a space or the newline.
+const LONGEST_MARK_LINE: usize = 96;
 
 /// Writes the `mark` line of each entry, in order. It takes no memory.
 pub fn print_certificate<K: Sink>(
@@ -57,28 +62,34 @@ fn put_mark<K: Sink>(
     ensures { PassesOn K.written K.faults sink.old sink.new chunk.old chunk.new result
         (mark_line sys.now entry) }
 {
+    // a name has up to forty bytes
+    sys.recall_valid();
+    chunk.make_room(sink, LONGEST_MARK_LINE)?;
     let Entry { place, sides, rank } = entry;
     let name = sys.type_name(place.tile);
-    put_words(place.site, name, sides_word(sides), rank, chunk, sink)
+    hold_words(place.site, name, sides_word(sides), rank, chunk);
+    Ok(())
 }
 
-// Adds a line with these words.
-fn put_words<K: Sink>(
-    site: Site,
-    name: &[u8],
-    sides: &[u8],
-    rank: u32,
-    chunk: &mut Chunk,
-    sink: &mut K,
-) -> Result<(), Failed>
-    ensures { PassesOn K.written K.faults sink.old sink.new chunk.old chunk.new result
-        (mark_words site name.now sides.now rank) }
+// Adds a line with these words, for which there is room.
+fn hold_words(site: Site, name: &[u8], sides: &[u8], rank: u32, chunk: &mut Chunk)
+    requires room { length chunk.old + 96 ≤ CHUNK_ROOM }
+    requires name { length name.now ≤ 40 }
+    requires sides { length sides.now ≤ 4 }
+    ensures { chunk.new ≡ chunk.old ++ mark_words site name.now sides.now rank }
 {
     let mut x = Buffer::new();
     let mut y = Buffer::new();
     let mut number = Buffer::new();
-    let x = x.format(site.x).as_bytes();
-    let y = y.format(site.y).as_bytes();
-    let rank = number.format(rank).as_bytes();
-    chunk.put_line(sink, b"mark", &[x, y, name, sides, rank])
+    chunk.hold(b"mark ");
+    chunk.hold(x.format(site.x).as_bytes());
+    chunk.hold(b" ");
+    chunk.hold(y.format(site.y).as_bytes());
+    chunk.hold(b" ");
+    chunk.hold(name);
+    chunk.hold(b" ");
+    chunk.hold(sides);
+    chunk.hold(b" ");
+    chunk.hold(number.format(rank).as_bytes());
+    chunk.hold(b"\n");
 }

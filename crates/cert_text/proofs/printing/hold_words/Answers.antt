@@ -1,0 +1,17 @@
+use Rattle.std.proofs.Common.{◌≡◌, [], ◌∷◌, ◌++◌, codes, decimal, append_assoc, refl, ◌∙◌, arith}
+use Rattle.std.proofs.lemmas.Int.{ints, to_z-of_z}
+use Rattle.std.specs.Fmt.{signed_decimal}
+use Rattle.cert_text.proofs.printing.hold_words.Goals as goal
+
+pub returns : goal.returns
+returns c =
+    let held = c.args.chunk.now in
+    let x = signed_decimal c.args.site.x in
+    let y = signed_decimal c.args.site.y in
+    let name = c.args.name.now in
+    let sides = c.args.sides.now in
+    let rank = decimal c.args.rank in
+    let k : c.hold-11.new.self ≡ ((((((((((held ++ codes "mark ") ++ x) ++ 32 ∷ []) ++ y) ++ 32 ∷ []) ++ name) ++ 32 ∷ []) ++ sides) ++ 32 ∷ []) ++ rank) ++ 10 ∷ [] =
+    rw (c.hold-11.ensures.bytes, c.hold-10.ensures.bytes, c.hold-9.ensures.bytes, c.hold-8.ensures.bytes, c.hold-7.ensures.bytes, c.hold-6.ensures.bytes, c.hold-5.ensures.bytes, c.hold-4.ensures.bytes, c.hold-3.ensures.bytes, c.hold-2.ensures.bytes, c.hold.ensures.bytes) (grind (arith, ints, to_z-of_z))
+    in
+    k ∙ simp append_assoc refl
