@@ -4,6 +4,7 @@ It is a plain reader, and no judge: what it takes, the program may still refuse.
 """
 import os
 import signal
+import subprocess
 import sys
 
 # A tool ends quietly where whoever reads its output has enough of it.
@@ -171,6 +172,19 @@ def system_of(text):
     if not system.lines or system.box is None or not system.seeds or any(it not in system.types for _, it in system.seeds):
         raise Unreadable(system.lines or number, "the system has no whole box, seed and end")
     return system, list(rest)
+
+
+def alone(text):
+    """The system alone of a text that may have more behind it, with its last line as it stands."""
+    lines = text.split("\n")
+    ends = [at for at, line in enumerate(lines) if [it for it in line.split(" ") if it] == ["end"]]
+    return "\n".join(lines[: ends[0] + 1]) + "\n" if ends and ends[0] + 1 < len(lines) else text
+
+
+def refusal(program, text):
+    """Why the program refuses a system, or None."""
+    ran = subprocess.run([program, "format"], input=text.encode(), stdout=subprocess.DEVNULL, stderr=subprocess.PIPE, check=False)
+    return None if ran.returncode == 0 else ran.stderr.decode(errors="replace").strip() or f"status {ran.returncode}"
 
 
 class Growth:
