@@ -177,6 +177,10 @@ def commands():
     told += [f"README.md: no command {it}" for it in readme if names and it not in names]
     for path in ("docs/PROVED.md", "docs/FORMATS.md", "docs/tilebench.1", "editors/tilebench.bash"):
         told += [f"{path}: nothing of {it}" for it in names if not re.search(rf"\b{it}\b", read(path))]
+    synopsis, _, manual = read("docs/tilebench.1").partition(".SH COMMANDS")
+    for it in names:
+        parts = [len(re.findall(rf"^\.B tilebench {it}$", synopsis, re.M)), len(re.findall(rf"^\.TP\n\.BI? {it}\b", manual.split(".SH OPTIONS")[0], re.M))]
+        told += [] if parts == [1, 1] else [f"docs/tilebench.1: {it} stands {parts[0]} times in the synopsis and has {parts[1]} parts"]
     return told or ([] if names else ["no command was found in crates/command_line/specs/Commands.antt"])
 
 
