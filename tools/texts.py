@@ -243,7 +243,7 @@ def read_both(system_path, growth_path=None):
     """A system and a growth: of two files, or of one that has both."""
     system, rest = system_of(read(system_path))
     if growth_path is not None:
-        rest = list(lines_of(read(growth_path)))
+        rest = lines_of(read(growth_path))
     return system, growth_of(system, rest)
 
 
