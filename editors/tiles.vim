@@ -11,7 +11,7 @@ syntax match tilesError /^ *[^ #]\S*/
 syntax match tilesError /[\t\r]/
 syntax match tilesKeyword /^ *\zs\%(batch\|job\|tiles\|tau\|glue\|pair\|tile\|box\|seed\|end\)\ze\%( \|$\)/
 syntax match tilesKeyword /^ *\zs\%(place\|mark\|look\|claim\|split\|join\)\ze\%( \|$\)/
-syntax match tilesAnswer /^ *\zs\%(frame\|grown\|done\|closed\|unique\|legal\|stuck\|verified\|saw\|won\|total\|held\|joined\|refused\)\ze\%( \|$\)/
+syntax match tilesAnswer /^ *\zs\%(frame\|grown\|done\|closed\|unique\|legal\|stuck\|verified\|picture\|saw\|won\|total\|held\|joined\|refused\)\ze\%( \|$\)/
 syntax match tilesNumber /\%(^\| \)\zs-\?\d\{1,10}\ze\%( \|$\)/
 syntax match tilesNone / \zs-\ze\%( \|$\)/
 syntax match tilesYes /\<\%(yes\|terminal\)\>/
