@@ -1,35 +1,27 @@
 -- What holds a rival, by the sides that aren't output sides, and what a search finds with one place more.
-use Rattle.std.proofs.Common.{◌≡◌, ◌≢◌, ◌<◌, ◌≤◌, ◌+◌, ℕ, Bool, true, false, not, ◌&&◌, ◌||◌, if◌then◌else◌, List, length, take, Option, Some, None, slice_get, refl, sym, ◌∙◌, ap, subst, inl, inr, arith}
-use Rattle.std.specs.List.{list_any}
+use Rattle.std.proofs.Common.{◌≡◌, ◌≢◌, ◌<◌, ◌≤◌, ◌+◌, ℕ, not, List, length, take, Option, Some, None, slice_get, refl, sym, ◌∙◌, subst, inl, inr, arith}
 use Rattle.std.specs.Option.{option_map, option_or}
-use Rattle.std.proofs.lemmas.Int.{ints}
-use Rattle.std.proofs.lemmas.Bool.{cases_Bool, cases_lt}
+use Rattle.std.proofs.lemmas.Bool.{cases_lt}
 use Rattle.std.proofs.lemmas.Option.{same_Some, none-some, slice_get_within}
 use Rattle.atam.specs.declared.site.Side.{Side}
-use Rattle.atam.specs.declared.site.Side.TheVariants.{North, East, South, West}
 use Rattle.atam.specs.declared.site.Site.{Site}
-use Rattle.atam.specs.declared.place.GlueId.{GlueId}
 use Rattle.atam.specs.declared.place.TypeId.{TypeId}
 use Rattle.atam.specs.declared.place.Place.{Place}
-use Rattle.atam.specs.Sites.{neighbor, opposite, directions, same_site}
 use Rattle.atam.specs.Placements.{HasDistinctSites, SamePlacements, tile_at}
-use Rattle.atam.specs.TileSystem.{TileSystem, side_glue}
-use Rattle.atam.specs.Assembly.{interaction, glue_at, bond, pull}
+use Rattle.atam.specs.TileSystem.{TileSystem}
+use Rattle.atam.specs.Assembly.{pull}
 use Rattle.atam.specs.Growth.{IsLegal}
 use Rattle.atam.specs.Determinism.{is_output, without_outputs, IsExact, IsRival, HasExactInputs, HasNoRivals}
-use Rattle.atam.proofs.Boxes.{same_site_tells, same_site-refl}
-use Rattle.atam.proofs.Bonds.{bond-none, interaction-none}
 use Rattle.std.proofs.Math.Seq.{take-length}
-use Rattle.atam.proofs.Placements.{Extends, Extends-take, tile_at-filter, tile_at-filtered}
+use Rattle.atam.proofs.Placements.{Extends, Extends-take}
 use Rattle.atam.proofs.Sequences.{IsLegal-distinct}
-use Rattle.atam.proofs.Opening.{bond-beside}
 use Rattle.atam.proofs.Tiles.{SameTiles, SameTiles-from}
 use Rattle.local_check.specs.SideSets.{SideSet, has}
 use Rattle.attach_rule.specs.declared.facing.FacingGlues.{FacingGlues}
 use Rattle.attach_rule.specs.Facing.{FacesSite, facing_pull}
 use Rattle.type_index.specs.HeldTypes.{IsHeld, FirstHeldBut}
 use Rattle.type_index.specs.Others.{IsFirstBut}
-use Rattle.local_check.specs.Inner.Sides.{bond_if, glues_on}
+use Rattle.local_check.specs.Inner.Sides.{glues_on}
 use Rattle.local_check.specs.Judgement.{IsLeastRival, FindsInexact, FindsRival}
 use Rattle.local_check.specs.Inner.Ranges.{AllExactIn, NoRivalIn, FindsInexactIn, FindsRivalIn}
 use Rattle.local_check.proofs.Keeping.{gone_here, pull_facing}

@@ -132,7 +132,7 @@ module _ (sys : TileSystem) (s tiles : List Place) (same : SameTiles s tiles) (m
         and_false (on South),
       ) (ap not (or_false (on West)))
 
-  bond_kept : (t : TypeId) (d : Side) → bond sys kept_places m t d ≡ bond_if (not (on d)) (bond sys tiles m t d)
+  pub bond_kept : (t : TypeId) (d : Side) → bond sys kept_places m t d ≡ bond_if (not (on d)) (bond sys tiles m t d)
   unfolding keeps
   bond_kept t d = elim (cases_Bool (on d)) [
     | inl out ↦

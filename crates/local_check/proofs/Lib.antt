@@ -8,3 +8,5 @@ pub mod Judging
 pub mod PlaceFindings
 pub mod Standing
 pub mod StoodSites
+pub mod Clean
+pub mod Glimpses

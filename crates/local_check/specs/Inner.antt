@@ -6,3 +6,5 @@ pub mod StoodSites
 pub mod Ranges
 pub mod Surveys
 pub mod Portions
+pub mod Glances
+pub mod Passages

@@ -1,12 +1,14 @@
 -- Laws of the verdict.
 use Rattle.std.specs.Prelude.{◌≡◌, ◌≤◌, ◌↔◌, List}
 use Rattle.atam.specs.declared.place.Place.{Place}
+use Rattle.atam.specs.Placements.{HasDistinctSites}
 use Rattle.atam.specs.TileSystem.{TileSystem}
 use Rattle.atam.specs.Growth.{IsLegal}
-use Rattle.atam.specs.Determinism.{IsLocallyDeterministic}
+use Rattle.atam.specs.Determinism.{HasNoRivals, IsLocallyDeterministic}
 use Rattle.local_check.specs.declared.verdict.Verdict.{Verdict}
 use Rattle.local_check.specs.declared.verdict.Verdict.TheVariants.{Yes}
 use Rattle.local_check.specs.Judgement.{IsVerdict}
+use Rattle.local_check.specs.Clean.{HasCleanPlaces}
 
 -- a legal sequence of a system whose temperature isn't 0 has a verdict
 abbrev pub HasVerdict : Type 0
@@ -19,3 +21,7 @@ HasOneVerdict = (sys : TileSystem) (s : List Place) (v w : Verdict) → IsVerdic
 -- it is yes exactly where the sequence is locally deterministic
 abbrev pub IsYesWhereDeterministic : Type 0
 IsYesWhereDeterministic = (sys : TileSystem) (s : List Place) (v : Verdict) → IsVerdict sys s v → (v ≡ Yes) ↔ IsLocallyDeterministic sys s
+
+-- where each place of a legal sequence came clean, none has a rival
+abbrev pub HasNoRivalsWhereClean : Type 0
+HasNoRivalsWhereClean = (sys : TileSystem) (s : List Place) → HasDistinctSites sys.seeds → IsLegal sys s → HasCleanPlaces sys s → HasNoRivals sys s

@@ -1,4 +1,6 @@
 pub mod SideSets
 pub mod Judgement
+pub mod Judged
+pub mod Clean
 pub mod Laws
 pub mod Inner

@@ -179,7 +179,7 @@ impl Findings {
 // glue before it looks at the next tile, so that what it holds at a time fits in registers.
 #[inline(always)]
 #[tactic(auto, using(attach_rule::proofs::Held::kind_beside))]
-fn key_inside(sys: &System, types: &TypeIndex, whole: &Grid, site: Site) -> u64
+pub(crate) fn key_inside(sys: &System, types: &TypeIndex, whole: &Grid, site: Site) -> u64
     requires index { IsIndexOf sys.now types.now }
     requires valid { IsValid sys.now }
     requires fits { Fits sys.now whole.now.tiles }

@@ -1,12 +1,16 @@
 // The verdict on a legal sequence.
+ghost use Rattle.atam.specs.Placements.{SamePlacements};
 ghost use Rattle.atam.specs.Assembly.{Fits};
 ghost use Rattle.atam.specs.Growth.{IsClosedInBox, IsLeastOpen, IsLeastOpenOutside, IsLegal};
+ghost use Rattle.atam.specs.Determinism.{HasExactInputs, HasNoRivals};
+ghost use Rattle.type_index.specs.Indexes.{IsIndexOf};
 ghost use Rattle.local_check.specs.SideSets.{AreSidesOf};
 ghost use Rattle.local_check.specs.Judgement.{IsVerdict};
 
 use crate::{SideSets, Verdict};
 use assembly::Sequence;
-use tile_system::{Site, System, TypeId};
+use tile_system::{Placed, Site, System, TypeId};
+use type_index::TypeIndex;
 
 /// The verdict on a legal sequence with its sides: the first condition that fails, at the first
 /// place of the sequence where it fails, or at the least open site. It takes no memory. What fails
@@ -25,10 +29,7 @@ pub fn judge(sys: &System, seq: &Sequence, sides: &SideSets) -> Verdict
     if let Some((site, tile)) = sides.rival() {
         return Verdict::Rival { site, tile };
     }
-    match least_open(sys, seq, sides) {
-        Some((site, tile)) => Verdict::NotTerminal { site, tile },
-        None => Verdict::Yes,
-    }
+    last_verdict(sys, seq, sides.index(), sides)
 }
 
 /// The verdict on a legal sequence that nothing extends in the box, by the least open site outside:
@@ -66,17 +67,44 @@ pub fn judge_closed(
     }
 }
 
-// The least open site of the plane. In a box that is full none is looked for.
-fn least_open(sys: &System, seq: &Sequence, sides: &SideSets) -> Option<(Site, TypeId)>
+// The verdict where the conditions on places hold: whether the third one does.
+pub(crate) fn last_verdict<P: Placed>(
+    sys: &System,
+    seq: &Sequence,
+    types: &TypeIndex,
+    placed: &P,
+) -> Verdict
     requires legal { IsLegal sys.now seq.now }
     requires fits { Fits sys.now seq.now }
-    requires sides { AreSidesOf sys.now seq.now sides.now }
+    requires index { IsIndexOf sys.now types.now }
+    requires placements { SamePlacements seq.now (P.placements placed.now) }
+    requires exact { HasExactInputs sys.now seq.now }
+    requires rivals { HasNoRivals sys.now seq.now }
+    ensures { IsVerdict sys.now seq.now result }
+{
+    match least_open(sys, seq, types, placed) {
+        Some((site, tile)) => Verdict::NotTerminal { site, tile },
+        None => Verdict::Yes,
+    }
+}
+
+// The least open site of the plane. In a box that is full none is looked for.
+fn least_open<P: Placed>(
+    sys: &System,
+    seq: &Sequence,
+    types: &TypeIndex,
+    placed: &P,
+) -> Option<(Site, TypeId)>
+    requires legal { IsLegal sys.now seq.now }
+    requires fits { Fits sys.now seq.now }
+    requires index { IsIndexOf sys.now types.now }
+    requires placements { SamePlacements seq.now (P.placements placed.now) }
     ensures { IsLeastOpen sys.now seq.now result }
 {
     let area = sys.area();
     sys.recall_valid();
     if seq.len() == area.width() as usize * area.height() as usize {
-        return sides.index().least_open_outside(sys, sides);
+        return types.least_open_outside(sys, placed);
     }
-    sides.index().least_open(sys, sides)
+    types.least_open(sys, placed)
 }

@@ -3,9 +3,12 @@
 
 mod breaches;
 mod findings;
+mod glances;
 mod grid_of;
 mod judgement;
 mod laws;
+mod once;
+mod passage;
 mod place_sides;
 mod side_set;
 mod side_table;
@@ -14,6 +17,7 @@ mod survey;
 mod verdict;
 
 pub use judgement::{judge, judge_closed};
-pub use laws::{law_one_verdict, law_yes};
+pub use laws::{law_clean, law_one_verdict, law_yes};
+pub use once::{Judged, judge_once};
 pub use side_table::{SideSets, inputs, inputs_by_index, inputs_of_grid};
 pub use verdict::Verdict;

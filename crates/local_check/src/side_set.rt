@@ -36,6 +36,9 @@ impl SideSet {
     // The set of no sides.
     pub(crate) const NONE: SideSet = SideSet { bits: 0 };
 
+    // That of all four.
+    pub(crate) const ALL: SideSet = SideSet { bits: 15 };
+
     // The set as a number.
     #[inline(always)]
     pub(crate) fn bits(self) -> u8

@@ -147,6 +147,26 @@ pub fn inputs_of_grid<'a>(
     sides_in(alloc, sys, seq, Cow::Borrowed(grid))
 }
 
+// The same where there is an index of the types too.
+pub(crate) fn inputs_lent<'a>(
+    alloc: Global,
+    sys: &System,
+    seq: &Sequence,
+    grid: &'a Grid,
+    types: &'a TypeIndex,
+) -> Result<SideSets<'a>, NoMemory>
+    requires legal { IsLegal sys.now seq.now }
+    requires fits { Fits sys.now seq.now }
+    requires area { grid.now.area ≡ sys.now.area }
+    requires placements { SamePlacements seq.now grid.now.tiles }
+    requires index { IsIndexOf sys.now types.now }
+    ensures { IfOk result (AreSidesOf sys.now seq.now) }
+{
+    sys.recall_valid();
+    let survey = survey_range(alloc, sys, seq, grid, types, 0, seq.len())?;
+    Ok(table(sys, Cow::Borrowed(grid), Cow::Borrowed(types), survey))
+}
+
 // The sides of the places of a sequence, by the grid of all of them.
 fn sides_in<'a>(
     alloc: Global,

@@ -1,0 +1,8 @@
+use Rattle.std.proofs.Common.{◌∙◌, not, ap}
+use Rattle.local_check.proofs.Glimpses.{no_other_held}
+use Rattle.local_check.proofs.glances.Glances.is_clean.Goals as goal
+
+pub returns-clause-sole : goal.returns-clause-sole
+returns-clause-sole c said =
+    no_other_held c.args.sys.now c.args.glues.now c.args.tile c.other_than-other.result (c.is_none.ensures ∙ ap not said)
+    (c.other_than-other.ensures.held c.args.sys.now c.args.glues.now c.found.ensures.found)

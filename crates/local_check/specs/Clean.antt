@@ -1,0 +1,29 @@
+-- Tiles that come clean: what is told by the tiles so far suffices to rule out rivals.
+use Rattle.std.specs.Prelude.{◌≡◌, ◌⊎◌, ℕ, ◌<◌, ◌≤◌, List, length, take, Some, slice_get}
+use Rattle.atam.specs.declared.site.Side.{Side}
+use Rattle.atam.specs.declared.site.Site.{Site}
+use Rattle.atam.specs.declared.place.TypeId.{TypeId}
+use Rattle.atam.specs.declared.place.Place.{Place}
+use Rattle.atam.specs.Sites.{neighbor, opposite}
+use Rattle.atam.specs.TileSystem.{TileSystem, side_glue}
+use Rattle.atam.specs.Placements.{tile_at}
+use Rattle.atam.specs.Assembly.{interaction, bond}
+use Rattle.atam.specs.Growth.{IsCandidate}
+
+-- no type of the system interacts with this side of a tile of the type
+abbrev pub IsDead : TileSystem → TypeId → Side → Type 0
+IsDead sys t d = (u : TypeId) → interaction sys (side_glue sys u (opposite d)) (side_glue sys t d) ≡ 0
+
+-- A tile of the type comes clean at the site, among these tiles: no other type attaches there, and each of its sides beside which a tile stands
+-- interacts with that tile, or is dead.
+pub record ComesClean (sys : TileSystem) (tiles : List Place) (m : Site) (t : TypeId) : Type 0 where
+  pub sole : (u : TypeId) → IsCandidate sys tiles m u → u ≡ t
+  pub settled : (d : Side) (v : TypeId) → tile_at tiles (neighbor m d) ≡ Some v → (0 < bond sys tiles m t d) ⊎ IsDead sys t d
+
+-- each place before index n, but the seeds, came clean among the places before it
+abbrev pub AllCleanBelow : TileSystem → List Place → ℕ → Type 0
+AllCleanBelow sys s n = (i : ℕ) (p : Place) → length sys.seeds ≤ i → i < n → slice_get s i ≡ Some p → ComesClean sys (take i s) p.site p.tile
+
+-- each place but the seeds did
+abbrev pub HasCleanPlaces : TileSystem → List Place → Type 0
+HasCleanPlaces sys s = (i : ℕ) (p : Place) → length sys.seeds ≤ i → slice_get s i ≡ Some p → ComesClean sys (take i s) p.site p.tile

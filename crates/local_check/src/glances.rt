@@ -1,0 +1,244 @@
+// What is seen of tiles as they come, by what came before with the same surroundings.
+ghost use Rattle.std.specs.Prelude.{◌≡◌, ◌⊎◌, ◌<◌, true, length, Option, Some, IfOk, IsTrue};
+ghost use Rattle.atam.specs.declared.place.GlueId.{GlueId};
+ghost use Rattle.atam.specs.declared.place.TypeId.{TypeId};
+ghost use Rattle.atam.specs.Sites.{InBox};
+ghost use Rattle.atam.specs.TileSystem.{IsType, IsValid};
+ghost use Rattle.atam.specs.Assembly.{Fits, interaction};
+ghost use Rattle.assembly.specs.Cells.{cell_count, site_at};
+ghost use Rattle.type_index.specs.Indexes.{IsIndexOf};
+ghost use Rattle.type_index.specs.HeldTypes.{IsHeld};
+ghost use Rattle.type_index.specs.Findings.{AreFindings};
+ghost use Rattle.local_check.specs.Clean.{IsDead};
+ghost use Rattle.local_check.specs.SideSets.{has};
+ghost use Rattle.local_check.specs.Inner.Sides.{sides_beside};
+ghost use Rattle.local_check.specs.Inner.Glances.{AreGlances, AreSettled, IsGlance, IsGlanceFor};
+
+use crate::findings::key_inside;
+use crate::side_set::SideSet;
+use assembly::Grid;
+use attach_rule::{FacingGlues, Strengths};
+use std::alloc::Global;
+use std::marker::Model;
+use tile_system::{GlueId, NoMemory, Place, Side, Site, System, TypeId};
+use type_index::{FacingCache, TypeIndex, glues_of_key};
+
+// What is seen of a tile as it comes: the sum that holds it, and whether it comes clean.
+#[derive(Clone, Copy)]
+pub(crate) struct Glance {
+    pub(crate) sum: u32,
+    pub(crate) clean: bool,
+}
+
+impl Glance {
+    // Whether it comes clean, and so did all before it.
+    #[inline(always)]
+    pub(crate) fn is_clean_after(self, before: bool) -> bool
+        ensures { IsTrue result → (before ≡ true) × (self.clean ≡ true) }
+    {
+        before && self.clean
+    }
+}
+
+// What was seen where the glues had this key and tiles stood beside these sides.
+#[derive(Clone, Copy)]
+struct Seen {
+    key: u64,
+    sum: u32,
+    beside: SideSet,
+    clean: bool,
+}
+
+// For each type what was seen last of a tile of it, so that it need not be looked up again.
+#[derive(Drop)]
+pub(crate) struct Glances {
+    last: Vec<Seen>,
+    cache: FacingCache,
+}
+
+impl Model for Glances {
+    ghost use Rattle.local_check.specs.Inner.Glances.{GlanceTable};
+
+    ghost Value = { GlanceTable };
+
+    ghost view = { λ g. record { last = g.last.items; cache = g.cache } };
+}
+
+impl Glances {
+    pub(crate) fn make(alloc: Global, sys: &System) -> Result<Glances, NoMemory>
+        ensures { IfOk result (AreGlances sys.now) }
+    {
+        sys.recall_valid();
+        let none = Seen {
+            key: 0,
+            sum: 0,
+            beside: SideSet::NONE,
+            clean: false,
+        };
+        Ok(Glances {
+            last: Vec::from_elem(alloc, none, sys.type_count() as usize)?,
+            cache: FacingCache::make(alloc, sys)?,
+        })
+    }
+
+    // What is seen of a tile that comes at a site of the grid's box. Where it isn't asked whether
+    // tiles come clean, none is said to.
+    #[inline(always)]
+    pub(crate) fn at(
+        &mut self,
+        sys: &System,
+        types: &TypeIndex,
+        grid: &Grid,
+        place: Place,
+        number: usize,
+        asked: bool,
+    ) -> Glance
+        requires valid { IsValid sys.now }
+        requires known { AreGlances sys.now self.old }
+        requires index { IsIndexOf sys.now types.now }
+        requires fits { Fits sys.now grid.now.tiles }
+        requires kind { IsType sys.now place.tile }
+        requires inside { InBox grid.now.area place.site }
+        requires within { number < cell_count grid.now.area }
+        requires number { site_at grid.now.area number ≡ place.site }
+        ensures glance { IsGlance sys.now grid.now.tiles place.site place.tile result }
+        ensures known { AreGlances sys.now self.new }
+    {
+        let Place { site, tile } = place;
+        let key = key_inside(sys, types, grid, site);
+        let beside = sides_beside(grid, site, number);
+        let last = &self.last[tile.0 as usize];
+        if last.key == key && last.beside.is_same(&beside) {
+            return Glance {
+                sum: last.sum,
+                clean: last.clean,
+            };
+        }
+        self.look(sys, types, tile, beside, key, asked)
+    }
+
+    // Looks it up anew, by the key of the glues and the sides alone, and keeps it.
+    #[inline(never)]
+    fn look(
+        &mut self,
+        sys: &System,
+        types: &TypeIndex,
+        tile: TypeId,
+        beside: SideSet,
+        key: u64,
+        asked: bool,
+    ) -> Glance
+        requires known { AreGlances sys.now self.old }
+        requires index { IsIndexOf sys.now types.now }
+        requires kind { IsType sys.now tile }
+        ensures glance { IsGlanceFor sys.now tile key beside result }
+        ensures known { AreGlances sys.now self.new }
+    {
+        let glues = glues_of_key(key);
+        let bonds = types.bonds(sys, &glues, tile);
+        let sum = bonds.sum();
+        let clean = self.is_clean(sys, types, tile, &glues, &bonds, beside, asked);
+        self.last[tile.0 as usize] = Seen {
+            key,
+            sum,
+            beside,
+            clean,
+        };
+        Glance { sum, clean }
+    }
+
+    // Whether these sides have a strength or are dead, and the glues hold no other type, where it is
+    // asked.
+    fn is_clean(
+        &mut self,
+        sys: &System,
+        types: &TypeIndex,
+        tile: TypeId,
+        glues: &FacingGlues,
+        bonds: &Strengths,
+        beside: SideSet,
+        asked: bool,
+    ) -> bool
+        requires known { AreFindings sys.now self.old.cache }
+        requires index { IsIndexOf sys.now types.now }
+        requires kind { IsType sys.now tile }
+        ensures settled { IsTrue result → AreSettled sys.now tile bonds.now beside }
+        ensures sole { IsTrue result → (u : TypeId) → IsHeld sys.now glues.now u → u ≡ tile }
+        ensures known { AreFindings sys.now self.new.cache }
+        ensures last { self.new.last ≡ self.old.last }
+    {
+        if !asked || !are_settled(sys, tile, bonds, beside) {
+            return false;
+        }
+        let other = self.cache.found(sys, types, glues).other_than(tile);
+        other.is_none()
+    }
+}
+
+// The sides of a site of the box beside which a tile stands.
+#[inline(always)]
+fn sides_beside(grid: &Grid, site: Site, number: usize) -> SideSet
+    requires inside { InBox grid.now.area site }
+    requires within { number < cell_count grid.now.area }
+    requires number { site_at grid.now.area number ≡ site }
+    ensures { result ≡ sides_beside grid.now.tiles site }
+{
+    let beside = grid.beside_at(site, number);
+    SideSet::of(
+        beside.north.is_some(),
+        beside.east.is_some(),
+        beside.south.is_some(),
+        beside.west.is_some(),
+    )
+}
+
+// Whether each of these sides has a strength, or is dead.
+fn are_settled(sys: &System, tile: TypeId, bonds: &Strengths, sides: SideSet) -> bool
+    requires { IsType sys.now tile }
+    ensures { IsTrue result → AreSettled sys.now tile bonds.now sides }
+{
+    let settled = SideSet::of(
+        is_settled(sys, tile, sides, Side::North, bonds.north),
+        is_settled(sys, tile, sides, Side::East, bonds.east),
+        is_settled(sys, tile, sides, Side::South, bonds.south),
+        is_settled(sys, tile, sides, Side::West, bonds.west),
+    );
+    settled.is_same(&SideSet::ALL)
+}
+
+// The same of one side, if it is one of these.
+fn is_settled(sys: &System, tile: TypeId, sides: SideSet, side: Side, strength: u32) -> bool
+    requires { IsType sys.now tile }
+    ensures { IsTrue result → has sides side ≡ true → (0 < strength) ⊎ IsDead sys.now tile side }
+{
+    if strength > 0 {
+        return true;
+    }
+    if sides.has(side) {
+        return is_dead(sys, tile, side);
+    }
+    true
+}
+
+// Whether it is clear that no type interacts with the side.
+fn is_dead(sys: &System, tile: TypeId, side: Side) -> bool
+    requires { IsType sys.now tile }
+    ensures { IsTrue result → IsDead sys.now tile side }
+{
+    match sys.side(tile, side) {
+        None => true,
+        Some(glue) => is_weak(sys, glue),
+    }
+}
+
+// Whether it is clear that no glue interacts with this one. Where there are pairs, none is looked
+// at.
+fn is_weak(sys: &System, glue: GlueId) -> bool
+    requires { glue.0 < length sys.now.glues }
+    ensures { IsTrue result → (own : Option GlueId) → interaction sys.now own (Some glue) ≡ 0 }
+{
+    if sys.pair_count() > 0 {
+        return false;
+    }
+    sys.between(glue, glue) == 0
+}

@@ -1,0 +1,138 @@
+// Legality and the verdict, in one pass over a sequence.
+ghost use Rattle.std.specs.Prelude.{◌≡◌, ◌<◌, ◌^◌, true, length, take, IfOk};
+ghost use Rattle.atam.specs.Placements.{SamePlacements};
+ghost use Rattle.atam.specs.Assembly.{Fits};
+ghost use Rattle.atam.specs.Growth.{IsLegal};
+ghost use Rattle.atam.specs.Determinism.{HasExactInputs, HasNoRivals};
+ghost use Rattle.type_index.specs.Indexes.{IsIndexOf};
+ghost use Rattle.local_check.specs.Judgement.{IsVerdict};
+ghost use Rattle.local_check.specs.Judged.{IsJudged};
+ghost use Rattle.local_check.specs.Inner.Passages.{IsPassage, IsPassed};
+
+use crate::judgement::last_verdict;
+use crate::passage::{Passage, Passed, pass};
+use crate::side_table::inputs_lent;
+use crate::{Verdict, judge};
+use assembly::{Grid, Sequence, put_seeds};
+use replay_order::Legality;
+use std::alloc::Global;
+use tile_system::{NoMemory, System};
+use type_index::TypeIndex;
+
+/// The verdict on a legal sequence, or what breaks legality first.
+#[derive(Clone, Copy, Debug, PartialEq, Eq)]
+pub enum Judged {
+    Legal(Verdict),
+    Breach(Legality),
+}
+
+/// What `check_legal` answers, and for a legal sequence what `judge` does. It looks at each place
+/// once, as it comes; where a tile that is held exactly doesn't come clean, it looks at all of them
+/// again, as `inputs` does. It takes memory for a grid, an index of the types and sixteen bytes a
+/// type, and then for what `inputs` takes beside these.
+pub fn judge_once(alloc: Global, sys: &System, seq: &Sequence) -> Result<Judged, NoMemory>
+    requires fits { Fits sys.now seq.now }
+    requires short { length seq.now < 2 ^ 32 }
+    ensures { IfOk result (IsJudged sys.now seq.now) }
+{
+    if seq.starts_with(sys.seeds()) {
+        return judge_begun(alloc, sys, seq);
+    }
+    Ok(Judged::Breach(Legality::WrongSeed))
+}
+
+// The same of a sequence that begins with the seeds.
+fn judge_begun(alloc: Global, sys: &System, seq: &Sequence) -> Result<Judged, NoMemory>
+    requires begun { take (length sys.now.seeds) seq.now ≡ sys.now.seeds }
+    requires fits { Fits sys.now seq.now }
+    requires short { length seq.now < 2 ^ 32 }
+    ensures { IfOk result (IsJudged sys.now seq.now) }
+{
+    let types = TypeIndex::build(alloc, sys)?;
+    let mut grid = grid_of_seeds(alloc, sys)?;
+    let passed = pass(alloc, sys, seq, &types, &mut grid)?;
+    judge_passed(alloc, sys, seq, &types, &grid, passed)
+}
+
+// The seeds in a grid of the system's box.
+fn grid_of_seeds(alloc: Global, sys: &System) -> Result<Grid, NoMemory>
+    ensures area { IfOk result (λ grid. grid.area ≡ sys.now.area) }
+    ensures seeds { IfOk result (λ grid. SamePlacements sys.now.seeds grid.tiles) }
+{
+    sys.recall_valid();
+    let mut grid = Grid::make(alloc, sys.area())?;
+    put_seeds(sys, &mut grid);
+    Ok(grid)
+}
+
+// The judgement by what was found as the places came.
+fn judge_passed(
+    alloc: Global,
+    sys: &System,
+    seq: &Sequence,
+    types: &TypeIndex,
+    grid: &Grid,
+    passed: Passed,
+) -> Result<Judged, NoMemory>
+    requires fits { Fits sys.now seq.now }
+    requires index { IsIndexOf sys.now types.now }
+    requires area { grid.now.area ≡ sys.now.area }
+    requires passed { IsPassed sys.now seq.now grid.now.tiles passed }
+    ensures { IfOk result (IsJudged sys.now seq.now) }
+{
+    match passed {
+        Passed::Legal(passage) => {
+            let verdict = verdict_after(alloc, sys, seq, types, grid, passage)?;
+            Ok(Judged::Legal(verdict))
+        }
+        Passed::Breach(breach) => Ok(Judged::Breach(breach)),
+    }
+}
+
+// The verdict on a legal sequence, by what was found as its places came.
+fn verdict_after(
+    alloc: Global,
+    sys: &System,
+    seq: &Sequence,
+    types: &TypeIndex,
+    grid: &Grid,
+    passage: Passage,
+) -> Result<Verdict, NoMemory>
+    requires fits { Fits sys.now seq.now }
+    requires index { IsIndexOf sys.now types.now }
+    requires area { grid.now.area ≡ sys.now.area }
+    requires passage { IsPassage sys.now seq.now grid.now.tiles passage }
+    ensures { IfOk result (IsVerdict sys.now seq.now) }
+{
+    sys.recall_valid();
+    match passage.inexact {
+        Some((site, sum)) => Ok(Verdict::NotExact { site, sum }),
+        None => verdict_on_exact(alloc, sys, seq, types, grid, passage.clean),
+    }
+}
+
+// The verdict where each place is held exactly. Where it isn't clear that none has a rival, rivals
+// are sought.
+fn verdict_on_exact(
+    alloc: Global,
+    sys: &System,
+    seq: &Sequence,
+    types: &TypeIndex,
+    grid: &Grid,
+    clean: bool,
+) -> Result<Verdict, NoMemory>
+    requires legal { IsLegal sys.now seq.now }
+    requires fits { Fits sys.now seq.now }
+    requires index { IsIndexOf sys.now types.now }
+    requires area { grid.now.area ≡ sys.now.area }
+    requires placements { SamePlacements seq.now grid.now.tiles }
+    requires exact { HasExactInputs sys.now seq.now }
+    requires clean { clean ≡ true → HasNoRivals sys.now seq.now }
+    ensures { IfOk result (IsVerdict sys.now seq.now) }
+{
+    if clean {
+        return Ok(last_verdict(sys, seq, types, grid));
+    }
+    let sides = inputs_lent(alloc, sys, seq, grid, types)?;
+    Ok(judge(sys, seq, &sides))
+}
