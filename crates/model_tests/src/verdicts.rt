@@ -9,7 +9,7 @@ ghost use Rattle.local_check.specs.Judgement.{IsVerdict};
 
 use assembly::{Grid, Sequence};
 use fan_out::WorkerCount;
-use local_check::{SideSets, Verdict, inputs, inputs_by_index, judge};
+use local_check::{Judged, SideSets, Verdict, inputs, inputs_by_index, judge, judge_once};
 use replay_order::{Legality, check_legal};
 use std::alloc::Global;
 use std::test::Fail;
@@ -144,12 +144,24 @@ const HELD_TWICE: Verdict = Verdict::NotExact {
     sum: 2,
 };
 
+// A tile without a glue towards one that comes later, whose glue there holds a rival of it.
+const BARE_BESIDE: &str = "tiles 1\ntau 1\nglue a 1\nglue b 1\nglue c 1\nglue d 1\ntile S b a - -\n\
+    tile A - - - a\ntile N - c b -\ntile C - - d c\ntile U d - - -\nbox 0 0 1 1\nseed 0 0 S\nend\n";
+
+const AROUND: [Spot; 4] = [S, B, (0, 1, 2), (1, 1, 3)];
+
+const RIVAL_BEHIND: Verdict = Verdict::Rival {
+    site: Site { x: 1, y: 0 },
+    tile: TypeId(4),
+};
+
 // Systems, legal sequences, and the verdict.
-const CASES: [(&str, &[Spot], Verdict); 5] = [
+const CASES: [(&str, &[Spot], Verdict); 6] = [
     (CHAIN, &[S, B, D], Verdict::Yes),
     (CHAIN, &[S, B], CLIPPED),
     (RIVALS, &[S, B], RIVAL),
-    (SQUARE, &[S, B, (0, 1, 2), (1, 1, 3)], HELD_TWICE),
+    (SQUARE, &AROUND, HELD_TWICE),
+    (BARE_BESIDE, &AROUND, RIVAL_BEHIND),
     (MISMATCH, &BY_ROWS, Verdict::Yes),
 ];
 
@@ -179,6 +191,52 @@ fn judges_sequences(rt: HostRuntime) -> Result<(), Fail> {
         let few = spots.len() < 10;
         assert!(rt; few);
         assert!(rt; is_judged_so(&rt, rt.alloc(), text, spots, verdict)?);
+    }
+    Ok(())
+}
+
+// Systems and sequences: all clean, not held exactly, with rivals, with a mismatch, and broken.
+const IN_ONE_PASS: [(&str, &[Spot]); 11] = [
+    (CHAIN, &[S, B, D]),
+    (CHAIN, &[S, B]),
+    (RIVALS, &[S, B]),
+    (SQUARE, &AROUND),
+    (MISMATCH, &BY_ROWS),
+    (MISMATCH, &MISMATCH_FIRST),
+    (BARE_BESIDE, &AROUND),
+    (CHAIN, &[B]),
+    (CHAIN, &[S, D]),
+    (CHAIN, &[S, B, B]),
+    (SQUARE, &[S, B, (0, 1, 2), (1, 1, 3), B]),
+];
+
+// What is found of a sequence in two passes.
+fn judged_in_two(alloc: Global, sys: &System, order: &Sequence) -> Result<Judged, NoMemory>
+    requires fits { Fits sys.now order.now }
+    requires short { length order.now < 2 ^ 32 }
+{
+    let mut grid = Grid::make(alloc, sys.area())?;
+    match check_legal(sys, order, &mut grid) {
+        Legality::Legal => Ok(Judged::Legal(verdict_on(alloc, sys, order)?)),
+        breach => Ok(Judged::Breach(breach)),
+    }
+}
+
+// Whether one pass finds the same.
+fn is_judged_alike(alloc: Global, text: &str, spots: &[Spot]) -> Result<bool, Fail>
+    requires { length spots.now < 2 ^ 32 }
+{
+    let sys = system(alloc, text)?;
+    let order = sequence_of(alloc, &sys, spots)?;
+    Ok(judge_once(alloc, &sys, &order)? == judged_in_two(alloc, &sys, &order)?)
+}
+
+#[test]
+fn judges_in_one_pass(rt: HostRuntime) -> Result<(), Fail> {
+    for (text, spots) in IN_ONE_PASS {
+        let few = spots.len() < 10;
+        assert!(rt; few);
+        assert!(rt; is_judged_alike(rt.alloc(), text, spots)?);
     }
     Ok(())
 }
