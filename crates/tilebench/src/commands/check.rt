@@ -13,9 +13,9 @@ use crate::judged::is_unique;
 use crate::resources::Resources;
 use crate::room::{PlainRoom, Reply, Room};
 use crate::stop::Stop;
-use assembly::{Grid, Sequence};
-use local_check::{Verdict, inputs_of_grid, judge};
-use replay_order::{Legality, check_legal};
+use assembly::Sequence;
+use local_check::{Judged, Verdict, judge_once};
+use replay_order::Legality;
 use seq_text::{print_legality, print_verdict};
 use site_table::Grown;
 use std::alloc::Global;
@@ -97,19 +97,15 @@ fn print_legal<K: Sink>(sys: &System, verdict: &Verdict, out: &mut K) -> Result<
     print_verdict(sys, verdict, out)
 }
 
-// Whether a sequence is legal, and the verdict on it then, by the grid into which its places went.
+// Whether a sequence is legal, and the verdict on it then.
 fn judgement_of(alloc: Global, sys: &System, sequence: &Sequence) -> Result<Judgement, NoMemory>
     requires fits { Fits sys.now sequence.now }
     requires short { length sequence.now < 2 ^ 32 }
     ensures judged { IfOk result (IsJudgement sys.now sequence.now) }
     ensures types { IfOk result (NamesItsTypes sys.now) }
 {
-    let mut grid = Grid::make(alloc, sys.area())?;
-    match check_legal(sys, sequence, &mut grid) {
-        Legality::Legal => {
-            let sides = inputs_of_grid(alloc, sys, sequence, &grid)?;
-            Ok(Judgement::Legal(judge(sys, sequence, &sides)))
-        }
-        breach => Ok(Judgement::Breach(breach)),
+    match judge_once(alloc, sys, sequence)? {
+        Judged::Legal(verdict) => Ok(Judgement::Legal(verdict)),
+        Judged::Breach(breach) => Ok(Judgement::Breach(breach)),
     }
 }
