@@ -73,7 +73,7 @@ fn certify_prints_the_certificate(rt: HostRuntime) -> Result<(), Fail> {
 }
 
 // Certificates that are good, and some for each check that fails.
-const VERIFIED: [(&str, &str, Status, &str); 13] = [
+const VERIFIED: [(&str, &str, Status, &str); 14] = [
     (
         CHAIN,
         "mark 0 0 S - 0\nmark 1 0 B W 1\nmark 2 0 C W 2\n",
@@ -89,6 +89,13 @@ const VERIFIED: [(&str, &str, Status, &str); 13] = [
     (
         PAIRED,
         "# no more\nmark 0 0 S - 7\nmark 1 0 B W 4294967295\n",
+        Status::Done,
+        "verified yes\n",
+    ),
+    // zeros in front, a seventh digit, spaces
+    (
+        CHAIN,
+        "mark 000 -0 S - 00\nmark  1 000000 B  W 007 \n mark 0000002 0 C W 0000000008\n",
         Status::Done,
         "verified yes\n",
     ),
@@ -167,7 +174,7 @@ fn verify_tells_the_same_by_any_workers(rt: HostRuntime) -> Result<(), Fail> {
 }
 
 // Certificates whose text has a fault.
-const FAULTY: [(&str, &str, &str); 7] = [
+const FAULTY: [(&str, &str, &str); 17] = [
     (
         SQUARE,
         "mark 0 0 S - 0\nmark 1 0 E W 1\nmark 0 1 N S 2\nmark 1 1 C WS 3\n",
@@ -195,6 +202,53 @@ const FAULTY: [(&str, &str, &str); 7] = [
     ),
     (CHAIN, "mark 0 0 S -\n", "refused text line 11 BadLine\n"),
     (CHAIN, "place 0 0 S\n", "refused text line 11 BadLine\n"),
+    // lines that are almost in plain form
+    (
+        CHAIN,
+        "mark 1000001 0 B W 1\n",
+        "refused text line 11 OutOfRange\n",
+    ),
+    (
+        CHAIN,
+        "mark 1000000 0 B W 1\n",
+        "refused text line 11 OutsideBox\n",
+    ),
+    (
+        CHAIN,
+        "mark 0 0 S - 0\nmark +1 0 B W 1\n",
+        "refused text line 12 BadNumber\n",
+    ),
+    (
+        CHAIN,
+        "mark 1 - B W 1\n",
+        "refused text line 11 BadNumber\n",
+    ),
+    (
+        SQUARE,
+        "mark 0 0 S EN 0\n",
+        "refused text line 14 BadName\n",
+    ),
+    (
+        CHAIN,
+        "mark 0 0 S - 0\nmark 1 0 B W -1\n",
+        "refused text line 12 OutOfRange\n",
+    ),
+    (
+        CHAIN,
+        "mark 1 0 B W 00000000001\n",
+        "refused text line 11 BadNumber\n",
+    ),
+    (
+        CHAIN,
+        "mark 1 0 B W 1\t\n",
+        "refused text line 11 BadNumber\n",
+    ),
+    (CHAIN, "mark 1\t0 B W 1\n", "refused text line 11 BadLine\n"),
+    (
+        CHAIN,
+        "mark 1 0 B W 1 1\n",
+        "refused text line 11 BadLine\n",
+    ),
 ];
 
 #[test]

@@ -1,3 +1,4 @@
 pub mod Keeping
+pub mod PlainLines
 pub mod Printed
 pub mod SidesWords

@@ -3,6 +3,7 @@
 
 mod keyword;
 mod laws;
+mod plain;
 mod printing;
 mod reader;
 mod sides;

@@ -1,17 +1,20 @@
 // A certificate is read from its text.
-ghost use Rattle.std.specs.Prelude.{◌≡◌, ◌≤◌, ◌<◌, ◌++◌, ◌∷◌, [], IfOk, IsTrue, OnOk, OnErr, length, is_none};
+ghost use Rattle.std.specs.Prelude.{◌≡◌, ◌≤◌, ◌<◌, ◌++◌, ◌∷◌, [], IfOk, IfSome, IsTrue, OnOk, OnErr, length, is_none};
 ghost use Rattle.atam.specs.declared.limits.TheConstants.{MOST_TYPES};
 ghost use Rattle.atam.specs.Sites.{InBox};
 ghost use Rattle.atam.specs.Assembly.{Fits};
 ghost use Rattle.atam.specs.Placements.{tile_at};
 ghost use Rattle.atam.specs.TileSystem.{IsType};
+ghost use Rattle.tile_io.specs.Lines.{words_of};
 ghost use Rattle.tile_io.specs.NextLine.{IsMark};
 ghost use Rattle.tile_io.specs.Formats.{ReadsOrStops};
 ghost use Rattle.cert_check.specs.Certificates.{places_of};
 ghost use Rattle.cert_text.specs.CertificateText.{ReadsCertificate, certificate_format, entry_fields, mark_fields, rank_field};
+ghost use Rattle.cert_text.specs.Inner.Plain.{IsMarkLine};
 ghost use Rattle.cert_text.specs.Inner.SoFar.{AreKept};
 
 use crate::keyword::LineKind;
+use crate::plain::plain_mark;
 use crate::sides::read_sides;
 use assembly::Grid;
 use cert_check::{Certificate, Entry};
@@ -19,7 +22,7 @@ use std::alloc::Global;
 use tile_io::{
     Cause, LineReader, LineStop, LineWords, MOST_INPUT, Mark, TextStop, read_count, read_text,
 };
-use tile_system::{NoMemory, Placed, Site, System};
+use tile_system::{NoMemory, Place, Placed, Site, System};
 use tile_text::read_place;
 
 /// Reads a certificate text to the end of the input, in time that grows with its length, where types
@@ -107,6 +110,15 @@ impl<'a> LineReader for CertificateReader<'a> {
         }
     }
 
+    // A `mark` line in its plain form that passes its checks. Each other line is left.
+    fn take_plain(&mut self, line: &[u8]) -> Option<Result<bool, LineStop>> {
+        let entry = self.read_plain(line)?;
+        match self.hold(entry) {
+            Ok(()) => Some(Ok(false)),
+            Err(NoMemory) => Some(Err(LineStop::NoMemory)),
+        }
+    }
+
     fn is_complete(&self) -> bool {
         true
     }
@@ -150,6 +162,38 @@ impl<'a> CertificateReader<'a> {
             return Err(Cause::DoubleSite);
         }
         Ok(entry)
+    }
+
+    // The entry of a `mark` line in its plain form, where the line passes its checks.
+    #[inline(always)]
+    fn read_plain(&self, line: &[u8]) -> Option<Entry>
+        requires { AreKept self.now.system.now self.now.entries.items self.now.grid }
+        ensures entry { IfSome result (IsMarkLine
+            self.now.system.now self.now.entries.items (words_of line.now)) }
+        ensures inside { IfSome result (λ e. InBox self.now.system.now.area e.place.site) }
+        ensures known { IfSome result (λ e. IsType self.now.system.now e.place.tile) }
+        ensures sides { IfSome result (λ e. e.sides < 16) }
+        ensures free { IfSome result (λ e. tile_at self.now.grid.tiles e.place.site ≡ None) }
+    {
+        let mark = plain_mark(line)?;
+        let tile = self.system.find_type(mark.name)?;
+        let Ok(sides) = read_sides(mark.sides) else {
+            return None;
+        };
+        let Ok(rank) = read_rank(mark.rank) else {
+            return None;
+        };
+        if !self.system.area().holds(mark.site) {
+            return None;
+        }
+        if !self.is_free(mark.site) {
+            return None;
+        }
+        let place = Place {
+            site: mark.site,
+            tile,
+        };
+        Some(Entry { place, sides, rank })
     }
 
     // Whether no entry has the site.

@@ -1,8 +1,10 @@
 -- A `place` line in its plain form reads as its place.
-use Rattle.std.proofs.Common.{◌≡◌, ℕ, zero, suc, ◌+◌, ◌-◌, ◌*◌, ◌^◌, ◌≤◌, ◌<◌, ◌==◌, Bool, true, false, cond, List, [], ◌∷◌, ◌++◌, length, take, drop, get_or, codes, pos, Option, Some, None, Ok, refl, sym, ap, subst, ◌∙◌, arith, length-take-le, length-drop}
+use Rattle.std.proofs.Common.{◌≡◌, ℕ, zero, suc, ◌+◌, ◌-◌, ◌*◌, ◌^◌, ◌≤◌, ◌<◌, ◌==◌, Bool, true, false, cond, List, [], ◌∷◌, ◌++◌, length, take, drop, get_or, codes, pos, Option, Some, None, Ok, inl, inr, refl, sym, ap, subst, ◌∙◌, length-append, arith, length-take-le, length-drop}
 use Rattle.std.specs.Prelude.{ℤ, neg_ℤ, int_le, nat_le, find, bytes_eq, option_map}
+use Rattle.std.proofs.Math.ListN.{get_or-append}
 use Rattle.std.proofs.Math.Nat.{pow-le-pow_right}
-use Rattle.std.proofs.lemmas.Bool.{eqb-true, ne_eqb, le-leb, leb-true, and_parts}
+use Rattle.std.proofs.Math.Seq.{get_or-append_seam}
+use Rattle.std.proofs.lemmas.Bool.{cases_order, eqb-true, ne_eqb, le-leb, leb-true, and_parts}
 use Rattle.std.proofs.lemmas.List.{take-append-drop, drop_more, take_all, get_or-take}
 use Rattle.std.proofs.lemmas.List.Elements.{All-cons, All-from_recursion}
 use Rattle.std.proofs.lemmas.List.Sums.{fold_more}
@@ -34,7 +36,8 @@ use Rattle.seq_text.specs.Inner.SoFar.{HoldsLines}
 use Rattle.seq_text.proofs.Fields.{place_of_found}
 use Rattle.seq_text.proofs.Growths.{row_named}
 use Rattle.tile_text.proofs.PlainWords.{keyword_word, name_word}
-use Rattle.seq_text.specs.Inner.Plain.{StartsWithDigits, StartsWithCoordinate, IsPlainPlace, IsPlaceLine}
+use Rattle.seq_text.specs.PlainCoordinates.{StartsWithCoordinate}
+use Rattle.seq_text.specs.Inner.Plain.{StartsWithDigits, HasNoDigits, IsPlainPlace, IsPlaceLine}
 
 -- what a digit is
 pub digit_bounds : (b : ℕ) → is_digit b ≡ true → (48 ≤ b) × (b ≤ 57)
@@ -53,23 +56,64 @@ value_none bytes = refl
 pub small_digits : (size i : ℕ) → size < 10 ^ i → i ≤ 6 → size < 10 ^ 6
 small_digits size i small few = let most : 10 ^ i ≤ 10 ^ 6 = pow-le-pow_right (omega arith) few in omega (arith, small, most)
 
+-- what stands in front of a space, and behind it
+pub space_at : (bytes : List ℕ) (i : ℕ) → i < length bytes → get_or bytes i 0 ≡ 32 → bytes ≡ take i bytes ++ 32 ∷ take (length bytes - (i + 1)) (drop (i + 1) bytes)
+space_at bytes i within space =
+    let rest = drop (i + 1) bytes in
+    let back : drop i bytes ≡ 32 ∷ rest = drop_more bytes i 0 within ∙ ap (λ b. b ∷ rest) space in
+    let whole : take (length bytes - (i + 1)) rest ≡ rest = take_all (length bytes - (i + 1)) rest (omega (arith, length-drop (i + 1) bytes)) in
+    sym (take-append-drop i bytes) ∙ ap (λ l. take i bytes ++ l) (back ∙ ap (λ l. 32 ∷ l) (sym whole))
+
 -- the digits in front of a space
 pub digits_before : (bytes : List ℕ) (i size : ℕ) → 0 < i → i ≤ 6 → i < length bytes → get_or bytes i 0 ≡ 32 → ((k : ℕ) → k < i → is_digit (get_or bytes k 0) ≡ true) →
     digits_value (take i bytes) ≡ size → size < 10 ^ i → StartsWithDigits bytes size (take (length bytes - (i + 1)) (drop (i + 1) bytes))
 digits_before bytes i size some few within space digits value small =
     let word = take i bytes in
-    let rest = drop (i + 1) bytes in
     let size_is : length word ≡ i = length-take-le i bytes (omega (arith, within)) in
-    let back : drop i bytes ≡ 32 ∷ rest = drop_more bytes i 0 within ∙ ap (λ b. b ∷ rest) space in
-    let front : bytes ≡ word ++ 32 ∷ rest = sym (take-append-drop i bytes) ∙ ap (λ l. word ++ l) back in
-    let Starts : List ℕ → Type 0 = λ l. StartsWithDigits bytes size l in
-    subst Starts (sym (take_all (length bytes - (i + 1)) rest (omega (arith, length-drop (i + 1) bytes)))) (record {
+    record {
       word = word;
-      cut = front;
+      cut = space_at bytes i within space;
       digits = digits_each word (omega (arith, size_is, some)) (omega (arith, size_is, few)) (λ k less. let before : k < i = omega (arith, less, size_is) in ap is_digit (get_or-take i bytes k 0 before) ∙ digits k before);
+      few = omega (arith, size_is, few);
       value = value;
       small = small_digits size i small few;
-    })
+    }
+
+module _ (bytes word rest : List ℕ) (cut : bytes ≡ word ++ 32 ∷ rest) (digits : are_digits word ≡ true) where
+  -- what digits in front of a space are, and the space
+  digit_of : (k : ℕ) → k < length word → is_digit (get_or bytes k 0) ≡ true
+  digit_of k less =
+      let p = digit_at word ((digits_parts word digits).2) k less in
+      let digit : is_digit (get_or word k 0) ≡ true = rw (le-leb 48 (get_or word k 0) p.0, le-leb (get_or word k 0) 57 p.1) refl in
+      ap (λ l. is_digit (get_or l k 0)) cut ∙ ap is_digit (get_or-append word (32 ∷ rest) 0 k less) ∙ digit
+
+  space_behind : get_or bytes (length word) 0 ≡ 32
+  space_behind = ap (λ l. get_or l (length word) 0) cut ∙ get_or-append_seam word 32 rest 0
+
+  -- which is no digit
+  never_a_digit : is_digit (get_or bytes (length word) 0) ≡ true → ⊥
+  never_a_digit e = let digit : is_digit 32 ≡ true = ap is_digit (sym space_behind) ∙ e in absurd (cc digit)
+
+-- digits, and behind them a byte that is neither a digit nor a space behind one
+pub no_digits_at : (bytes : List ℕ) (i : ℕ) → ((k : ℕ) → k < i → is_digit (get_or bytes k 0) ≡ true) → is_digit (get_or bytes i 0) ≡ false → (get_or bytes i 0 ≡ 32 → i ≡ 0) → HasNoDigits bytes
+no_digits_at bytes i before other space = λ word rest cut digits few.
+    let n = length word in
+    let behind : get_or bytes n 0 ≡ 32 = space_behind bytes word rest cut digits in
+    let some : 1 ≤ n = (digits_parts word digits).0 in
+    elim (cases_order i n) [
+      | inl same ↦ let first : i ≡ 0 = space (ap (λ k. get_or bytes k 0) same ∙ behind) in absurd (omega (arith, first, same, some))
+      | inr apart ↦ elim apart [
+          | inl less ↦ let clash : true ≡ false = sym (digit_of bytes word rest cut digits i less) ∙ other in absurd (cc clash)
+          | inr more ↦ never_a_digit bytes word rest cut digits (before n more)
+        ]
+    ]
+
+-- digits up to the end, or more than six
+pub no_digits_to : (bytes : List ℕ) (i : ℕ) → ((k : ℕ) → k < i → is_digit (get_or bytes k 0) ≡ true) → ((n : ℕ) → n ≤ 6 → n < length bytes → n < i) → HasNoDigits bytes
+no_digits_to bytes i before to = λ word rest cut digits few.
+    let n = length word in
+    let whole : length bytes ≡ n + length (32 ∷ rest) = ap length cut ∙ length-append word (32 ∷ rest) in
+    never_a_digit bytes word rest cut digits (before n (to n few (omega (arith, whole))))
 
 in_bounds : (word : List ℕ) (z : ℤ) → are_digits (without_minus word) ≡ true → number_value word ≡ z → int_le LEAST_COORDINATE z ≡ true → int_le z GREATEST_COORDINATE ≡ true → coordinate word ≡ Ok z
 in_bounds word z digits value low high = sym (number_of_digits _ _ word digits) ∙ ap (in_range LEAST_COORDINATE GREATEST_COORDINATE) value ∙ rw (low, high) refl
@@ -89,7 +133,8 @@ plain_number bytes rest size h =
     let small : size < 10 ^ 6 = h.small in
     let digits : are_digits (without_minus h.word) ≡ true = rw no_minus h.digits in
     let value : number_value h.word ≡ pos size = rw no_minus (ap (λ n. pos n) h.value) in
-    record { word = h.word; cut = h.cut; reads = in_bounds h.word (pos size) digits value refl (le-leb size 1000000 (omega (arith, small))) }
+    let few : length (without_minus h.word) ≤ 6 = rw no_minus h.few in
+    record { word = h.word; cut = h.cut; few = few; reads = in_bounds h.word (pos size) digits value refl (le-leb size 1000000 (omega (arith, small))) }
 
 minus_low : (size : ℕ) → size < 10 ^ 6 → int_le LEAST_COORDINATE (neg_ℤ (pos size)) ≡ true
 minus_low zero small = refl
@@ -104,6 +149,7 @@ pub minus_number : (digits rest : List ℕ) (size : ℕ) → StartsWithDigits di
 minus_number digits rest size h = record {
   word = 45 ∷ h.word;
   cut = ap (λ l. 45 ∷ l) h.cut;
+  few = h.few;
   reads = in_bounds (45 ∷ h.word) (neg_ℤ (pos size)) h.digits (ap (λ n. neg_ℤ (pos n)) h.value) (minus_low size h.small) (minus_high size);
 }
 
@@ -127,8 +173,36 @@ number_digits least most word z e =
     let one = bind_ok (require (are_digits (without_minus word)) BadNumber) (λ _. in_range least most (number_value word)) z e in
     require_ok (are_digits (without_minus word)) BadNumber one.0 one.1
 
+module _ (bytes : List ℕ) (none : HasNoDigits bytes) where
+  no_minus_by : (word rest : List ℕ) → 45 ∷ bytes ≡ word ++ 32 ∷ rest → are_digits (without_minus word) ≡ true → length (without_minus word) ≤ 6 → ⊥
+  no_minus_by [] rest cut digits few = absurd (cc digits)
+  no_minus_by (b ∷ bs) rest cut digits few =
+      let whole : 45 ∷ bytes ≡ b ∷ (bs ++ 32 ∷ rest) = cut in
+      let first : b ≡ 45 = cc whole in
+      let behind : bytes ≡ bs ++ 32 ∷ rest = cc whole in
+      let same : without_minus (45 ∷ bs) ≡ without_minus (b ∷ bs) = ap (λ c. without_minus (c ∷ bs)) (sym first) in
+      let short : length (without_minus (b ∷ bs)) ≤ 6 = few in
+      let size : length bs ≡ length (without_minus (b ∷ bs)) = ap length same in
+      none bs rest behind (ap are_digits same ∙ digits) (omega (arith, size, short))
+
+  no_number_by : (word rest : List ℕ) → starts_with_minus bytes ≡ false → bytes ≡ word ++ 32 ∷ rest → are_digits (without_minus word) ≡ true → length (without_minus word) ≤ 6 → ⊥
+  no_number_by [] rest plus cut digits few = absurd (cc digits)
+  no_number_by (b ∷ bs) rest plus cut digits few =
+      let other : (b == 45) ≡ false = ap starts_with_minus (sym cut) ∙ plus in
+      let same : without_minus (b ∷ bs) ≡ b ∷ bs = rw other refl in
+      let short : length (without_minus (b ∷ bs)) ≤ 6 = few in
+      let size : length (b ∷ bs) ≡ length (without_minus (b ∷ bs)) = ap length (sym same) in
+      none (b ∷ bs) rest cut (ap are_digits (sym same) ∙ digits) (omega (arith, size, short))
+
+  -- no coordinate where no digits are, behind a minus or without one
+  pub no_minus : (z : ℤ) (rest : List ℕ) → StartsWithCoordinate (45 ∷ bytes) z rest → ⊥
+  no_minus z rest h = no_minus_by h.word rest h.cut (number_digits _ _ h.word z h.reads) h.few
+
+  pub no_number : starts_with_minus bytes ≡ false → (z : ℤ) (rest : List ℕ) → StartsWithCoordinate bytes z rest → ⊥
+  no_number plus z rest h = no_number_by h.word rest plus h.cut (number_digits _ _ h.word z h.reads) h.few
+
 -- a number field that reads is one word
-number_word : (least most : ℤ) (word : List ℕ) (z : ℤ) → number_in least most word ≡ Ok z → IsWord word
+pub number_word : (least most : ℤ) (word : List ℕ) (z : ℤ) → number_in least most word ≡ Ok z → IsWord word
 number_word least most [] z e = let none = number_digits least most [] z e in absurd (cc none)
 number_word least most (b ∷ bs) z e = number_word_by b bs (b == 45) refl (number_digits least most (b ∷ bs) z e)
 

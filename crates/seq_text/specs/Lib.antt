@@ -3,6 +3,7 @@ pub mod LegalityLines
 pub mod VerdictLines
 pub mod StuckLines
 pub mod GrowthText
+pub mod PlainCoordinates
 pub mod PrintedGrowths
 pub mod ScheduleText
 pub mod SeenLines

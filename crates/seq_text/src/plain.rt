@@ -1,7 +1,8 @@
 // A `place` line in its plain form, which is read without being cut into words.
-ghost use Rattle.std.specs.Prelude.{◌≡◌, ◌∷◌, IfSome};
-ghost use Rattle.tile_io.specs.Checks.{is_digit};
-ghost use Rattle.seq_text.specs.Inner.Plain.{IsPlainPlace, StartsWithCoordinate, StartsWithDigits};
+ghost use Rattle.std.specs.Prelude.{◌≡◌, ◌∷◌, ℕ, ℤ, List, false, IfNone, IfSome};
+ghost use Rattle.tile_io.specs.Checks.{is_digit, starts_with_minus};
+ghost use Rattle.seq_text.specs.PlainCoordinates.{StartsWithCoordinate};
+ghost use Rattle.seq_text.specs.Inner.Plain.{HasNoDigits, IsPlainPlace, StartsWithDigits};
 
 use tile_system::Site;
 
@@ -21,10 +22,13 @@ pub(crate) fn plain_place(line: &[u8]) -> Option<(Site, &[u8])>
     Some((Site { x, y }, name))
 }
 
-// The coordinate at the front, and what stands behind the space after it.
+/// The coordinate in its plain form at the front, and what stands behind the space after it.
 #[inline(always)]
-fn plain_coordinate(bytes: &[u8]) -> Option<(i32, &[u8])>
-    ensures { IfSome result (λ found. StartsWithCoordinate bytes.now found.0 found.1.now) }
+pub fn plain_coordinate(bytes: &[u8]) -> Option<(i32, &[u8])>
+    ensures starts { IfSome result (λ found.
+        StartsWithCoordinate bytes.now found.0 found.1.now) }
+    ensures none { IfNone result ((z : ℤ) (rest : List ℕ) →
+        StartsWithCoordinate bytes.now z rest → ⊥) }
 {
     match after_minus(bytes) {
         Some(digits) => {
@@ -41,7 +45,8 @@ fn plain_coordinate(bytes: &[u8]) -> Option<(i32, &[u8])>
 // What stands behind a minus at the front.
 #[inline(always)]
 fn after_minus(bytes: &[u8]) -> Option<&[u8]>
-    ensures { IfSome result (λ rest. bytes.now ≡ 45 ∷ rest.now) }
+    ensures rest { IfSome result (λ rest. bytes.now ≡ 45 ∷ rest.now) }
+    ensures none { IfNone result (starts_with_minus bytes.now ≡ false) }
 {
     match bytes.split_first() {
         Some((first, rest)) if *first == b'-' => Some(rest),
@@ -52,13 +57,17 @@ fn after_minus(bytes: &[u8]) -> Option<&[u8]>
 // The number that the digits at the front write, and what stands behind the space after them.
 #[inline(always)]
 fn plain_digits(bytes: &[u8]) -> Option<(u32, &[u8])>
-    ensures { IfSome result (λ found. StartsWithDigits bytes.now found.0 found.1.now) }
+    ensures starts { IfSome result (λ found. StartsWithDigits bytes.now found.0 found.1.now) }
+    ensures none { IfNone result (HasNoDigits bytes.now) }
 {
     let mut size = 0;
     for index in 0..bytes.len().min(MOST_PLAIN_DIGITS + 1) {
         let byte = bytes[index];
-        if byte == b' ' && index > 0 {
-            return Some((size, &bytes[index + 1..]));
+        if byte == b' ' {
+            if index > 0 {
+                return Some((size, &bytes[index + 1..]));
+            }
+            return None;
         }
         if !is_digit(byte) {
             return None;

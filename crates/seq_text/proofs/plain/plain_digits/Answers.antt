@@ -1,14 +1,14 @@
-use Rattle.std.proofs.Common.{◌≡◌, ◌≤◌, ◌<◌, ◌^◌, ◌+◌, ◌*◌, true, length, get_or, sym, ap, ◌∙◌, arith, below_more}
+use Rattle.std.proofs.Common.{◌≡◌, ◌≤◌, ◌<◌, ◌^◌, ◌+◌, ◌*◌, true, false, length, get_or, sym, ap, ◌∙◌, arith, below_more}
 use Rattle.tile_io.specs.Checks.{is_digit}
 use Rattle.tile_io.proofs.Digits.{small_more}
-use Rattle.seq_text.proofs.PlainLines.{digit_bounds, value_none, value_more, small_digits, digits_before}
+use Rattle.seq_text.proofs.PlainLines.{digit_bounds, value_none, value_more, small_digits, digits_before, no_digits_at, no_digits_to}
 use Rattle.seq_text.proofs.plain.plain_digits.Goals as goal
 
 pub loop-index-init : goal.loop-index-init
 loop-index-init c = record { within = omega arith; few = omega arith; digits = λ k less. absurd (omega (arith, less)); value = value_none c.args.bytes.now; small = omega arith }
 
-pub returns-then-index-gt0 : goal.returns-then-index-gt0
-returns-then-index-gt0 c =
+pub returns-then-index-gt0-clause-starts : goal.returns-then-index-gt0-clause-starts
+returns-then-index-gt0-clause-starts c =
     let i = c.loop-index.index in
     let before = c.loop-index.invariant in
     let some : 0 < c.loop-index.index = omega (arith, c.if-index-gt0.true) in
@@ -45,3 +45,12 @@ loop-index-preserved c =
       value = value_more c.args.bytes.now i c.loop-index.size within before.value ∙ ap (λ d. 10 * c.loop-index.size + d) (sym c.from.ensures);
       small = small_more c.loop-index.size i c.from.result before.small (omega (arith, most, c.from.ensures));
     }
+
+pub returns-then-not-is_digit-clause-none : goal.returns-then-not-is_digit-clause-none
+returns-then-not-is_digit-clause-none c =
+    let i = c.loop-index.index in
+    let other : is_digit (get_or c.args.bytes.now c.loop-index.index 0) ≡ false = sym c.is_digit.ensures ∙ c.if-not-is_digit.true in
+    no_digits_at c.args.bytes.now i c.loop-index.invariant.digits other (λ e. omega (arith, e, c.if-byte-eq32.false))
+
+pub returns-clause-none : goal.returns-clause-none
+returns-clause-none c = no_digits_to c.args.bytes.now c.loop-index.index c.loop-index.invariant.digits (λ n few less. omega (arith, few, less, c.loop-index-test.false, c.min-index-end.ensures))
