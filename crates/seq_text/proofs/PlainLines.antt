@@ -103,9 +103,9 @@ no_digits_at bytes i before other space = λ word rest cut digits few.
     elim (cases_order i n) [
       | inl same ↦ let first : i ≡ 0 = space (ap (λ k. get_or bytes k 0) same ∙ behind) in absurd (omega (arith, first, same, some))
       | inr apart ↦ elim apart [
-          | inl less ↦ let clash : true ≡ false = sym (digit_of bytes word rest cut digits i less) ∙ other in absurd (cc clash)
-          | inr more ↦ never_a_digit bytes word rest cut digits (before n more)
-        ]
+        | inl less ↦ let clash : true ≡ false = sym (digit_of bytes word rest cut digits i less) ∙ other in absurd (cc clash)
+        | inr more ↦ never_a_digit bytes word rest cut digits (before n more)
+      ]
     ]
 
 -- digits up to the end, or more than six
