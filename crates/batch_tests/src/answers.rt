@@ -2,7 +2,7 @@
 use program_runs::{Case, first_unlike};
 use std::test::Fail;
 use tilebench::Status;
-use worked_systems::{SINGLE, TWO_SEEDS};
+use worked_systems::{RIVALS, SINGLE, TWO_SEEDS};
 
 /// Two jobs, of which the second is clipped.
 pub(crate) const TWO_JOBS: &str =
@@ -13,7 +13,7 @@ pub(crate) const TWO_JOBS: &str =
 const USAGE: &str = "refused words Usage\n";
 
 // Batches, whose first lines stand before a system, and words that are refused.
-const RUNS: [Case; 9] = [
+const RUNS: [Case; 10] = [
     Case {
         words: &["batch", "--workers", "2"],
         system: TWO_JOBS,
@@ -49,6 +49,16 @@ const RUNS: [Case; 9] = [
         status: Status::Done,
         out: "job 0\nplace 0 0 S\nplace 2 0 T\nplace 1 0 M\nclosed terminal\nunique yes\n\
             done 1 yes 1\n",
+        err: "",
+    },
+    // whatever the choice, the least of the types that attach is placed
+    Case {
+        words: &["batch"],
+        system: "batch 1\njob 1\n",
+        behind: RIVALS,
+        status: Status::No,
+        out: "job 0\nplace 0 0 S\nplace 1 0 A\nclosed terminal\nunique no 2 1 0 B\n\
+            done 1 yes 0\n",
         err: "",
     },
     Case {

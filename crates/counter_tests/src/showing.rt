@@ -64,6 +64,12 @@ fn reports_are_one_line(rt: HostRuntime) -> Result<(), Fail> {
         "{\"closed\":\"terminal\",\"glues\":14,\"height\":8,\"tau\":2,\"tiles\":16,\"types\":18,\
         \"unique\":\"yes\",\"width\":2,\"won\":[15]}"
     );
+    let raced = report_text(rt.alloc(), &system, 16, &[], false, false)?;
+    assert_eq!(rt;
+        raced.as_str(),
+        "{\"closed\":\"terminal\",\"glues\":14,\"height\":8,\"tau\":2,\"tiles\":16,\"types\":18,\
+        \"unique\":\"no\",\"width\":2,\"won\":[]}"
+    );
     let part = report_text(rt.alloc(), &system, 6, &[3, 0, 2], true, false)?;
     assert_eq!(rt;
         part.as_str(),

@@ -4,7 +4,12 @@ use std::test::Fail;
 use tilebench::Status;
 use worked_systems::{PAIRED, SINGLE, TWO_SEEDS};
 
-const GROWN: [Case; 14] = [
+// The seeds in another order than that of their sites.
+const LATER_SEED_FIRST: &str =
+    "tiles 2\ntau 2\nglue a 1\nglue b 1\ntile S - a - -\ntile T - - - b\ntile M - b - a\n\
+    box 0 0 2 0\nseed 2 0 T\nseed 0 0 S\nend\n";
+
+const GROWN: [Case; 15] = [
     Case {
         words: &["check"],
         system: TWO_SEEDS,
@@ -59,6 +64,15 @@ const GROWN: [Case; 14] = [
         behind: "place 2 0 T\nplace 1 0 M\n",
         status: Status::No,
         out: "stuck seed 0 0\n",
+        err: "",
+    },
+    // both are missing, and the first one is told
+    Case {
+        words: &["replay"],
+        system: LATER_SEED_FIRST,
+        behind: "place 1 0 M\n",
+        status: Status::No,
+        out: "stuck seed 2 0\n",
         err: "",
     },
     Case {

@@ -5,6 +5,7 @@ ghost use Rattle.atam.specs.Sites.{InBox};
 ghost use Rattle.atam.specs.Placements.{IsPartOf, SamePlacements};
 ghost use Rattle.atam.specs.Assembly.{Fits};
 ghost use Rattle.assembly.specs.Cells.{cell_count, site_at};
+ghost use Rattle.assembly.specs.Rows.{IsRow};
 ghost use Rattle.number_set.specs.Numbers.{IsIn};
 ghost use Rattle.watch_frames.specs.Extensions.{Extends};
 ghost use Rattle.watch_frames.specs.Frames.{AreFrames, TakesFrame};
@@ -74,6 +75,29 @@ impl Listing {
         }
     }
 
+    // The same by the number alone: the site is worked out only where a tile was seen that isn't
+    // listed.
+    #[inline(always)]
+    fn offer_number(&mut self, sys: &System, seen: &Grid, row: &mut Row, number: usize)
+        requires fit { IsListingOf sys.now self.old }
+        requires area { seen.now.area ≡ sys.now.area }
+        requires fits { Fits sys.now seen.now.tiles }
+        requires listed_fits { Fits sys.now self.old.listed.tiles }
+        requires within { number < cell_count sys.now.area }
+        requires row { IsRow sys.now.area row.old }
+        ensures adds { AddsReady sys.now seen.now.tiles self.old self.new }
+        ensures here { IsReadyAt sys.now seen.now.tiles self.old.listed.tiles
+            (site_at sys.now.area number) → IsIn self.new.ready number }
+        ensures row { IsRow sys.now.area row.new }
+    {
+        if seen.tile(number).is_none() || self.listed.tile(number).is_some() {
+            return;
+        }
+        let area = sys.area();
+        let site = row.site(&area, number);
+        self.offer(sys, seen, site, number);
+    }
+
     // The same for the site on one side of a site, if it is in the box.
     #[inline(always)]
     fn offer_on(&mut self, sys: &System, seen: &Grid, site: Site, number: usize, side: Side)
@@ -126,8 +150,7 @@ impl Listing {
         let sites = area.width() as usize * area.height() as usize;
         let mut row = Row::least(&area);
         for number in 0..sites {
-            let site = row.site(&area, number);
-            self.offer(sys, seen, site, number);
+            self.offer_number(sys, seen, &mut row, number);
         }
     }
 
