@@ -58,6 +58,21 @@ fn grow_alone<G: Gate>(
     Ok((grown, Some(order)))
 }
 
+/// Grows a system, with an index of the types of its own.
+pub fn grow_by_crew<R: Threads + Sync, G: Gate>(
+    resources: &Resources<'_, R, G>,
+    sys: &System,
+    crew: Crew,
+) -> Result<Grown, NoMemory>
+    ensures { IfOk result (IsGrownBy sys.now crew.workers.count) }
+{
+    let alloc = resources.alloc;
+    let gate = resources.gate;
+    let Crew { workers, choice } = crew;
+    let types = TypeIndex::build(alloc, sys)?;
+    grow_by_index(resources.rt, alloc, sys, &types, workers, choice, gate)
+}
+
 /// The canonical sequence of a producible grid, which may be known, by so many workers.
 pub fn order_of<R: Threads + Sync, G: Gate>(
     resources: &Resources<'_, R, G>,

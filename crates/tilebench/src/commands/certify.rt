@@ -2,6 +2,7 @@
 ghost use Rattle.std.specs.Prelude.{◌≡◌, IfOk};
 ghost use Rattle.atam.specs.Assembly.{Fits};
 ghost use Rattle.replay_order.specs.ReplayAnswers.{IsWholeOrder};
+ghost use Rattle.local_check.specs.SideSets.{AreSidesOf};
 ghost use Rattle.seq_text.specs.GrowthText.{grid_format};
 ghost use Rattle.tilebench.specs.Commands.Certify.{IsCertification, certification_text, certify_row, is_given};
 ghost use Rattle.tilebench.specs.Inner.Rooms.{CertifiesTypes};
@@ -15,7 +16,7 @@ use crate::stop::Stop;
 use assembly::{Grid, Sequence};
 use cert_check::{Certificate, certificate_of};
 use cert_text::print_certificate;
-use local_check::{Verdict, inputs_of_grid, judge};
+use local_check::{SideSets, Verdict, inputs_of_grid, judge};
 use seq_text::print_verdict;
 use site_table::Grown;
 use std::alloc::Global;
@@ -116,9 +117,25 @@ fn certification_by(
     ensures types { IfOk result (CertifiesTypes sys.now) }
 {
     let sides = inputs_of_grid(alloc, sys, order, grid)?;
-    match judge(sys, order, &sides) {
+    certification_with(alloc, sys, grid, order, &sides)
+}
+
+// The same by the sides of the order's places too.
+fn certification_with(
+    alloc: Global,
+    sys: &System,
+    grid: &Grid,
+    order: &Sequence,
+    sides: &SideSets,
+) -> Result<Certification, NoMemory>
+    requires ordered { IsWholeOrder sys.now grid.now.tiles order.now }
+    requires sides { AreSidesOf sys.now order.now sides.now }
+    ensures certified { IfOk result (IsCertification sys.now grid.now.tiles) }
+    ensures types { IfOk result (CertifiesTypes sys.now) }
+{
+    match judge(sys, order, sides) {
         Verdict::Yes => {
-            let certificate = certificate_of(alloc, sys, order, &sides)?;
+            let certificate = certificate_of(alloc, sys, order, sides)?;
             Ok(Certification::Given(certificate))
         }
         refuted => Ok(Certification::Refuted(refuted)),

@@ -9,19 +9,18 @@ ghost use Rattle.tilebench.specs.Inner.Readings.{taken_or_faulty};
 ghost use Rattle.tilebench.specs.Inputs.{alone};
 
 use crate::input::read_alone;
+use crate::order::grow_by_crew;
 use crate::resources::{Crew, Resources};
 use crate::room::{Reply, Room};
 use crate::stop::Stop;
 use crate::wins::{Win, wins_of};
 use fan_out::WorkerCount;
-use grow_workers::grow_by_index;
 use itoa::Buffer;
 use site_table::Grown;
 use std::alloc::Global;
 use std::thread::Threads;
 use tile_io::{Chunk, Failed, Gate, Sink};
 use tile_system::{NoMemory, System};
-use type_index::TypeIndex;
 
 /// The command.
 #[derive(Clone, Copy)]
@@ -51,12 +50,8 @@ impl Race {
             (race_row self.now.0.workers.count) input.items result }
     {
         let sys = read_alone(resources.alloc, &input)?;
-        let Crew { workers, choice } = self.0;
-        let alloc = resources.alloc;
-        let types = TypeIndex::build(alloc, &sys)?;
-        let gate = resources.gate;
-        let grown = grow_by_index(resources.rt, alloc, &sys, &types, workers, choice, gate)?;
-        let raced = raced_of(alloc, &sys, workers, &grown)?;
+        let grown = grow_by_crew(resources, &sys, self.0)?;
+        let raced = raced_of(resources.alloc, &sys, self.0.workers, &grown)?;
         Ok((raced, Some(grown)))
     }
 }

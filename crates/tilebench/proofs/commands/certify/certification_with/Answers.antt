@@ -1,6 +1,6 @@
 use Rattle.tilebench.proofs.Certificates.{certificate_given, certificate_types, refuted_given}
 use Rattle.tilebench.proofs.Growths.{verdict_types}
-use Rattle.tilebench.proofs.commands.certify.certification_by.Goals as goal
+use Rattle.tilebench.proofs.commands.certify.certification_with.Goals as goal
 
 pub returns-in-Yes-clause-certified : goal.returns-in-Yes-clause-certified
 returns-in-Yes-clause-certified c =
