@@ -41,10 +41,22 @@ impl Outcome {
     pub fn work<R: Threads + Sync>(rt: &R, alloc: Global, job: &Job) -> Result<Outcome, NoMemory>
         ensures { IfOk result (Answers job.now.sys) }
     {
-        let sys = &job.sys;
-        let types = TypeIndex::build(alloc, sys)?;
-        let (grid, order) = fill_least_first_by_index(alloc, sys, &types, &mut First)?;
-        let (verdict, outside) = judge_order(rt, alloc, sys, grid, &types, &order)?;
+        let types = TypeIndex::build(alloc, &job.sys)?;
+        Outcome::by_index(rt, alloc, &job.sys, &types)
+    }
+
+    // The same where an index of the types is lent.
+    fn by_index<R: Threads + Sync>(
+        rt: &R,
+        alloc: Global,
+        sys: &System,
+        types: &TypeIndex,
+    ) -> Result<Outcome, NoMemory>
+        requires { IsIndexOf sys.now types.now }
+        ensures { IfOk result (Answers sys.now) }
+    {
+        let (grid, order) = fill_least_first_by_index(alloc, sys, types, &mut First)?;
+        let (verdict, outside) = judge_order(rt, alloc, sys, grid, types, &order)?;
         Ok(Outcome {
             sequence: order.copy()?,
             outside,

@@ -2,11 +2,11 @@ use Rattle.std.proofs.Common.{◌≡◌, List, sym, subst}
 use Rattle.atam.specs.declared.place.Place.{Place}
 use Rattle.atam.specs.Canonical.{IsCanonical}
 use Rattle.local_check.specs.Judgement.{IsVerdict}
-use Rattle.job_board.proofs.outcome.Outcome.work.Goals as goal
+use Rattle.job_board.proofs.outcome.Outcome.by_index.Goals as goal
 
 pub returns : goal.returns
 returns g c =
-    let sys = c.args.job.now.sys in
+    let sys = c.args.sys.now in
     let tiles = c.in_ok-grid.grid.tiles in
     let same : c.in_ok-copy.field-0 ≡ c.in_ok-grid.order = c.in_ok-copy.ensures in
     record {
