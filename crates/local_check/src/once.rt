@@ -48,10 +48,29 @@ fn judge_begun(alloc: Global, sys: &System, seq: &Sequence) -> Result<Judged, No
     requires short { length seq.now < 2 ^ 32 }
     ensures { IfOk result (IsJudged sys.now seq.now) }
 {
-    let types = TypeIndex::build(alloc, sys)?;
     let mut grid = grid_of_seeds(alloc, sys)?;
-    let passed = pass(alloc, sys, seq, &types, &mut grid)?;
-    judge_passed(alloc, sys, seq, &types, &grid, passed)
+    let types = TypeIndex::build(alloc, sys)?;
+    judge_by_index(alloc, sys, seq, &types, &mut grid)
+}
+
+// The same by an index of the types, with the seeds in a grid.
+fn judge_by_index(
+    alloc: Global,
+    sys: &System,
+    seq: &Sequence,
+    types: &TypeIndex,
+    grid: &mut Grid,
+) -> Result<Judged, NoMemory>
+    requires begun { take (length sys.now.seeds) seq.now ≡ sys.now.seeds }
+    requires fits { Fits sys.now seq.now }
+    requires short { length seq.now < 2 ^ 32 }
+    requires index { IsIndexOf sys.now types.now }
+    requires area { grid.old.area ≡ sys.now.area }
+    requires seeds { SamePlacements sys.now.seeds grid.old.tiles }
+    ensures { IfOk result (IsJudged sys.now seq.now) }
+{
+    let passed = pass(alloc, sys, seq, types, grid)?;
+    judge_passed(alloc, sys, seq, types, grid, passed)
 }
 
 // The seeds in a grid of the system's box.
