@@ -1,5 +1,5 @@
 -- What is known of a full growth and its canonical sequence.
-use Rattle.std.proofs.Common.{All, List, Option, Some, None, IfSome, sym}
+use Rattle.std.proofs.Common.{All, List, Option, IfSome, sym}
 use Rattle.atam.specs.declared.place.Place.{Place}
 use Rattle.atam.specs.TileSystem.{TileSystem, IsType}
 use Rattle.atam.specs.Assembly.{Fits}
@@ -14,10 +14,8 @@ use Rattle.atam.proofs.Sequences.{IsLegal-distinct}
 use Rattle.atam.proofs.Tiles.{SameTiles, SameTiles-from}
 use Rattle.atam.specs.declared.place.TypeId.{TypeId}
 use Rattle.atam.specs.declared.site.Site.{Site}
-use Rattle.local_check.specs.declared.verdict.Verdict.{Verdict}
-use Rattle.local_check.specs.declared.verdict.Verdict.TheVariants.{Yes, NotExact, Rival, NotTerminal}
-use Rattle.local_check.specs.Judgement.{IsVerdict}
 use Rattle.seq_text.specs.VerdictLines.{NamesTypes}
+use Rattle.seq_text.proofs.NamedTypes.{open_type, verdict_types}
 use Rattle.unique_law.specs.Outcomes.{Outcome}
 use Rattle.job_board.specs.Answers.{Answers}
 
@@ -52,18 +50,6 @@ pub order_outside : (sys : TileSystem) (tiles order : List Place) → HasDistinc
     (outside : Option (Site × TypeId)) → IsLeastOpenOutside sys tiles outside → IsLeastOpenOutside sys order outside
 order_outside sys tiles order seeds full canonical outside least =
     least_open_same sys tiles order (λ m. ¬ InBox sys.area m) outside (λ m. sym (order_tiles sys tiles order seeds full canonical m)) least
-
--- the type that is open outside is one of the system
-pub open_type : (sys : TileSystem) (tiles : List Place) (outside : Option (Site × TypeId)) → IsLeastOpenOutside sys tiles outside → IfSome outside (λ found. IsType sys found.1)
-open_type sys tiles None least = tt
-open_type sys tiles (Some found) least = least.grows.kind
-
--- and so is the type that a verdict names
-pub verdict_types : (sys : TileSystem) (s : List Place) (verdict : Verdict) → IsVerdict sys s verdict → NamesTypes sys verdict
-verdict_types sys s Yes judged = tt
-verdict_types sys s (NotExact m sum) judged = tt
-verdict_types sys s (Rival m t) judged = judged.1.rival.rival.grows.kind
-verdict_types sys s (NotTerminal m t) judged = judged.2.grows.kind
 
 -- an answer is of types of its system
 pub answer_order : (sys : TileSystem) (outcome : Outcome) → HasDistinctSites sys.seeds → Answers sys outcome → All (λ p. IsType sys p.tile) outcome.order

@@ -1,11 +1,11 @@
 -- What a system grew into, and what is told of it.
-use Rattle.std.proofs.Common.{◌≡◌, All, List, Option, Some, None, IfSome, ap, refl, subst, sym}
+use Rattle.std.proofs.Common.{◌≡◌, All, List, Option, Some, None, ap, refl, subst, sym}
 use Rattle.atam.specs.declared.place.Place.{Place}
 use Rattle.atam.specs.declared.place.TypeId.{TypeId}
 use Rattle.atam.specs.declared.site.Site.{Site}
 use Rattle.atam.specs.declared.area.BoxArea.{BoxArea}
 use Rattle.atam.specs.Sites.{InBox}
-use Rattle.atam.specs.TileSystem.{TileSystem, IsType}
+use Rattle.atam.specs.TileSystem.{TileSystem}
 use Rattle.atam.specs.Assembly.{Fits}
 use Rattle.atam.specs.Growth.{IsClosedInBox, IsLeastOpen, IsLeastOpenOutside, IsProducible}
 use Rattle.atam.specs.Placements.{HasDistinctSites}
@@ -13,14 +13,14 @@ use Rattle.atam.proofs.Open.{least_open_same}
 use Rattle.atam.proofs.Tiles.{SameTiles, SameTiles-from, same_back}
 use Rattle.atam.proofs.Canon.{producible_types}
 use Rattle.site_table.specs.Seats.{GrownValue}
-use Rattle.local_check.specs.declared.verdict.Verdict.{Verdict}
-use Rattle.local_check.specs.declared.verdict.Verdict.TheVariants.{Yes, NotExact, Rival, NotTerminal}
-use Rattle.local_check.specs.Judgement.{IsVerdict}
-use Rattle.seq_text.specs.VerdictLines.{NamesTypes}
+use Rattle.local_check.specs.declared.once.Judged.{Judged}
+use Rattle.local_check.specs.declared.once.Judged.TheVariants.{Legal, Breach}
+use Rattle.local_check.specs.Judged.{IsJudged}
+use Rattle.seq_text.proofs.NamedTypes.{verdict_types}
 use Rattle.tilebench.specs.declared.growth.Growth.{Growth}
 use Rattle.tilebench.specs.Commands.Grow.{IsGrowthText}
 use Rattle.tilebench.specs.Growths.{IsGrowth, growth_text, is_unique}
-use Rattle.tilebench.specs.Inner.Rooms.{GrowsTo, IsVerdictOn, outcome_of}
+use Rattle.tilebench.specs.Inner.Rooms.{GrowsTo, IsVerdictOn, NamesItsTypes, outcome_of}
 
 -- a producible assembly in the box is of types of its system
 pub producible_fits : (sys : TileSystem) (area : BoxArea) (tiles : List Place) → area ≡ sys.area → All (λ p. InBox area p.site) tiles → IsProducible sys tiles → Fits sys tiles
@@ -29,17 +29,10 @@ producible_fits sys area tiles same inside producible = record {
   sites = subst (λ (a : BoxArea). All (λ p. InBox a p.site) tiles) same inside;
 }
 
--- the type that is open outside is one of the system
-pub open_type : (sys : TileSystem) (tiles : List Place) (outside : Option (Site × TypeId)) → IsLeastOpenOutside sys tiles outside → IfSome outside (λ found. IsType sys found.1)
-open_type sys tiles None least = tt
-open_type sys tiles (Some found) least = least.grows.kind
-
--- and so is the type that a verdict names
-pub verdict_types : (sys : TileSystem) (s : List Place) (verdict : Verdict) → IsVerdict sys s verdict → NamesTypes sys verdict
-verdict_types sys s Yes judged = tt
-verdict_types sys s (NotExact m sum) judged = tt
-verdict_types sys s (Rival m t) judged = judged.1.rival.rival.grows.kind
-verdict_types sys s (NotTerminal m t) judged = judged.2.grows.kind
+-- and so is the type that the judgement on a sequence names
+pub judged_types : (sys : TileSystem) (s : List Place) (judged : Judged) → IsJudged sys s judged → NamesItsTypes sys judged
+judged_types sys s (Legal verdict) judged = verdict_types sys s verdict judged.1
+judged_types sys s (Breach breach) judged = tt
 
 -- what a system grew into is told by its text
 pub growth_told : (sys : TileSystem) (table : GrownValue) (growth : Growth) → GrowsTo sys table.grid.tiles growth →

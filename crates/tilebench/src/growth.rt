@@ -2,9 +2,9 @@
 ghost use Rattle.std.specs.Prelude.{◌≡◌};
 ghost use Rattle.atam.specs.Growth.{IsClosedInBox, IsProducible};
 ghost use Rattle.tilebench.specs.Growths.{growth_text, is_unique};
-ghost use Rattle.tilebench.specs.Inner.Rooms.{GrowsTo, HasTypes, IsJudged, outcome_of};
+ghost use Rattle.tilebench.specs.Inner.Rooms.{GrowsTo, HasTypes, IsJudgedGrowth, outcome_of};
 
-use crate::judged::{Judged, is_unique};
+use crate::judged::{JudgedGrowth, is_unique};
 use crate::room::Reply;
 use assembly::{Grid, Sequence};
 use local_check::Verdict;
@@ -41,15 +41,15 @@ impl Reply for Growth {
 }
 
 /// What a system grew into, by the grid of a full growth and the verdict on it.
-pub fn growth_of(sys: System, grid: &Grid, judged: Judged) -> Growth
+pub fn growth_of(sys: System, grid: &Grid, judged: JudgedGrowth) -> Growth
     requires area { grid.now.area ≡ sys.area }
     requires producible { IsProducible sys grid.now.tiles }
     requires closed { IsClosedInBox sys grid.now.tiles }
-    requires judged { IsJudged sys grid.now.tiles judged }
+    requires judged { IsJudgedGrowth sys grid.now.tiles judged }
     ensures { GrowsTo sys grid.now.tiles result }
 {
     grid.recall_sites();
-    let Judged {
+    let JudgedGrowth {
         order,
         verdict,
         outside,

@@ -7,7 +7,7 @@ ghost use Rattle.atam.specs.Placements.{HasDistinctSites};
 ghost use Rattle.type_index.specs.Indexes.{IsIndexOf};
 ghost use Rattle.grow_workers.specs.Workers.{IsGrownBy};
 ghost use Rattle.tilebench.specs.Growths.{is_unique};
-ghost use Rattle.tilebench.specs.Inner.Rooms.{IsJudged, IsVerdictOn};
+ghost use Rattle.tilebench.specs.Inner.Rooms.{IsJudgedGrowth, IsVerdictOn};
 
 use crate::order::{grow_ordered, order_of};
 use crate::resources::{Crew, Resources};
@@ -22,7 +22,7 @@ use type_index::TypeIndex;
 
 /// The canonical order of an assembly, the verdict on it, and the least open site outside the box.
 #[derive(Drop)]
-pub struct Judged {
+pub struct JudgedGrowth {
     pub order: Sequence,
     pub verdict: Verdict,
     pub outside: Option<(Site, TypeId)>,
@@ -41,9 +41,9 @@ pub fn grow_judged<R: Threads + Sync, G: Gate>(
     resources: &Resources<'_, R, G>,
     sys: &System,
     crew: Crew,
-) -> Result<(Grown, Judged), NoMemory>
+) -> Result<(Grown, JudgedGrowth), NoMemory>
     ensures grew { IfOk result (λ r. IsGrownBy sys.now crew.workers.count r.0) }
-    ensures judged { IfOk result (λ r. IsJudged sys.now r.0.grid.tiles r.1) }
+    ensures judged { IfOk result (λ r. IsJudgedGrowth sys.now r.0.grid.tiles r.1) }
 {
     let types = TypeIndex::build(resources.alloc, sys)?;
     let (grown, order) = grow_ordered(resources, sys, &types, crew)?;
@@ -59,11 +59,11 @@ fn judge_grown<R: Threads + Sync, G: Gate>(
     grown: &Grown,
     known: Option<Sequence>,
     workers: WorkerCount,
-) -> Result<Judged, NoMemory>
+) -> Result<JudgedGrowth, NoMemory>
     requires index { IsIndexOf sys.now types.now }
     requires grew { IsGrownBy sys.now workers.count grown.now }
     requires known { IfSome known (IsCanonical sys.now grown.now.grid.tiles) }
-    ensures { IfOk result (IsJudged sys.now grown.now.grid.tiles) }
+    ensures { IfOk result (IsJudgedGrowth sys.now grown.now.grid.tiles) }
 {
     judge_grid(resources, sys, types, grown.grid(), known, workers)
 }
@@ -76,13 +76,13 @@ pub fn judge_grid<R: Threads + Sync, G: Gate>(
     grid: &Grid,
     known: Option<Sequence>,
     workers: WorkerCount,
-) -> Result<Judged, NoMemory>
+) -> Result<JudgedGrowth, NoMemory>
     requires index { IsIndexOf sys.now types.now }
     requires area { grid.now.area ≡ sys.now.area }
     requires producible { IsProducible sys.now grid.now.tiles }
     requires closed { IsClosedInBox sys.now grid.now.tiles }
     requires known { IfSome known (IsCanonical sys.now grid.now.tiles) }
-    ensures { IfOk result (IsJudged sys.now grid.now.tiles) }
+    ensures { IfOk result (IsJudgedGrowth sys.now grid.now.tiles) }
 {
     grid.recall_sites();
     let order = order_of(resources, sys, grid, known, workers)?;
@@ -97,7 +97,7 @@ pub fn judge_grid<R: Threads + Sync, G: Gate>(
     )?;
     let verdict = judge(sys, &order, &sides);
     let outside = open_outside(sys, types, grid, verdict);
-    Ok(Judged {
+    Ok(JudgedGrowth {
         order,
         verdict,
         outside,

@@ -1,33 +1,26 @@
 -- `check`: whether a sequence is legal, and the verdict on it.
-use Rattle.std.specs.Prelude.{◌≡◌, ◌≢◌, ℕ, Bool, true, false, List, ◌++◌}
+use Rattle.std.specs.Prelude.{◌≡◌, ℕ, Bool, true, false, List, ◌++◌}
 use Rattle.atam.specs.declared.place.Place.{Place}
 use Rattle.atam.specs.TileSystem.{TileSystem}
-use Rattle.atam.specs.Growth.{IsLegal}
 use Rattle.replay_order.specs.declared.legal.Legality.TheVariants as legality
-use Rattle.replay_order.specs.Legalities.{IsLegalityAnswer}
-use Rattle.local_check.specs.Judgement.{IsVerdict}
+use Rattle.local_check.specs.declared.once.Judged.{Judged}
+use Rattle.local_check.specs.declared.once.Judged.TheVariants.{Legal, Breach}
+use Rattle.local_check.specs.Judged.{IsJudged}
 use Rattle.seq_text.specs.GrowthText.{sequence_format}
 use Rattle.seq_text.specs.LegalityLines.{legality_line}
 use Rattle.seq_text.specs.VerdictLines.{verdict_line}
-use Rattle.tilebench.specs.declared.commands.check.Judgement.{Judgement}
-use Rattle.tilebench.specs.declared.commands.check.Judgement.TheVariants.{Legal, Breach}
 use Rattle.tilebench.specs.Growing.{TellsNoGrowth}
 use Rattle.tilebench.specs.Growths.{is_unique}
 use Rattle.tilebench.specs.Inputs.{FailsWithin, IsReadable, IsSystemThenSequence}
 use Rattle.tilebench.specs.Rows.{RoomRow, refuses_none}
 
--- the judgement on a sequence: the verdict on a legal one, or what breaks legality first
-abbrev pub IsJudgement : TileSystem → List Place → Judgement → Type 0
-IsJudgement sys sequence (Legal verdict) = IsLegal sys sequence × IsVerdict sys sequence verdict
-IsJudgement sys sequence (Breach breach) = (breach ≢ legality.Legal) × IsLegalityAnswer sys sequence breach
-
--- its text
-abbrev pub judgement_text : TileSystem → Judgement → List ℕ
+-- the text of the judgement on a sequence
+abbrev pub judgement_text : TileSystem → Judged → List ℕ
 judgement_text sys (Legal verdict) = legality_line legality.Legal ++ verdict_line sys verdict
 judgement_text sys (Breach breach) = legality_line breach
 
 -- it is a yes where the sequence is legal and the verdict is a yes
-abbrev pub is_judged_unique : Judgement → Bool
+abbrev pub is_judged_unique : Judged → Bool
 is_judged_unique (Legal verdict) = is_unique verdict
 is_judged_unique (Breach breach) = false
 
@@ -36,8 +29,8 @@ pub record IsCheckAnswer (input : List ℕ) (is_yes : Bool) (text : List ℕ) : 
   pub sys : TileSystem
   pub sequence : List Place
   pub read : IsSystemThenSequence input sys sequence
-  pub judgement : Judgement
-  pub judged : IsJudgement sys sequence judgement
+  pub judgement : Judged
+  pub judged : IsJudged sys sequence judgement
   pub printed : text ≡ judgement_text sys judgement
   pub answer : is_yes ≡ is_judged_unique judgement
 

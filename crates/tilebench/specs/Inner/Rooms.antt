@@ -10,11 +10,11 @@ use Rattle.unique_law.specs.Outcomes.{Outcome}
 use Rattle.cert_check.specs.Certificates.{places_of}
 use Rattle.tilebench.specs.declared.commands.certify.Certification.{Certification}
 use Rattle.tilebench.specs.declared.commands.certify.Certification.TheVariants.{Given, Refuted, Unordered}
-use Rattle.tilebench.specs.declared.commands.check.Judgement.{Judgement}
-use Rattle.tilebench.specs.declared.commands.check.Judgement.TheVariants.{Legal, Breach}
 use Rattle.tilebench.specs.declared.growth.Growth.{Growth}
-use Rattle.tilebench.specs.declared.judged.Judged.{Judged}
+use Rattle.tilebench.specs.declared.judged.JudgedGrowth.{JudgedGrowth}
 use Rattle.replay_order.specs.ReplayAnswers.{IsWholeOrder}
+use Rattle.local_check.specs.declared.once.Judged.{Judged}
+use Rattle.local_check.specs.declared.once.Judged.TheVariants.{Legal, Breach}
 use Rattle.local_check.specs.declared.verdict.Verdict.{Verdict}
 use Rattle.local_check.specs.Judgement.{IsVerdict}
 use Rattle.tilebench.specs.declared.reordering.Reordering.{Reordering}
@@ -38,7 +38,7 @@ abbrev pub IsVerdictOn : TileSystem → List Place → Verdict → Type 0
 IsVerdictOn sys tiles verdict = (order : List Place) × IsWholeOrder sys tiles order × IsVerdict sys order verdict
 
 -- the whole order of these tiles, the verdict on it, and what is open outside the box
-pub record IsJudged (sys : TileSystem) (tiles : List Place) (judged : Judged) : Type 0 where
+pub record IsJudgedGrowth (sys : TileSystem) (tiles : List Place) (judged : JudgedGrowth) : Type 0 where
   pub ordered : IsWholeOrder sys tiles judged.order
   pub verdict : IsVerdict sys judged.order judged.verdict
   pub outside : IsLeastOpenOutside sys tiles judged.outside
@@ -59,7 +59,7 @@ pub record Reports (growth : Growth) (tiles : ℕ) (wins : List Win) (reported :
   pub unique : reported.unique ≡ is_unique growth.verdict
 
 -- the types of a judgement are those of the system
-abbrev pub NamesItsTypes : TileSystem → Judgement → Type 0
+abbrev pub NamesItsTypes : TileSystem → Judged → Type 0
 NamesItsTypes sys (Legal verdict) = NamesTypes sys verdict
 NamesItsTypes sys (Breach breach) = Unit {0}
 

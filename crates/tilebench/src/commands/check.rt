@@ -1,10 +1,11 @@
 // `check`: whether a sequence is legal, and the verdict on it.
 ghost use Rattle.std.specs.Prelude.{◌<◌, ◌^◌, length, IfOk};
 ghost use Rattle.atam.specs.Assembly.{Fits};
+ghost use Rattle.local_check.specs.Judged.{IsJudged};
 ghost use Rattle.tile_io.specs.Prints.{Prints};
 ghost use Rattle.seq_text.specs.GrowthText.{sequence_format};
 ghost use Rattle.seq_text.specs.VerdictLines.{NamesTypes};
-ghost use Rattle.tilebench.specs.Commands.Check.{IsJudgement, check_row, is_judged_unique, judgement_text};
+ghost use Rattle.tilebench.specs.Commands.Check.{check_row, is_judged_unique, judgement_text};
 ghost use Rattle.tilebench.specs.Inner.Rooms.{NamesItsTypes};
 ghost use Rattle.tilebench.specs.Inner.Readings.{taken_or_faulty};
 
@@ -55,14 +56,7 @@ impl PlainRoom for Check {
 #[derive(Drop)]
 pub struct Checked {
     pub sys: System,
-    pub judgement: Judgement,
-}
-
-/// The verdict on a legal sequence, or what breaks legality first.
-#[derive(Clone, Copy, Debug, PartialEq, Eq)]
-pub enum Judgement {
-    Legal(Verdict),
-    Breach(Legality),
+    pub judgement: Judged,
 }
 
 impl Reply for Checked {
@@ -74,15 +68,15 @@ impl Reply for Checked {
 
     fn is_yes(&self) -> bool {
         match self.judgement {
-            Judgement::Legal(verdict) => is_unique(verdict),
-            Judgement::Breach(_) => false,
+            Judged::Legal(verdict) => is_unique(verdict),
+            Judged::Breach(_) => false,
         }
     }
 
     fn print<K: Sink>(&self, out: &mut K) -> Result<(), Failed> {
         match &self.judgement {
-            Judgement::Legal(verdict) => print_legal(&self.sys, verdict, out),
-            Judgement::Breach(breach) => print_legality(breach, out),
+            Judged::Legal(verdict) => print_legal(&self.sys, verdict, out),
+            Judged::Breach(breach) => print_legality(breach, out),
         }
     }
 }
@@ -91,21 +85,18 @@ impl Reply for Checked {
 fn print_legal<K: Sink>(sys: &System, verdict: &Verdict, out: &mut K) -> Result<(), Failed>
     requires { NamesTypes sys.now verdict.now }
     ensures { Prints K.written K.faults out.old out.new result
-        (judgement_text sys.now (Judgement.Legal verdict.now)) }
+        (judgement_text sys.now (Judged.Legal verdict.now)) }
 {
     print_legality(&Legality::Legal, out)?;
     print_verdict(sys, verdict, out)
 }
 
-// Whether a sequence is legal, and the verdict on it then.
-fn judgement_of(alloc: Global, sys: &System, sequence: &Sequence) -> Result<Judgement, NoMemory>
+// Whether a sequence is legal, and the verdict on it then, which names types of the system.
+fn judgement_of(alloc: Global, sys: &System, sequence: &Sequence) -> Result<Judged, NoMemory>
     requires fits { Fits sys.now sequence.now }
     requires short { length sequence.now < 2 ^ 32 }
-    ensures judged { IfOk result (IsJudgement sys.now sequence.now) }
+    ensures judged { IfOk result (IsJudged sys.now sequence.now) }
     ensures types { IfOk result (NamesItsTypes sys.now) }
 {
-    match judge_once(alloc, sys, sequence)? {
-        Judged::Legal(verdict) => Ok(Judgement::Legal(verdict)),
-        Judged::Breach(breach) => Ok(Judgement::Breach(breach)),
-    }
+    judge_once(alloc, sys, sequence)
 }

@@ -9,12 +9,12 @@ ghost use Rattle.tilebench.specs.Commands.Watch.{watch_row};
 ghost use Rattle.tilebench.specs.Growths.{growth_text, is_unique};
 ghost use Rattle.tilebench.specs.Inner.Gives.{GivesAnswer};
 ghost use Rattle.tilebench.specs.Inner.Readings.{taken_or_faulty};
-ghost use Rattle.tilebench.specs.Inner.Rooms.{HasTypes, IsJudged, outcome_of};
+ghost use Rattle.tilebench.specs.Inner.Rooms.{HasTypes, IsJudgedGrowth, outcome_of};
 ghost use Rattle.tilebench.specs.Inputs.{alone};
 
 use crate::growth::{Growth, growth_of};
 use crate::input::read_alone;
-use crate::judged::{Judged, is_unique, judge_grid};
+use crate::judged::{JudgedGrowth, is_unique, judge_grid};
 use crate::resources::{Crew, Resources};
 use crate::room::{Reply, Room};
 use crate::stop::Stop;
@@ -92,10 +92,10 @@ fn judge_watched<R: Threads + Sync, G: Gate>(
     sys: &System,
     grown: &Grown,
     workers: WorkerCount,
-) -> Result<Judged, NoMemory>
+) -> Result<JudgedGrowth, NoMemory>
     requires area { grown.now.grid.area ≡ sys.now.area }
     requires full { IsFullGrowth sys.now grown.now.grid.tiles }
-    ensures { IfOk result (IsJudged sys.now grown.now.grid.tiles) }
+    ensures { IfOk result (IsJudgedGrowth sys.now grown.now.grid.tiles) }
 {
     let types = TypeIndex::build(resources.alloc, sys)?;
     judge_grid(resources, sys, &types, grown.grid(), None, workers)

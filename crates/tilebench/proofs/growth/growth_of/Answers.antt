@@ -1,5 +1,6 @@
 use Rattle.std.proofs.Common.{refl}
-use Rattle.tilebench.proofs.Growths.{open_type, producible_fits, verdict_types}
+use Rattle.seq_text.proofs.NamedTypes.{open_type, verdict_types}
+use Rattle.tilebench.proofs.Growths.{producible_fits}
 use Rattle.tilebench.proofs.growth.growth_of.Goals as goal
 
 pub returns : goal.returns
