@@ -110,7 +110,7 @@ def lines_of(text, first=1):
         words = line.split(" ")
         if "" in words:
             words = [it for it in words if it]
-        if words and not words[0].startswith("#"):
+        if words and words[0][0] != "#":
             yield number, words
 
 
@@ -134,7 +134,7 @@ def integer(number, word):
 
 
 def system_of(text):
-    """The system that a text begins with, and the words of each line behind it."""
+    """The system that a text begins with, and the words of each line behind it, to be gone through once."""
     system, rest = System(), lines_of(text)
     number, words = next(rest, (1, []))
     if words not in (["tiles", "1"], ["tiles", "2"]):
@@ -171,7 +171,7 @@ def system_of(text):
             raise Unreadable(number, f"too few words behind {words[0]}") from None
     if not system.lines or system.box is None or not system.seeds or any(it not in system.types for _, it in system.seeds):
         raise Unreadable(system.lines or number, "the system has no whole box, seed and end")
-    return system, list(rest)
+    return system, rest
 
 
 def alone(text):
@@ -200,18 +200,27 @@ class Growth:
         return dict(self.places)
 
 
+class Numbers(dict):
+    """The numbers that words are, each worked out once."""
+
+    def __missing__(self, word):
+        self[word] = number = int(word)
+        return number
+
+
 def growth_of(system, rows):
     """The growth that rows of words say, behind their system."""
     growth = Growth()
-    types, add = system.types, growth.places.append
+    types, numbers, add = system.types, Numbers(), growth.places.append
     for number, words in rows:
         if words[0] == "place" and len(words) == 4:
-            if words[3] not in types:
-                raise Unreadable(number, f"no type {words[3]}")
+            _, x, y, name = words
+            if name not in types:
+                raise Unreadable(number, f"no type {name}")
             try:
-                add(((int(words[1]), int(words[2])), words[3]))
+                add(((numbers[x], numbers[y]), name))
             except ValueError:
-                raise Unreadable(number, f"{words[1]} {words[2]} is no site") from None
+                raise Unreadable(number, f"{x} {y} is no site") from None
         elif words[0] in ("closed", "unique") and len(words) > 1:
             setattr(growth, words[0], words[1:])
         elif words[0] == "mark" and len(words) == 6:
