@@ -185,11 +185,11 @@ def commands():
 
 
 def answers():
-    """The names of refusals, the keywords of texts and the numbers of limits in FORMATS.md, and tools/explain's causes."""
-    formats, explain = read("docs/FORMATS.md"), read("tools/explain")
+    """The names of refusals, the keywords of texts and the numbers of limits in FORMATS.md, and the causes of tools/refusals.py."""
+    formats, refusals = read("docs/FORMATS.md"), read("tools/refusals.py")
     specs = [("tile_io", "Causes"), ("command_line", "Commands"), ("tilebench", "Refusals")]
     found = [it for crate, file in specs for it in re.findall(r'^\w+_(?:stop_)?name [\w.]+ = codes "([A-Z]\w+)"', read(f"crates/{crate}/specs/{file}.antt"), re.M)]
-    told = [f"{path}: nothing of {it}" for it in found if it != "NoMemory" for path, text in (("docs/FORMATS.md", formats), ("tools/explain", explain)) if it not in text]
+    told = [f"{path}: nothing of {it}" for it in found if it != "NoMemory" for path, text in (("docs/FORMATS.md", formats), ("tools/refusals.py", refusals)) if it not in text]
     for crate, file in (("tile_text", "SystemText"), ("seq_text", "GrowthText"), ("seq_text", "ScheduleText"), ("machine_text", "MachineText"), ("quadrant_compile", "WeaveText")):
         for word, number in re.findall(r'codes "([a-z]+)"\)? \(?(?:exactly )?(\d+)', read(f"crates/{crate}/specs/{file}.antt")):
             here = [cells for cells in rows(formats) if any(it.split()[0] == word for it in CODE.findall(cells[0]))]
