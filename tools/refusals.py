@@ -53,6 +53,18 @@ KINDS = {
     "quadrant": Kind("two-input rule", "quadrant 1", RULE_WORDS, RULE_BEFORE),
     "batch": Kind("batch", "batch 1", {**{it: many for it, many in WORDS.items() if it in BEFORE}, "tiles": 2, "batch": 2, "job": 2}, BATCH_BEFORE),
 }
+# what some lines have, behind their keyword
+FIELDS = {
+    "tau": "the temperature", "glue": "a name, then its strength", "pair": "the names of two glues, then a strength", "tile": "a name, then its north, east, south and west sides, - for none",
+    "box": "x and y of the lower left corner, then of the upper right one", "seed": "x, then y, then the name of a type", "place": "x, then y, then the name of a type", "mark": "x, then y, then the name of a type, then sides and a rank",
+}
+# where numbers stand in a line
+NUMBERS = {"tau": (1,), "glue": (2,), "pair": (3,), "box": (1, 2, 3, 4), "seed": (1, 2), "place": (1, 2), "mark": (1, 2, 5), "job": (1,), "look": (1, 2, 3), "claim": (1, 2, 3), "split": (1,), "join": (1, 2)}
+NUMBERS |= {"cells": (1,), "rows": (1,), "head": (1,), "size": (1, 2)}
+# where coordinates stand
+SITES = {"box": (1, 2, 3, 4), "seed": (1, 2), "place": (1, 2), "mark": (1, 2), "look": (2, 3), "claim": (2, 3)}
+# what stands behind a system, by the command that reads it
+BEHIND = {"check": "place", "replay": "place", "certify": "place", "picture": "place", "verify": "mark", "schedule": "look, claim, split and join"}
 # the command that reads a text, by the first word of its header
 READERS = {"machine": "turing", "quadrant": "quadrant", "batch": "batch"}
 
@@ -93,6 +105,8 @@ def guess_header(line, words, command):
         yield "the system stands first: cat SYSTEM FILE"
     elif words and words[0] in KINDS.get(command, SYSTEM).before:
         yield "the line itself may be fine: the header is missing above it"
+    elif words[:1] == ["tiles"]:
+        yield "a system is written in version 1 or 2, and nothing else stands in its header"
 
 
 def guess_bytes(line):
@@ -107,9 +121,28 @@ def guess_bytes(line):
         yield "a long dash stands in the line: none and minus are the plain -"
 
 
+def guess_number(words):
+    """Of the words that are to be numbers, the first one that is none."""
+    for at in NUMBERS.get(words[0], ()):
+        it = words[at] if at < len(words) else "0"
+        if re.fullmatch("-?[0-9]{11,}", it):
+            yield "it has more than ten digits"
+        elif not re.fullmatch("-?[0-9]+", it):
+            yield f"{visible(it.encode())} is no number" + (f": a {words[0]} line has {FIELDS[words[0]]}" if words[0] in FIELDS else "")
+        else:
+            continue
+        return
+
+
 def guess_word(words, is_short):
     """Of the words that may be names, the first one that is none, and why."""
-    for it in words:
+    if words[0] in ("glue", "tile", "pair") and re.fullmatch("-[0-9]*", words[1]):
+        yield f"{words[1]} is no name: a {words[0]} line has {FIELDS[words[0]]}"
+        return
+    for it in words[1:]:
+        if words[0] == "tile" and re.fullmatch("-[0-9]+", it):
+            yield f"{it} is no name; a side without a glue is -"
+            return
         signs = sorted({sign for sign in it if not re.fullmatch("[A-Za-z0-9_]" if is_short else "[A-Za-z0-9_:.]", sign)})
         if signs and not re.fullmatch("-[0-9]*", it):
             yield f"{visible(it.encode())} has {' '.join(visible(sign.encode()) for sign in signs)}, which no name has"
@@ -119,7 +152,7 @@ def guess_word(words, is_short):
             return
 
 
-def guess_line(line, words, known):
+def guess_line(words, lines, known, command):
     if words and words[0] not in known and words[0].lower() in known:
         yield f"keywords have small letters: {words[0].lower()}"
     elif words and words[0] not in known and words[0] not in ("closed", "unique"):
@@ -128,10 +161,21 @@ def guess_line(line, words, known):
     if any("#" in it for it in words[1:]):
         yield "a remark needs a line of its own"
     elif words and words[0] in known and len(words) != known[words[0]]:
-        fields = {"tile": ": a name, then its north, east, south and west sides, - for none", "mark": ": x, y, a type, sides and a rank"}
+        fields = {it: f": {FIELDS[it]}" for it in ("tile", "mark")}
         fields["rule"] = {5: ": west and south, then what goes east and north", 6: ": a state and a symbol, then the new state, the new symbol and the move"}.get(known["rule"] if "rule" in known else 0, "")
         more = " or more" if words[0] in ("tape", "bottom", "left") else ""
         yield f"a {words[0]} line has {known[words[0]]} words{more}, and this one {len(words)}{fields.get(words[0], '')}"
+    elif words and command not in KINDS:
+        yield from guess_place(words, lines, command)
+
+
+def guess_place(words, lines, command):
+    """Why a line is no line here, though it has its keyword's number of words."""
+    ends = [at for at, line in enumerate(lines, 1) if line.split() == [b"end"]]
+    if not ends and words[0] in ("place", "mark", "closed", "unique", "look", "claim", "split", "join"):
+        yield f"a {words[0]} line stands behind the system: is the line `end` missing above it?"
+    elif ends and command in BEHIND:
+        yield f"the system ends in line {ends[0]}, and behind it {command} reads {BEHIND[command]} lines"
 
 
 def first_like(lines, words):
@@ -151,6 +195,7 @@ def guess_name(words, lines, at):
         known, what = names_before(lines, at, "tile"), "type"
         unknown = [words[3] if words[0] == "mark" else words[-1]]
     for it in unknown[:1]:
+        bearers = sum(row[:1] == ["tile"] and it in row[2:] for row in (line.decode(errors="replace").split() for line in lines)) if what == "glue" else 0
         later = [n for n, line in enumerate(lines[at:], at + 1) if line.decode(errors="replace").split()[:2] == ["glue" if what == "glue" else "tile", it]]
         if later:
             yield f"{what} {it} is declared further down, in line {later[0]}: each line names what stands above it"
@@ -160,6 +205,8 @@ def guess_name(words, lines, at):
         else:
             near = difflib.get_close_matches(it, known, 1, 0.5)
             yield f"no {what} is named {it}" + (f"; {near[0]}?" if near else "")
+            if bearers > 1:
+                yield f"{bearers} tiles bear {it}: is its `glue` line missing?"
         if it not in known and it.lower() in [name.lower() for name in known]:
             yield "capitals and small letters differ"
 
@@ -185,14 +232,19 @@ def guess_machine_name(words, lines, at):
 
 
 def guess_range(words):
-    if words[0] == "box" and len(words) == 5:
-        x0, y0, x1, y1 = (int(it) for it in words[1:])
+    at = [int(words[it]) for it in SITES.get(words[0], ()) if re.fullmatch("-?[0-9]+", words[it])]
+    if any(abs(it) > 1000000 for it in at):
+        yield "a coordinate is -1000000 to 1000000"
+    elif words[0] == "box" and len(at) == 4:
+        x0, y0, x1, y1 = at
         if x1 < x0 or y1 < y0:
             yield "the lower left corner comes first, then the upper right one"
         elif x1 - x0 > 1023 or y1 - y0 > 1023:
             yield f"a side has at most 1024 sites, and this box has {x1 - x0 + 1} by {y1 - y0 + 1}"
     elif words[0] in ("glue", "pair"):
         yield "a strength is 0 to 250"
+    elif words[0] in ("job", "look", "claim", "split", "join", "mark"):
+        yield f"{'a rank' if words[0] == 'mark' else 'its number'} is 0 to 4294967295"
     elif words[0] == "tau":
         yield "a temperature is 1 to 1000"
     elif words[0] in ("cells", "rows"):
@@ -228,8 +280,10 @@ def guesses(cause, line, lines, number, command):
         yield "pairs of unlike glues are of version 2: the first line must be `tiles 2`"
     elif cause == "BadLine" and command == "batch" and words and (before or ["batch"])[0] in ("batch", "end"):
         yield f"behind {'the header' if before[:1] != ['end'] else 'the `end` of a system'} stands a `job` line, and this one begins with {words[0]}"
+    elif cause == "BadLine" and command == "batch" and words[:1] == ["job"] and len(words) == 2:
+        yield "the system above it has no `end` line"
     elif cause == "BadLine":
-        yield from guess_line(line, words, kind.words)
+        yield from guess_line(words, lines[: number - 1], kind.words, command)
     elif cause == "OutOfOrder" and words[0] in ("place", "closed", "unique"):
         yield "a growth ends with its closed and unique lines: do two growths stand here, one behind the other?"
     elif cause == "OutOfOrder" and words[0] == "seed" and version_of(lines) == "1" and any(it.split()[:1] == [b"seed"] for it in lines[: number - 1]):
@@ -253,9 +307,9 @@ def guesses(cause, line, lines, number, command):
     elif cause == "BadName" and command == "turing" and words[0] == "rule" and words[-1] not in ("L", "R", "S"):
         yield f"a move is L, R or S, and here stands {words[-1]}"
     elif cause == "BadName" and b"\t" not in line and not line.endswith(b"\r"):
-        yield from guess_word(words[1:], command in ("turing", "quadrant"))
-    elif cause == "BadNumber" and words[0] in ("seed", "place", "mark"):
-        yield f"a {words[0]} line has x, then y, then the name of a type" + (", then sides and a rank" if words[0] == "mark" else "")
+        yield from guess_word(words, command in ("turing", "quadrant"))
+    elif cause == "BadNumber" and b"\t" not in line and not line.endswith(b"\r"):
+        yield from guess_number(words)
     elif cause in ("SeedOutside", "OutsideBox"):
         boxes = [it.decode(errors="replace").split() for it in lines[: number - 1] if it.split()[:1] == [b"box"]]
         yield from (f"the corners of the box are {it[1]} {it[2]} and {it[3]} {it[4]}" for it in boxes[:1])
@@ -266,7 +320,9 @@ def guesses(cause, line, lines, number, command):
     elif cause == "TooMany" and words[0] == "end":
         boxes = [[int(at) for at in it.split()[1:5]] for it in lines[:number] if it.split()[:1] == [b"box"]]
         yield f"the boxes have {sum((it[2] - it[0] + 1) * (it[3] - it[1] + 1) for it in boxes)} sites up to this job, which is the {len(boxes)}th"
-    elif cause == "AfterEnd" and command not in KINDS:
+    elif cause == "AfterEnd" and command in KINDS:
+        yield "nothing stands behind the `end` line: take away what follows it"
+    elif cause == "AfterEnd":
         yield "places behind a system are for check, certify, replay and picture, marks for verify, steps of scouts for schedule"
 
 
