@@ -2,6 +2,8 @@
 
 It is a plain reader, and no judge: what it takes, the program may still refuse.
 """
+import contextlib
+import functools
 import os
 import signal
 import subprocess
@@ -13,6 +15,7 @@ signal.signal(signal.SIGPIPE, signal.SIG_DFL)
 SIDES = ("north", "east", "south", "west")
 STEPS = ((0, 1), (1, 0), (0, -1), (-1, 0))
 PROGRAM = os.path.join(os.path.dirname(os.path.dirname(os.path.realpath(__file__))), "tilebench")
+SINGLE = b"tiles 1\ntau 1\ntile S - - - -\nbox 0 0 0 0\nseed 0 0 S\nend\n"
 
 
 class Unreadable(Exception):
@@ -181,9 +184,42 @@ def alone(text):
     return "\n".join(lines[: ends[0] + 1]) + "\n" if ends and ends[0] + 1 < len(lines) else text
 
 
+@contextlib.contextmanager
+def lasting():
+    """While this lasts, no tool ends where a program does not read all that it is given."""
+    before = signal.signal(signal.SIGPIPE, signal.SIG_IGN)
+    try:
+        yield
+    finally:
+        signal.signal(signal.SIGPIPE, before)
+
+
+@functools.lru_cache(None)
+def require(program):
+    """Sees that the program grows a system, and answers with an OSError where it does not. One that is to be built first is
+    built here, and says so in the terminal; where a signal ends the tool, the build ends too."""
+    with lasting():
+        ran = subprocess.Popen([program, "grow"], stdin=subprocess.PIPE, stdout=subprocess.DEVNULL)
+        try:
+            ran.communicate(SINGLE)
+        finally:
+            if ran.poll() is None:
+                ran.terminate()
+                ran.wait()
+    if ran.returncode:
+        raise OSError(f"{program} doesn't grow a tile set")
+
+
+def asked(program, words, given=b""):
+    """What the program answers to words and an input."""
+    require(program)
+    with lasting():
+        return subprocess.run([program, *words], input=given, stdout=subprocess.PIPE, stderr=subprocess.PIPE, check=False)
+
+
 def refusal(program, text):
     """Why the program refuses a system, or None."""
-    ran = subprocess.run([program, "format"], input=text.encode(), stdout=subprocess.DEVNULL, stderr=subprocess.PIPE, check=False)
+    ran = asked(program, ["format"], text.encode())
     return None if ran.returncode == 0 else ran.stderr.decode(errors="replace").strip() or f"status {ran.returncode}"
 
 
