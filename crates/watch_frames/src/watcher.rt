@@ -16,13 +16,25 @@ use tile_io::Gate;
 use tile_system::{NoMemory, System};
 
 /// A seat that looks at the sites of the box while others claim them, and the frames that it took.
-#[derive(Drop)]
 pub struct Watcher {
     seat: SiteSeat,
     seen: Grid,
     frames: Frames,
     listing: Listing,
     many: u32,
+}
+
+impl Drop for Watcher {
+    // One call wherever it is given back.
+    fn drop(self) {
+        let Watcher {
+            seat: _seat,
+            seen: _seen,
+            frames: _frames,
+            listing: _listing,
+            many: _many,
+        } = self;
+    }
 }
 
 impl Model for Watcher {
