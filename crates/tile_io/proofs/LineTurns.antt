@@ -1,5 +1,5 @@
 -- One step of a reader of lines.
-use Rattle.std.proofs.Common.{◌≡◌, ℕ, Bool, true, false, List, [], ◌∷◌, ◌++◌, length, Ok, Err, Result, refl, sym, ap, subst}
+use Rattle.std.proofs.Common.{◌≡◌, ℕ, ◌+◌, Bool, true, false, List, [], ◌∷◌, ◌++◌, length, Ok, Err, Result, refl, sym, ap, subst}
 use Rattle.tile_io.specs.declared.fault.Cause.{Cause}
 use Rattle.tile_io.specs.declared.fault.Cause.TheVariants.{NoEnd}
 use Rattle.tile_io.specs.declared.mark.Mark.{Mark}
@@ -11,8 +11,8 @@ use Rattle.tile_io.specs.NextLine.{IsNextLine, line_bytes}
 use Rattle.tile_io.specs.Formats.{Fault, missing_cause}
 use Rattle.tile_io.specs.Checks.{Table, table_format, check_line}
 use Rattle.tile_io.specs.LineReader.{TakesItem, ReadsInto}
-use Rattle.tile_io.specs.Inner.Headers.{first_cause}
-use Rattle.tile_io.specs.Inner.Stretches.{Progress}
+use Rattle.tile_io.specs.Inner.Headers.{first_cause, stop_at}
+use Rattle.tile_io.specs.Inner.Stretches.{Progress, IsStretch}
 use Rattle.tile_io.proofs.Progress.{progress_item, progress_end, progress_fault, progress_missing, progress_complete}
 use Rattle.tile_io.proofs.Rows.{header_passes, header_fails}
 
@@ -23,12 +23,11 @@ module _ {Item : Type 0} where
 
   -- in the same context, at the line's own words
   pub takes_here : {Context : Type 0} (table : Context → Table Item) {now start : Context} → now ≡ start → (Holds : List Item → Type 0) (items : List Item) {cut words : List (List ℕ)} → cut ≡ words →
-      {found result : Result Bool LineStop} → found ≡ result → Takes (table now) Holds items cut found → Takes (table start) Holds items words result
-  takes_here table {now} {start} same Holds items {cut} {words} cut_is {found} {result} is h =
-      let In : _ → Type 0 = λ x. Takes (table x) Holds items cut found in
-      let At : Result Bool LineStop → Type 0 = λ r. Takes (table start) Holds items cut r in
+      (result : Result Bool LineStop) → Takes (table now) Holds items cut result → Takes (table start) Holds items words result
+  takes_here table {now} {start} same Holds items {cut} {words} cut_is result h =
+      let In : _ → Type 0 = λ x. Takes (table x) Holds items cut result in
       let Of : List (List ℕ) → Type 0 = λ w. Takes (table start) Holds items w result in
-      subst Of cut_is (subst At is (subst In same h))
+      subst Of cut_is (subst In same h)
 
   module _ (table : Table Item) (text : List ℕ) (from at : Mark) (items : List Item) (line : Line) (h : Progress (table_format table) text from items at) (next : IsNextLine text at line) (Holds : List Item → Type 0) where
     pub item_step : (took : Takes table Holds items (words_of (line_bytes text line)) (Ok false)) → Progress (table_format table) text from (items ++ took.0 ∷ []) line.next
@@ -38,9 +37,16 @@ module _ {Item : Type 0} where
     end_step took =
         record { items = items ++ took.0 ∷ []; held = took.3; reads = progress_end (table_format table) text from at items took.0 line h next (header_passes table.has_header items _ took.0 took.1) took.2 }
 
-    pub fault_step : (missing cause : Cause) → missing ≡ missing_cause items → Takes table Holds items (words_of (line_bytes text line)) (Err (stops.Fault cause)) →
+    fault_step : (missing cause : Cause) → missing ≡ missing_cause items → Takes table Holds items (words_of (line_bytes text line)) (Err (stops.Fault cause)) →
         Fault (table_format table) text from line.number (first_cause table.has_header missing cause)
     fault_step missing cause m took = progress_fault (table_format table) text from at items (first_cause table.has_header missing cause) line h next (header_fails table.has_header items _ missing cause m took.0)
+
+    pub stop_step : (missing : Cause) (number bytes lines : ℕ) (stop : LineStop) → missing ≡ missing_cause items → line.number ≡ lines + number → Takes table Holds items (words_of (line_bytes text line)) (Err stop) →
+        IsStretch (table_format table) text from bytes lines Holds (Err (stop_at number table.has_header missing stop))
+    stop_step missing number bytes lines (stops.Fault cause) m place took =
+        let Fails : ℕ → Type 0 = λ n. Fault (table_format table) text from n (first_cause table.has_header missing cause) in
+        subst Fails place (fault_step missing cause m took)
+    stop_step missing number bytes lines stops.NoMemory m place took = tt
 
   pub missing-push : (items : List Item) (item : Item) → NoEnd ≡ missing_cause (items ++ item ∷ [])
   missing-push [] item = refl

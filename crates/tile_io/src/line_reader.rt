@@ -2,7 +2,7 @@
 ghost use Rattle.std.specs.Prelude.{◌≡◌, ◌≤◌, List, true, length, find, bytes_eq, option_map, IfSome, IfNone};
 ghost use Rattle.tile_io.specs.Lines.{words_of};
 ghost use Rattle.tile_io.specs.Checks.{Keyword, Table, check_line, last_of};
-ghost use Rattle.tile_io.specs.LineReader.{TakesItem, MayTake};
+ghost use Rattle.tile_io.specs.LineReader.{TakesItem, TakesFront, MayTake};
 
 use crate::cut_line::LineWords;
 use crate::fault::Cause;
@@ -13,6 +13,14 @@ use crate::limits::LONGEST_LINE;
 pub enum LineStop {
     Fault(Cause),
     NoMemory,
+}
+
+/// What was taken from the front of a text: the bytes of a line, with its newline, and whether it is the text's own end
+/// line.
+#[derive(Clone, Copy, Debug, PartialEq, Eq)]
+pub struct Front {
+    pub length: usize,
+    pub done: Result<bool, LineStop>,
 }
 
 impl From<Cause> for LineStop {
@@ -91,6 +99,20 @@ pub trait LineReader {
         ensures context { context self.new ≡ context self.old }
     {
         let _ = line;
+        None
+    }
+
+    /// Takes the line at the front of what is left of a text in a form that the reader knows, without a search for its
+    /// newline. `None` leaves it to `take_bytes`, as each line where the reader knows no such form.
+    fn take_front(&mut self, rest: &[u8]) -> Option<Front>
+        requires { (items : List Item) × holds self.old items }
+        ensures taken { IfSome result (TakesFront (table (context self.old)) (holds self.old)
+            (holds self.new) rest.now) }
+        ensures left { IfNone result ((items : List Item) → holds self.old items →
+            holds self.new items) }
+        ensures context { context self.new ≡ context self.old }
+    {
+        let _ = rest;
         None
     }
 

@@ -1,19 +1,20 @@
 // A stretch of the lines of a text.
-ghost use Rattle.std.specs.Prelude.{◌≡◌, ◌≤◌, ◌<◌, ℕ, List, length, drop, IfOk};
+ghost use Rattle.std.specs.Prelude.{◌≡◌, ◌+◌, ◌≤◌, ◌<◌, ℕ, List, length, drop, IfOk};
 ghost use Rattle.tile_io.specs.declared.mark.Mark.{Mark};
 ghost use Rattle.tile_io.specs.declared.stretch.Stretch.TheVariants.{Open};
 ghost use Rattle.tile_io.specs.Lines.{lines_from, mark_after};
 ghost use Rattle.tile_io.specs.NextLine.{IsMark};
 ghost use Rattle.tile_io.specs.Formats.{missing_cause};
 ghost use Rattle.tile_io.specs.Checks.{table_format};
-ghost use Rattle.tile_io.specs.Inner.Headers.{first_cause};
+ghost use Rattle.tile_io.specs.Inner.Headers.{first_cause, stop_at};
 ghost use Rattle.tile_io.specs.Inner.Stretches.{IsStretch, Progress, moved};
+ghost use Rattle.tile_io.specs.Inner.Turns.{TakesNext, turn_at};
 
 use crate::fault::{Cause, TextFault, TextStop};
 use crate::limits::MOST_INPUT;
-use crate::line_reader::{LineReader, LineStop};
+use crate::line_reader::{Front, LineReader, LineStop};
 use crate::mark::Mark;
-use crate::reading::{end_number, next_line};
+use crate::reading::{Line, end_number, next_line};
 
 // How far a stretch came.
 #[derive(Clone, Copy)]
@@ -22,6 +23,13 @@ pub(crate) enum Stretch {
     Ended(Mark),
     // To this mark after a line; others may follow.
     Open(Mark),
+}
+
+// A line, and what a reader made of it.
+#[derive(Clone, Copy)]
+pub(crate) struct Turn {
+    line: Line,
+    done: Result<bool, LineStop>,
 }
 
 // Reads the lines of the rest of a text from a mark on, up to the first that ends so far behind.
@@ -51,7 +59,7 @@ pub(crate) fn read_lines<R: LineReader>(
     let mut mark = from;
     let mut missing = first_missing;
     'lines: loop {
-        match next_line(text, mark) {
+        match take_next(reader, text, mark) {
             Err(fault) => return Err(TextStop::Fault(fault)),
             Ok(None) => {
                 let end = end_mark(text, mark);
@@ -63,7 +71,7 @@ pub(crate) fn read_lines<R: LineReader>(
                     cause: missing,
                 }));
             }
-            Ok(Some(line)) => match reader.take_bytes(&text[line.start..line.end]) {
+            Ok(Some(Turn { line, done })) => match done {
                 Ok(true) => return Ok(Stretch::Ended(line.next)),
                 Ok(false) => {
                     if line.next.at >= until {
@@ -72,16 +80,71 @@ pub(crate) fn read_lines<R: LineReader>(
                     mark = line.next;
                     missing = Cause::NoEnd;
                 }
-                Err(LineStop::Fault(cause)) => {
-                    let cause = first_cause(reader.has_header(), missing, cause);
-                    return Err(TextStop::Fault(TextFault {
-                        line: line.number,
-                        cause,
-                    }));
+                Err(stop) => {
+                    return Err(stop_at(line.number, reader.has_header(), missing, stop));
                 }
-                Err(LineStop::NoMemory) => return Err(TextStop::NoMemory),
             },
         }
+    }
+}
+
+// Takes the next line that is neither empty nor a remark: from the front of what is left, or by its bytes.
+#[inline(always)]
+fn take_next<R: LineReader>(
+    reader: &mut R,
+    text: &[u8],
+    from: Mark,
+) -> Result<Option<Turn>, TextFault>
+    requires held { (items : List R.Item) × R.holds reader.old items }
+    requires short { length text.now ≤ MOST_INPUT }
+    requires mark { IsMark text.now from }
+    ensures taken { TakesNext (R.table (R.context reader.old)) (R.holds reader.old)
+        (R.holds reader.new) text.now from result }
+    ensures context { R.context reader.new ≡ R.context reader.old }
+{
+    if let Some(front) = reader.take_front(&text[from.at..]) {
+        return Ok(Some(turn_at(from, front)));
+    }
+    let Some(line) = next_line(text, from)? else {
+        return Ok(None);
+    };
+    let done = reader.take_bytes(&text[line.start..line.end]);
+    Ok(Some(Turn { line, done }))
+}
+
+// The line at a mark that was taken from the front.
+#[inline(always)]
+fn turn_at(from: Mark, front: Front) -> Turn
+    requires some { 0 < front.length }
+    requires few { from.at + front.length ≤ MOST_INPUT }
+    requires number { from.line ≤ from.at + 1 }
+    ensures { result ≡ turn_at from front }
+{
+    let next = Mark {
+        at: from.at + front.length,
+        line: from.line + 1,
+    };
+    Turn {
+        line: Line {
+            start: from.at,
+            end: next.at - 1,
+            number: from.line,
+            next,
+        },
+        done: front.done,
+    }
+}
+
+// How a text stops at a line that was not taken.
+fn stop_at(line: u32, has_header: bool, missing: Cause, stop: LineStop) -> TextStop
+    ensures { result ≡ stop_at line has_header missing stop }
+{
+    match stop {
+        LineStop::Fault(cause) => TextStop::Fault(TextFault {
+            line,
+            cause: first_cause(has_header, missing, cause),
+        }),
+        LineStop::NoMemory => TextStop::NoMemory,
     }
 }
 

@@ -1,16 +1,15 @@
-use Rattle.std.proofs.Common.{◌≡◌, ◌≤◌, ◌<◌, ◌+◌, ◌-◌, ◌++◌, ◌∷◌, [], length, Ok, Err, refl, sym, ap, subst, ◌∙◌, arith}
-use Rattle.std.proofs.lemmas.Option.{MatchOption-at_some, MatchOption-at_none}
-use Rattle.tile_io.specs.declared.fault.Cause.{Cause}
+use Rattle.std.proofs.Common.{◌≡◌, true, false, ◌≤◌, ◌<◌, ◌+◌, ◌-◌, ◌++◌, ◌∷◌, [], length, Ok, Err, refl, sym, ap, subst, ◌∙◌, arith}
+use Rattle.tile_io.specs.declared.fault.TextStop.{TextStop}
 use Rattle.tile_io.specs.Lines.{lines_from, mark_after, words_of, AreSkipped}
 use Rattle.tile_io.specs.declared.mark.Mark.{Mark}
-use Rattle.tile_io.specs.NextLine.{IsMark, IsNextLine}
-use Rattle.tile_io.specs.Formats.{Fault}
+use Rattle.tile_io.specs.NextLine.{IsMark}
 use Rattle.tile_io.specs.Checks.{table_format}
-use Rattle.tile_io.specs.Inner.Headers.{first_cause}
-use Rattle.tile_io.specs.Inner.Stretches.{moved}
+use Rattle.tile_io.specs.Inner.Headers.{stop_at}
+use Rattle.tile_io.specs.Inner.Stretches.{IsStretch, moved}
 use Rattle.tile_io.proofs.Progress.{progress_bad, next_is_mark, next_is_later}
 use Rattle.tile_io.proofs.Walks.{mark_within}
-use Rattle.tile_io.proofs.LineTurns.{takes_here, item_step, end_step, fault_step, missing-push, complete_step, missing_step}
+use Rattle.tile_io.proofs.Fronts.{taken_turn, none_taken}
+use Rattle.tile_io.proofs.LineTurns.{takes_here, item_step, end_step, stop_step, missing-push, complete_step, missing_step}
 use Rattle.tile_io.proofs.Shifts.{same_lines, same_bytes, moved_after, moved_line, next_moved, bad_moved}
 use Rattle.tile_io.proofs.stretch.read_lines.Goals as goal
 
@@ -31,7 +30,7 @@ returns-in-Err-clause-read g c = λ whole bytes lines start items is within prog
     let before = c.lines.invariant.so_far whole bytes lines start items is within progress held missing in
     let here = moved bytes lines mark in
     let format = table_format (g.R.LineReader.table (g.R.LineReader.context c.args.reader.now)) in
-    progress_bad format whole start here before.items (record { line = lines + c.in-Err.fault.line; cause = c.in-Err.fault.cause }) before.progress (bad_moved whole bytes lines text is within mark c.in-Err.fault c.in-Err.ensures)
+    progress_bad format whole start here before.items (record { line = lines + c.in-Err.fault.line; cause = c.in-Err.fault.cause }) before.progress (bad_moved whole bytes lines text is within mark c.in-Err.fault c.in-Err.ensures.taken)
 
 pub returns-then-is_complete-clause-read : goal.returns-then-is_complete-clause-read
 returns-then-is_complete-clause-read g c = λ whole bytes lines start items is within progress held missing.
@@ -40,14 +39,15 @@ returns-then-is_complete-clause-read g c = λ whole bytes lines start items is w
     let before = c.lines.invariant.so_far whole bytes lines start items is within progress held missing in
     let here = moved bytes lines mark in
     let table = g.R.LineReader.table in
-    let skipped = MatchOption-at_none (AreSkipped (lines_from text mark)) (IsNextLine text mark) c.in-Ok-None.field-0-is c.in-Ok-None.ensures in
+    let none = none_taken (table (g.R.LineReader.context c.lines.reader)) (g.R.LineReader.holds c.lines.reader) (g.R.LineReader.holds c.take_next.new.reader) text mark c.in-Ok-None.field-0-is c.in-Ok-None.ensures.taken in
+    let skipped = none.skipped in
     let all = subst AreSkipped (same_lines whole bytes lines text is within mark) skipped in
     let end =
     ap (moved bytes lines) c.end_mark-end.ensures ∙ moved_after whole bytes lines text is within mark (length (lines_from text mark))
     ∙ ap (λ l. mark_after (lines_from whole here) here (length l)) (same_lines whole bytes lines text is within mark)
     in
-    let told = ap (λ x. (table x).is_complete before.items) (sym c.lines.invariant.context) ∙ sym (c.is_complete.ensures before.items before.held) ∙ c.if-is_complete.true in
-    complete_step (table (g.R.LineReader.context c.args.reader.now)) whole start here (moved bytes lines c.end_mark-end.result) before.items before.progress all end (g.R.LineReader.holds c.lines.reader) before.held told
+    let told = ap (λ x. (table x).is_complete before.items) (sym (c.take_next.ensures.context ∙ c.lines.invariant.context)) ∙ sym (c.is_complete.ensures before.items (none.left before.items before.held)) ∙ c.if-is_complete.true in
+    complete_step (table (g.R.LineReader.context c.args.reader.now)) whole start here (moved bytes lines c.end_mark-end.result) before.items before.progress all end (g.R.LineReader.holds c.take_next.new.reader) (none.left before.items before.held) told
 
 pub returns-in-Ok-None-clause-read : goal.returns-in-Ok-None-clause-read
 returns-in-Ok-None-clause-read g c = λ whole bytes lines start items is within progress held missing.
@@ -56,13 +56,14 @@ returns-in-Ok-None-clause-read g c = λ whole bytes lines start items is within 
     let before = c.lines.invariant.so_far whole bytes lines start items is within progress held missing in
     let here = moved bytes lines mark in
     let table = g.R.LineReader.table in
-    let skipped = MatchOption-at_none (AreSkipped (lines_from text mark)) (IsNextLine text mark) c.in-Ok-None.field-0-is c.in-Ok-None.ensures in
+    let none = none_taken (table (g.R.LineReader.context c.lines.reader)) (g.R.LineReader.holds c.lines.reader) (g.R.LineReader.holds c.take_next.new.reader) text mark c.in-Ok-None.field-0-is c.in-Ok-None.ensures.taken in
+    let skipped = none.skipped in
     let all = subst AreSkipped (same_lines whole bytes lines text is within mark) skipped in
     let end =
     ap (moved bytes lines) c.end_mark-end.ensures ∙ moved_after whole bytes lines text is within mark (length (lines_from text mark))
     ∙ ap (λ l. mark_after (lines_from whole here) here (length l)) (same_lines whole bytes lines text is within mark)
     in
-    let told = ap (λ x. (table x).is_complete before.items) (sym c.lines.invariant.context) ∙ sym (c.is_complete.ensures before.items before.held) ∙ c.if-is_complete.false in
+    let told = ap (λ x. (table x).is_complete before.items) (sym (c.take_next.ensures.context ∙ c.lines.invariant.context)) ∙ sym (c.is_complete.ensures before.items (none.left before.items before.held)) ∙ c.if-is_complete.false in
     missing_step (table (g.R.LineReader.context c.args.reader.now)) whole start here (moved bytes lines c.end_mark-end.result) before.items before.progress all end c.lines.missing before.missing_is told
 
 pub returns-in-Ok-true-clause-read : goal.returns-in-Ok-true-clause-read
@@ -72,12 +73,15 @@ returns-in-Ok-true-clause-read g c = λ whole bytes lines start items is within 
     let before = c.lines.invariant.so_far whole bytes lines start items is within progress held missing in
     let here = moved bytes lines mark in
     let table = g.R.LineReader.table in
-    let line = c.in-Ok-Some.line in
-    let Holds = g.R.LineReader.holds c.take_bytes.new.self in
-    let next = MatchOption-at_some (AreSkipped (lines_from text mark)) (IsNextLine text mark) line c.in-Ok-Some.field-0-is c.in-Ok-Some.ensures in
+    let turn = c.in-Ok-Some.field-0-0 in
+    let line = turn.line in
+    let Holds = g.R.LineReader.holds c.take_next.new.reader in
+    let done : turn.done ≡ Ok true = c.in-Ok-true.is ∙ ap (λ b. Ok b) c.in-Ok-true.field-0-test in
+    let found = taken_turn (g.R.LineReader.table (g.R.LineReader.context c.lines.reader)) (g.R.LineReader.holds c.lines.reader) (g.R.LineReader.holds c.take_next.new.reader) text mark turn c.in-Ok-Some.field-0-is done c.in-Ok-Some.ensures.taken in
+    let next = found.next in
     let there = next_moved whole bytes lines text is within mark line next in
     let words = ap words_of (same_bytes whole bytes lines text is within line) in
-    let took = takes_here table c.lines.invariant.context Holds before.items words (c.in-Ok-true.is ∙ ap (λ b. Ok b) c.in-Ok-true.field-0-test) (c.take_bytes.ensures.taken before.items before.held) in
+    let took = takes_here table c.lines.invariant.context Holds before.items words (Ok true) (found.taken before.items before.held) in
     end_step (table (g.R.LineReader.context c.args.reader.now)) whole start here before.items (moved_line whole bytes lines line) before.progress there Holds took
 
 pub returns-then-line-until-clause-read : goal.returns-then-line-until-clause-read
@@ -87,12 +91,15 @@ returns-then-line-until-clause-read g c = λ whole bytes lines start items is wi
     let before = c.lines.invariant.so_far whole bytes lines start items is within progress held missing in
     let here = moved bytes lines mark in
     let table = g.R.LineReader.table in
-    let line = c.in-Ok-Some.line in
-    let Holds = g.R.LineReader.holds c.take_bytes.new.self in
-    let next = MatchOption-at_some (AreSkipped (lines_from text mark)) (IsNextLine text mark) line c.in-Ok-Some.field-0-is c.in-Ok-Some.ensures in
+    let turn = c.in-Ok-Some.field-0-0 in
+    let line = turn.line in
+    let Holds = g.R.LineReader.holds c.take_next.new.reader in
+    let done : turn.done ≡ Ok false = c.in-Ok-false.is ∙ ap (λ b. Ok b) c.in-Ok-false.field-0-test in
+    let found = taken_turn (g.R.LineReader.table (g.R.LineReader.context c.lines.reader)) (g.R.LineReader.holds c.lines.reader) (g.R.LineReader.holds c.take_next.new.reader) text mark turn c.in-Ok-Some.field-0-is done c.in-Ok-Some.ensures.taken in
+    let next = found.next in
     let there = next_moved whole bytes lines text is within mark line next in
     let words = ap words_of (same_bytes whole bytes lines text is within line) in
-    let took = takes_here table c.lines.invariant.context Holds before.items words (c.in-Ok-false.is ∙ ap (λ b. Ok b) c.in-Ok-false.field-0-test) (c.take_bytes.ensures.taken before.items before.held) in
+    let took = takes_here table c.lines.invariant.context Holds before.items words (Ok false) (found.taken before.items before.held) in
     record {
       items = before.items ++ took.0 ∷ [];
       held = took.3;
@@ -104,8 +111,10 @@ pub returns-then-line-until-clause-far : goal.returns-then-line-until-clause-far
 returns-then-line-until-clause-far g c =
     let text = c.args.text.now in
     let mark = c.lines.mark in
-    let line = c.in-Ok-Some.line in
-    let next = MatchOption-at_some (AreSkipped (lines_from text mark)) (IsNextLine text mark) line c.in-Ok-Some.field-0-is c.in-Ok-Some.ensures in
+    let turn = c.in-Ok-Some.field-0-0 in
+    let line = turn.line in
+    let found = taken_turn (g.R.LineReader.table (g.R.LineReader.context c.lines.reader)) (g.R.LineReader.holds c.lines.reader) (g.R.LineReader.holds c.take_next.new.reader) text mark turn c.in-Ok-Some.field-0-is refl c.in-Ok-Some.ensures.taken in
+    let next = found.next in
     let later : mark.at < line.next.at = next_is_later text mark line next in
     let Far : Mark → Type 0 = λ m. IsMark text m × (c.args.until ≤ m.at) × (c.args.from.at < m.at) in
     let far : Far line.next = (next_is_mark text mark line c.lines.invariant.mark next, omega (arith, c.if-line-until.true), omega (arith, later, c.lines.invariant.later)) in
@@ -115,8 +124,10 @@ pub lines-smaller : goal.lines-smaller
 lines-smaller g c =
     let text = c.args.text.now in
     let mark = c.lines.mark in
-    let line = c.in-Ok-Some.line in
-    let next = MatchOption-at_some (AreSkipped (lines_from text mark)) (IsNextLine text mark) line c.in-Ok-Some.field-0-is c.in-Ok-Some.ensures in
+    let turn = c.in-Ok-Some.field-0-0 in
+    let line = turn.line in
+    let found = taken_turn (g.R.LineReader.table (g.R.LineReader.context c.lines.reader)) (g.R.LineReader.holds c.lines.reader) (g.R.LineReader.holds c.take_next.new.reader) text mark turn c.in-Ok-Some.field-0-is refl c.in-Ok-Some.ensures.taken in
+    let next = found.next in
     let later : mark.at < line.next.at = next_is_later text mark line next in
     let within : line.next.at ≤ length text = (mark_within text line.next (next_is_mark text mark line c.lines.invariant.mark next)).0 in
     let smaller : length text - line.next.at < length text - mark.at = omega (arith, later, within) in
@@ -127,15 +138,17 @@ lines-preserved g c =
     let table = g.R.LineReader.table in
     let text = c.args.text.now in
     let mark = c.lines.mark in
-    let line = c.in-Ok-Some.line in
+    let turn = c.in-Ok-Some.field-0-0 in
+    let line = turn.line in
     let now = c.lines.invariant in
-    let Holds = g.R.LineReader.holds c.take_bytes.new.self in
-    let next = MatchOption-at_some (AreSkipped (lines_from text mark)) (IsNextLine text mark) line c.in-Ok-Some.field-0-is c.in-Ok-Some.ensures in
+    let Holds = g.R.LineReader.holds c.take_next.new.reader in
+    let done : turn.done ≡ Ok false = c.in-Ok-false.is ∙ ap (λ b. Ok b) c.in-Ok-false.field-0-test in
+    let found = taken_turn (g.R.LineReader.table (g.R.LineReader.context c.lines.reader)) (g.R.LineReader.holds c.lines.reader) (g.R.LineReader.holds c.take_next.new.reader) text mark turn c.in-Ok-Some.field-0-is done c.in-Ok-Some.ensures.taken in
+    let next = found.next in
     let later : mark.at < line.next.at = next_is_later text mark line next in
-    let found = c.in-Ok-false.is ∙ ap (λ b. Ok b) c.in-Ok-false.field-0-test in
-    let taken = takes_here table now.context Holds now.items refl found (c.take_bytes.ensures.taken now.items now.held) in
+    let taken = takes_here table now.context Holds now.items refl (Ok false) (found.taken now.items now.held) in
     record {
-      context = c.take_bytes.ensures.context ∙ now.context;
+      context = c.take_next.ensures.context ∙ now.context;
       items = now.items ++ taken.0 ∷ [];
       held = taken.3;
       so_far = λ whole bytes lines start items is within progress held missing.
@@ -143,7 +156,7 @@ lines-preserved g c =
           let here = moved bytes lines mark in
           let there = next_moved whole bytes lines text is within mark line next in
           let words = ap words_of (same_bytes whole bytes lines text is within line) in
-          let took = takes_here table now.context Holds before.items words found (c.take_bytes.ensures.taken before.items before.held) in
+          let took = takes_here table now.context Holds before.items words (Ok false) (found.taken before.items before.held) in
           record {
             items = before.items ++ took.0 ∷ [];
             held = took.3;
@@ -154,24 +167,24 @@ lines-preserved g c =
       later = omega (arith, later, now.later);
     }
 
-pub returns-in-Err-Fault-clause-read : goal.returns-in-Err-Fault-clause-read
-returns-in-Err-Fault-clause-read g c = λ whole bytes lines start items is within progress held missing.
+pub returns-in-Err-done-clause-read : goal.returns-in-Err-done-clause-read
+returns-in-Err-done-clause-read g c = λ whole bytes lines start items is within progress held missing.
     let text = c.args.text.now in
     let mark = c.lines.mark in
     let before = c.lines.invariant.so_far whole bytes lines start items is within progress held missing in
     let here = moved bytes lines mark in
     let table = g.R.LineReader.table in
-    let line = c.in-Ok-Some.line in
-    let Holds = g.R.LineReader.holds c.take_bytes.new.self in
-    let next = MatchOption-at_some (AreSkipped (lines_from text mark)) (IsNextLine text mark) line c.in-Ok-Some.field-0-is c.in-Ok-Some.ensures in
-    let there = next_moved whole bytes lines text is within mark line next in
+    let turn = c.in-Ok-Some.field-0-0 in
+    let line = turn.line in
+    let Holds = g.R.LineReader.holds c.take_next.new.reader in
+    let stop = c.in-Err-done.stop in
+    let done : turn.done ≡ Err stop = c.in-Err-done.is in
+    let found = taken_turn (g.R.LineReader.table (g.R.LineReader.context c.lines.reader)) (g.R.LineReader.holds c.lines.reader) (g.R.LineReader.holds c.take_next.new.reader) text mark turn c.in-Ok-Some.field-0-is done c.in-Ok-Some.ensures.taken in
+    let there = next_moved whole bytes lines text is within mark line found.next in
     let words = ap words_of (same_bytes whole bytes lines text is within line) in
-    let took = takes_here table c.lines.invariant.context Holds before.items words (c.in-Err-Fault.is ∙ ap (λ s. Err s) c.in-Err-Fault.field-0-is) (c.take_bytes.ensures.taken before.items before.held) in
-    let fault =
-    fault_step (table (g.R.LineReader.context c.args.reader.now)) whole start here before.items (moved_line whole bytes lines line) before.progress there Holds c.lines.missing c.in-Err-Fault.cause before.missing_is took
-    in
-    let told =
-    c.first_cause-cause.ensures ∙ ap (λ b. first_cause b c.lines.missing c.in-Err-Fault.cause) (c.has_header.ensures ∙ ap (λ x. (table x).has_header) (c.take_bytes.ensures.context ∙ c.lines.invariant.context))
-    in
-    let Told : Cause → Type 0 = λ cause. Fault (table_format (table (g.R.LineReader.context c.args.reader.now))) whole start (lines + line.number) cause in
-    subst Told (sym told) fault
+    let took = takes_here table c.lines.invariant.context Holds before.items words (Err stop) (found.taken before.items before.held) in
+    let header = c.has_header.ensures ∙ ap (λ x. (table x).has_header) (c.take_next.ensures.context ∙ c.lines.invariant.context) in
+    let told = c.stop_at.ensures ∙ ap (λ b. stop_at line.number b c.lines.missing stop) header in
+    let now = table (g.R.LineReader.context c.args.reader.now) in
+    let Stops : TextStop → Type 0 = λ s. IsStretch (table_format now) whole start bytes lines Holds (Err s) in
+    subst Stops (sym told) (stop_step now whole start here before.items (moved_line whole bytes lines line) before.progress there Holds c.lines.missing line.number bytes lines stop before.missing_is refl took)
