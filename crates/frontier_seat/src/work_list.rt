@@ -135,11 +135,7 @@ impl WorkList {
         ensures listed { IfSome result (λ spot. IsIn self.old.numbers spot.number) }
     {
         let area = self.area;
-        let first = self.spot_of(from as usize);
-        let (_column, row) = column_and_row(&area, first.site);
-        let number = self
-            .share
-            .from_number(&self.numbers, &area, from as usize, row)?;
+        let number = self.share.from_number(&self.numbers, &area, from as usize)?;
         Some(self.spot_of(number))
     }
 

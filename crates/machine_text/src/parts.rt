@@ -7,6 +7,7 @@ use std::alloc::Global;
 use tile_system::NoMemory;
 
 /// The parts of a machine. The numbers are 0 until they are read.
+#[derive(Drop)]
 pub(crate) struct MachineParts {
     pub(crate) states: NameList,
     pub(crate) symbols: NameList,
@@ -15,21 +16,6 @@ pub(crate) struct MachineParts {
     pub(crate) rows: u32,
     pub(crate) head: u32,
     pub(crate) tape: Vec<u32>,
-}
-
-impl Drop for MachineParts {
-    // One call wherever it is given back.
-    fn drop(self) {
-        let MachineParts {
-            states: _states,
-            symbols: _symbols,
-            rules: _rules,
-            cells: _cells,
-            rows: _rows,
-            head: _head,
-            tape: _tape,
-        } = self;
-    }
 }
 
 impl MachineParts {

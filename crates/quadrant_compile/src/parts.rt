@@ -7,6 +7,7 @@ use std::alloc::Global;
 use tile_system::NoMemory;
 
 /// The parts of a quadrant. The width and the height are 0 until they are read.
+#[derive(Drop)]
 pub(crate) struct QuadrantParts {
     pub(crate) symbols: NameList,
     pub(crate) rules: RuleList,
@@ -14,20 +15,6 @@ pub(crate) struct QuadrantParts {
     pub(crate) height: u32,
     pub(crate) bottom: Vec<u32>,
     pub(crate) left: Vec<u32>,
-}
-
-impl Drop for QuadrantParts {
-    // One call wherever it is given back.
-    fn drop(self) {
-        let QuadrantParts {
-            symbols: _symbols,
-            rules: _rules,
-            width: _width,
-            height: _height,
-            bottom: _bottom,
-            left: _left,
-        } = self;
-    }
 }
 
 impl QuadrantParts {

@@ -152,6 +152,13 @@ impl Watcher {
         ensures are { AreFrames self.seat.sys result.2.places result.2.counts }
         ensures part { IsPartOf result.2.places result.0.scout.seen }
     {
-        (self.seat, self.seen, self.frames)
+        let Watcher {
+            seat,
+            seen,
+            frames,
+            listing: _listing,
+            many: _many,
+        } = self;
+        (seat, seen, frames)
     }
 }
