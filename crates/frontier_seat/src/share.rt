@@ -1,5 +1,5 @@
 // The part of a work list that a worker looks at first.
-ghost use Rattle.std.specs.Prelude.{◌<◌, IfSome};
+ghost use Rattle.std.specs.Prelude.{◌<◌, ◌≤◌, IfSome};
 ghost use Rattle.atam.specs.Sites.{IsBox};
 ghost use Rattle.number_set.specs.Numbers.{IsIn};
 
