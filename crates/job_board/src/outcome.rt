@@ -8,9 +8,8 @@ ghost use Rattle.job_board.specs.Answers.{Answers};
 
 use crate::job::Job;
 use assembly::{Grid, Sequence};
-use fan_out::WorkerCount;
 use frontier_seat::{First, fill_least_first_by_index};
-use local_check::{Verdict, inputs_by_index, judge_closed};
+use local_check::{Verdict, judge_grown};
 use std::alloc::Global;
 use std::marker::Model;
 use std::thread::Threads;
@@ -51,22 +50,18 @@ impl Outcome {
     pub fn work<R: Threads + Sync>(rt: &R, alloc: Global, job: &Job) -> Result<Outcome, NoMemory>
         ensures { IfOk result (Answers job.now.sys) }
     {
+        let _ = rt;
         let types = TypeIndex::build(alloc, &job.sys)?;
-        Outcome::by_index(rt, alloc, &job.sys, &types)
+        Outcome::by_index(alloc, &job.sys, &types)
     }
 
     // The same where an index of the types is lent.
-    fn by_index<R: Threads + Sync>(
-        rt: &R,
-        alloc: Global,
-        sys: &System,
-        types: &TypeIndex,
-    ) -> Result<Outcome, NoMemory>
+    fn by_index(alloc: Global, sys: &System, types: &TypeIndex) -> Result<Outcome, NoMemory>
         requires { IsIndexOf sys.now types.now }
         ensures { IfOk result (Answers sys.now) }
     {
         let (grid, order) = fill_least_first_by_index(alloc, sys, types, &mut First)?;
-        let (verdict, outside) = judge_order(rt, alloc, sys, grid, types, &order)?;
+        let (verdict, outside) = judge_order(alloc, sys, grid, types, &order)?;
         Ok(Outcome {
             sequence: order.copy()?,
             outside,
@@ -95,8 +90,7 @@ impl Outcome {
 
 // The verdict on the canonical sequence of a full growth, and the least open site outside the box. The
 // grid is dropped then.
-fn judge_order<R: Threads + Sync>(
-    rt: &R,
+fn judge_order(
     alloc: Global,
     sys: &System,
     grid: Grid,
@@ -111,9 +105,7 @@ fn judge_order<R: Threads + Sync>(
     ensures outside { IfOk result (λ r. IsLeastOpenOutside sys.now grid.tiles r.1) }
 {
     sys.recall_valid();
-    let alone = WorkerCount::new(1);
-    let sides = inputs_by_index(rt, alloc, sys, order, &grid, types, alone)?;
     let outside = types.least_open_outside(sys, &grid);
-    let verdict = judge_closed(sys, order, &sides, outside);
+    let verdict = judge_grown(alloc, sys, order, types, outside)?;
     Ok((verdict, outside))
 }

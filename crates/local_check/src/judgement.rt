@@ -1,4 +1,7 @@
 // The verdict on a legal sequence.
+ghost use Rattle.std.specs.Prelude.{List};
+ghost use Rattle.atam.specs.declared.place.Place.{Place};
+ghost use Rattle.atam.specs.TileSystem.{TileSystem};
 ghost use Rattle.atam.specs.Placements.{SamePlacements};
 ghost use Rattle.atam.specs.Assembly.{Fits};
 ghost use Rattle.atam.specs.Growth.{IsClosedInBox, IsLeastOpen, IsLeastOpenOutside, IsLegal};
@@ -58,13 +61,7 @@ pub fn judge_closed(
             tile: rival,
         };
     }
-    match outside {
-        Some((at, open)) => Verdict::NotTerminal {
-            site: at,
-            tile: open,
-        },
-        None => Verdict::Yes,
-    }
+    verdict_by(outside)
 }
 
 // The verdict where the conditions on places hold: whether the third one does.
@@ -82,7 +79,16 @@ pub(crate) fn last_verdict<P: Placed>(
     requires rivals { HasNoRivals sys.now seq.now }
     ensures { IsVerdict sys.now seq.now result }
 {
-    match least_open(sys, seq, types, placed) {
+    verdict_by(least_open(sys, seq, types, placed))
+}
+
+// The verdict on each sequence for which the conditions on places hold, and of which this is the
+// least open site.
+pub(crate) fn verdict_by(least: Option<(Site, TypeId)>) -> Verdict
+    ensures { (sys : TileSystem) (s : List Place) → IsLegal sys s → HasExactInputs sys s →
+        HasNoRivals sys s → IsLeastOpen sys s least → IsVerdict sys s result }
+{
+    match least {
         Some((site, tile)) => Verdict::NotTerminal { site, tile },
         None => Verdict::Yes,
     }

@@ -2,21 +2,21 @@
 ghost use Rattle.std.specs.Prelude.{◌≡◌, ◌<◌, ◌^◌, true, length, take, IfOk};
 ghost use Rattle.atam.specs.Placements.{SamePlacements};
 ghost use Rattle.atam.specs.Assembly.{Fits};
-ghost use Rattle.atam.specs.Growth.{IsLegal};
+ghost use Rattle.atam.specs.Growth.{IsClosedInBox, IsLeastOpenOutside, IsLegal};
 ghost use Rattle.atam.specs.Determinism.{HasExactInputs, HasNoRivals};
 ghost use Rattle.type_index.specs.Indexes.{IsIndexOf};
 ghost use Rattle.local_check.specs.Judgement.{IsVerdict};
 ghost use Rattle.local_check.specs.Judged.{IsJudged};
 ghost use Rattle.local_check.specs.Inner.Passages.{IsPassage, IsPassed};
 
-use crate::judgement::last_verdict;
+use crate::judgement::{judge_closed, last_verdict, verdict_by};
 use crate::passage::{Passage, Passed, pass};
 use crate::side_table::inputs_lent;
 use crate::{Verdict, judge};
 use assembly::{Grid, Sequence, put_seeds};
 use replay_order::Legality;
 use std::alloc::Global;
-use tile_system::{NoMemory, System};
+use tile_system::{NoMemory, Site, System, TypeId};
 use type_index::TypeIndex;
 
 /// The verdict on a legal sequence, or what breaks legality first.
@@ -41,25 +41,58 @@ pub fn judge_once(alloc: Global, sys: &System, seq: &Sequence) -> Result<Judged,
     Ok(Judged::Breach(Legality::WrongSeed))
 }
 
-/// The verdict on a legal sequence, as `judge` tells it, found as `judge_once` does, by an index of
-/// the types that is lent.
-pub fn judge_legal(
+/// What `judge_closed` tells of a legal sequence that nothing extends in the box, by the least open
+/// site outside. It looks at each place as `judge_once` does, and takes as much memory, but for the
+/// index of the types, which is lent.
+pub fn judge_grown(
     alloc: Global,
     sys: &System,
     seq: &Sequence,
     types: &TypeIndex,
+    outside: Option<(Site, TypeId)>,
 ) -> Result<Verdict, NoMemory>
     requires legal { IsLegal sys.now seq.now }
     requires fits { Fits sys.now seq.now }
     requires index { IsIndexOf sys.now types.now }
+    requires closed { IsClosedInBox sys.now seq.now }
+    requires outside { IsLeastOpenOutside sys.now seq.now outside }
     ensures { IfOk result (IsVerdict sys.now seq.now) }
 {
     sys.recall_valid();
     let mut grid = grid_of_seeds(alloc, sys)?;
-    match judge_by_index(alloc, sys, seq, types, &mut grid)? {
-        Judged::Legal(verdict) => Ok(verdict),
-        Judged::Breach(_) => unreachable!(),
+    match pass(alloc, sys, seq, types, &mut grid)? {
+        Passed::Legal(passage) => grown_verdict(alloc, sys, seq, types, &grid, passage, outside),
+        Passed::Breach(_) => unreachable!(),
     }
+}
+
+// The same, by what was found as the places came.
+fn grown_verdict(
+    alloc: Global,
+    sys: &System,
+    seq: &Sequence,
+    types: &TypeIndex,
+    grid: &Grid,
+    passage: Passage,
+    outside: Option<(Site, TypeId)>,
+) -> Result<Verdict, NoMemory>
+    requires fits { Fits sys.now seq.now }
+    requires index { IsIndexOf sys.now types.now }
+    requires area { grid.now.area ≡ sys.now.area }
+    requires passage { IsPassage sys.now seq.now grid.now.tiles passage }
+    requires closed { IsClosedInBox sys.now seq.now }
+    requires outside { IsLeastOpenOutside sys.now seq.now outside }
+    ensures { IfOk result (IsVerdict sys.now seq.now) }
+{
+    sys.recall_valid();
+    if let Some((site, sum)) = passage.inexact {
+        return Ok(Verdict::NotExact { site, sum });
+    }
+    if passage.clean {
+        return Ok(verdict_by(outside));
+    }
+    let sides = inputs_lent(alloc, sys, seq, grid, types)?;
+    Ok(judge_closed(sys, seq, &sides, outside))
 }
 
 // The same of a sequence that begins with the seeds.

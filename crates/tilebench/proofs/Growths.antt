@@ -21,7 +21,7 @@ use Rattle.seq_text.proofs.NamedTypes.{verdict_types}
 use Rattle.tilebench.specs.declared.growth.Growth.{Growth}
 use Rattle.tilebench.specs.Commands.Grow.{IsGrowthText}
 use Rattle.tilebench.specs.Growths.{IsGrowth, growth_text, is_unique}
-use Rattle.tilebench.specs.Inner.Rooms.{GrowsTo, IsVerdictOn, NamesItsTypes, outcome_of}
+use Rattle.tilebench.specs.Inner.Rooms.{GrowsTo, NamesItsTypes, outcome_of}
 
 -- a producible assembly in the box is of types of its system
 pub producible_fits : (sys : TileSystem) (area : BoxArea) (tiles : List Place) → area ≡ sys.area → All (λ p. InBox area p.site) tiles → IsProducible sys tiles → Fits sys tiles
@@ -30,7 +30,7 @@ producible_fits sys area tiles same inside producible = record {
   sites = subst (λ (a : BoxArea). All (λ p. InBox a p.site) tiles) same inside;
 }
 
--- and so is the type that the judgement on a sequence names
+-- the type that the judgement on a sequence names is one of its system
 pub judged_types : (sys : TileSystem) (s : List Place) (judged : Judged) → IsJudged sys s judged → NamesItsTypes sys judged
 judged_types sys s (Legal verdict) judged = verdict_types sys s verdict judged.1
 judged_types sys s (Breach breach) judged = tt
@@ -45,26 +45,17 @@ growth_told sys table growth grows = record {
   answer = refl;
 }
 
--- what is open first of the plane is outside a box that is closed
-pub least_outside : (sys : TileSystem) (order tiles : List Place) (found : Option (Site × TypeId)) → IsClosedInBox sys tiles → SameTiles order tiles → IsLeastOpen sys order found →
-    IsLeastOpenOutside sys tiles found
-least_outside sys order tiles found closed same least = narrowed found (least_open_same sys order tiles (λ m. Unit {0}) found same least)
-  where
-    narrowed : (found : Option (Site × TypeId)) → IsLeastOpen sys tiles found → IsLeastOpenOutside sys tiles found
-    narrowed None least = λ m t outside. least m t tt
-    narrowed (Some found) least = record {
-      among = λ inside. closed found.0 found.1 inside least.grows;
-      grows = least.grows;
-      least_site = λ n u outside. least.least_site n u tt;
-      least_type = least.least_type;
-    }
+-- a whole order has the same tile at each site
+order_tiles : (sys : TileSystem) (tiles order : List Place) → HasDistinctSites tiles → IsWholeOrder sys tiles order → SameTiles order tiles
+order_tiles sys tiles order distinct whole m = sym (SameTiles-from tiles order distinct (same_back order tiles whole.same) m)
 
--- so a verdict for which the plane was looked through tells it
-pub terminal_outside : (sys : TileSystem) (tiles : List Place) → HasDistinctSites tiles → IsClosedInBox sys tiles → IsVerdictOn sys tiles Yes → IsLeastOpenOutside sys tiles None
-terminal_outside sys tiles distinct closed (order, whole, judged) =
-    least_outside sys order tiles None closed (λ m. sym (SameTiles-from tiles order distinct (same_back order tiles whole.same) m)) (λ m t _. judged.terminal m t)
+-- so nothing extends it in the box where nothing extends the tiles
+pub order_closed : (sys : TileSystem) (tiles order : List Place) → HasDistinctSites tiles → IsWholeOrder sys tiles order → IsClosedInBox sys tiles → IsClosedInBox sys order
+order_closed sys tiles order distinct whole closed m t within grows =
+    closed m t within (IsCandidate-same sys order tiles m t (order_tiles sys tiles order distinct whole) grows)
 
-pub open_outside : (sys : TileSystem) (tiles : List Place) (m : Site) (t : TypeId) → HasDistinctSites tiles → IsClosedInBox sys tiles → IsVerdictOn sys tiles (NotTerminal m t) →
-    IsLeastOpenOutside sys tiles (Some (m, t))
-open_outside sys tiles m t distinct closed (order, whole, judged) =
-    least_outside sys order tiles (Some (m, t)) closed (λ n. sym (SameTiles-from tiles order distinct (same_back order tiles whole.same) n)) judged.2
+-- and it has the same least open site outside
+pub order_outside : (sys : TileSystem) (tiles order : List Place) (outside : Option (Site × TypeId)) → HasDistinctSites tiles → IsWholeOrder sys tiles order →
+    IsLeastOpenOutside sys tiles outside → IsLeastOpenOutside sys order outside
+order_outside sys tiles order outside distinct whole least =
+    least_open_same sys tiles order (λ m. ¬ InBox sys.area m) outside (λ m. sym (order_tiles sys tiles order distinct whole m)) least

@@ -1,21 +1,19 @@
 // The verdict on an assembly.
 ghost use Rattle.std.specs.Prelude.{◌≡◌, IfOk, IfSome};
-ghost use Rattle.atam.specs.Assembly.{Fits};
 ghost use Rattle.atam.specs.Canonical.{IsCanonical};
 ghost use Rattle.atam.specs.Growth.{IsClosedInBox, IsLeastOpenOutside, IsProducible};
-ghost use Rattle.atam.specs.Placements.{HasDistinctSites};
 ghost use Rattle.type_index.specs.Indexes.{IsIndexOf};
 ghost use Rattle.replay_order.specs.ReplayAnswers.{IsWholeOrder};
 ghost use Rattle.local_check.specs.Judgement.{IsVerdict};
 ghost use Rattle.grow_workers.specs.Workers.{IsGrownBy};
 ghost use Rattle.tilebench.specs.Growths.{is_unique};
-ghost use Rattle.tilebench.specs.Inner.Rooms.{IsJudgedGrowth, IsVerdictOn};
+ghost use Rattle.tilebench.specs.Inner.Rooms.{IsJudgedGrowth};
 
 use crate::order::{grow_ordered, order_of};
 use crate::resources::{Crew, Resources};
 use assembly::{Grid, Sequence};
 use fan_out::WorkerCount;
-use local_check::{Verdict, inputs_by_index, judge, judge_legal};
+use local_check::{Verdict, inputs_by_index, judge_closed, judge_grown};
 use site_table::Grown;
 use std::thread::Threads;
 use tile_io::Gate;
@@ -88,8 +86,8 @@ pub fn judge_grid<R: Threads + Sync, G: Gate>(
 {
     grid.recall_sites();
     let order = order_of(resources, sys, grid, known, workers)?;
-    let verdict = verdict_on(resources, sys, types, grid, &order, workers)?;
-    let outside = open_outside(sys, types, grid, verdict);
+    let outside = types.least_open_outside(sys, grid);
+    let verdict = verdict_on(resources, sys, types, grid, &order, outside, workers)?;
     Ok(JudgedGrowth {
         order,
         verdict,
@@ -97,47 +95,28 @@ pub fn judge_grid<R: Threads + Sync, G: Gate>(
     })
 }
 
-// The verdict on a growth in its order. One worker looks at each place as it comes, several look at
-// ranges of them.
+// The verdict on a full growth in its order, by the least open site outside the box. One worker
+// looks at each place as it comes, several look at ranges of them.
 fn verdict_on<R: Threads + Sync, G: Gate>(
     resources: &Resources<'_, R, G>,
     sys: &System,
     types: &TypeIndex,
     grid: &Grid,
     order: &Sequence,
+    outside: Option<(Site, TypeId)>,
     workers: WorkerCount,
 ) -> Result<Verdict, NoMemory>
     requires index { IsIndexOf sys.now types.now }
     requires area { grid.now.area ≡ sys.now.area }
     requires order { IsWholeOrder sys.now grid.now.tiles order.now }
+    requires closed { IsClosedInBox sys.now order.now }
+    requires outside { IsLeastOpenOutside sys.now order.now outside }
     ensures { IfOk result (IsVerdict sys.now order.now) }
 {
     let alloc = resources.alloc;
     if workers.get() == 1 {
-        return judge_legal(alloc, sys, order, types);
+        return judge_grown(alloc, sys, order, types, outside);
     }
     let sides = inputs_by_index(resources.rt, alloc, sys, order, grid, types, workers)?;
-    Ok(judge(sys, order, &sides))
-}
-
-// The least open site outside the box of a full growth. A verdict for which the plane was looked
-// through tells it, so that no site is looked at twice.
-fn open_outside(
-    sys: &System,
-    types: &TypeIndex,
-    grid: &Grid,
-    verdict: Verdict,
-) -> Option<(Site, TypeId)>
-    requires index { IsIndexOf sys.now types.now }
-    requires fits { Fits sys.now grid.now.tiles }
-    requires distinct { HasDistinctSites grid.now.tiles }
-    requires closed { IsClosedInBox sys.now grid.now.tiles }
-    requires judged { IsVerdictOn sys.now grid.now.tiles verdict }
-    ensures { IsLeastOpenOutside sys.now grid.now.tiles result }
-{
-    match verdict {
-        Verdict::Yes => None,
-        Verdict::NotTerminal { site, tile } => Some((site, tile)),
-        Verdict::NotExact { .. } | Verdict::Rival { .. } => types.least_open_outside(sys, grid),
-    }
+    Ok(judge_closed(sys, order, &sides, outside))
 }

@@ -33,10 +33,6 @@ pub record HasTypes (sys : TileSystem) (outcome : Outcome) : Type 0 where
   pub outside : IfSome outcome.outside (λ found. IsType sys found.1)
   pub verdict : NamesTypes sys outcome.verdict
 
--- the verdict on some whole order of these tiles
-abbrev pub IsVerdictOn : TileSystem → List Place → Verdict → Type 0
-IsVerdictOn sys tiles verdict = (order : List Place) × IsWholeOrder sys tiles order × IsVerdict sys order verdict
-
 -- the whole order of these tiles, the verdict on it, and what is open outside the box
 pub record IsJudgedGrowth (sys : TileSystem) (tiles : List Place) (judged : JudgedGrowth) : Type 0 where
   pub ordered : IsWholeOrder sys tiles judged.order

@@ -1,10 +1,18 @@
-use Rattle.tilebench.proofs.Growths.{producible_fits}
+use Rattle.tilebench.proofs.Growths.{order_closed, order_outside, producible_fits}
 use Rattle.tilebench.proofs.judged.judge_grid.Goals as goal
 
 pub order_of-requires-clause-fits : goal.order_of-requires-clause-fits
 order_of-requires-clause-fits g c κs within =
     producible_fits c.args.sys.now c.args.grid.now.area c.args.grid.now.tiles c.requires.area c.recall_sites.ensures.inside c.requires.producible
 
-pub open_outside-outside-requires-clause-fits : goal.open_outside-outside-requires-clause-fits
-open_outside-outside-requires-clause-fits g c =
+pub least_open_outside-outside-requires-clause-fits : goal.least_open_outside-outside-requires-clause-fits
+least_open_outside-outside-requires-clause-fits g c =
     producible_fits c.args.sys.now c.args.grid.now.area c.args.grid.now.tiles c.requires.area c.recall_sites.ensures.inside c.requires.producible
+
+pub verdict_on-requires-clause-closed : goal.verdict_on-requires-clause-closed
+verdict_on-requires-clause-closed g c κs within =
+    order_closed c.args.sys.now c.args.grid.now.tiles c.in_ok-order.value c.recall_sites.ensures.distinct c.order_of.ensures c.requires.closed
+
+pub verdict_on-requires-clause-outside : goal.verdict_on-requires-clause-outside
+verdict_on-requires-clause-outside g c κs within =
+    order_outside c.args.sys.now c.args.grid.now.tiles c.in_ok-order.value c.least_open_outside-outside.result c.recall_sites.ensures.distinct c.order_of.ensures c.least_open_outside-outside.ensures

@@ -4,10 +4,10 @@ use Rattle.atam.proofs.Count.{count_in_box}
 use Rattle.atam.proofs.Sequences.{IsLegal-distinct}
 use Rattle.assembly.specs.Cells.{cell_count}
 use Rattle.assembly.proofs.Cells.{cell_count-most}
-use Rattle.local_check.proofs.once.judge_legal.Goals as goal
+use Rattle.local_check.proofs.once.judge_grown.Goals as goal
 
-pub judge_by_index-requires-clause-short : goal.judge_by_index-requires-clause-short
-judge_by_index-requires-clause-short c =
+pub pass-requires-clause-short : goal.pass-requires-clause-short
+pass-requires-clause-short c =
     let sys = c.args.sys.now in
     let seq = c.args.seq.now in
     let valid = c.recall_valid.ensures.valid in
