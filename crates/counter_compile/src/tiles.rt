@@ -17,12 +17,23 @@ use table_text::print_table;
 use tile_io::{Failed, Sink};
 
 /// The tile set of a counter, seen as the system that `compile_counter` gives.
-#[derive(Drop)]
 pub struct CounterTiles {
     bits: u32,
     start: u64,
     label_list: Vec<Label>,
     kind_list: Vec<Kind>,
+}
+
+impl Drop for CounterTiles {
+    // One call wherever it is given back.
+    fn drop(self) {
+        let CounterTiles {
+            bits: _bits,
+            start: _start,
+            label_list: _label_list,
+            kind_list: _kind_list,
+        } = self;
+    }
 }
 
 impl Model for CounterTiles {

@@ -17,11 +17,21 @@ use tile_system::{Beside, NoMemory, Site, System, TypeId};
 use type_index::FacingCache;
 
 // An index of types, what was found by it before, and room for all types.
-#[derive(Drop)]
 pub(crate) struct Picker<'i> {
     types: Types<'i>,
     cache: FacingCache,
     list: TypeList,
+}
+
+impl<'i> Drop for Picker<'i> {
+    // One call wherever it is given back.
+    fn drop(self) {
+        let Picker {
+            types: _types,
+            cache: _cache,
+            list: _list,
+        } = self;
+    }
 }
 
 impl<'i> Picker<'i> {

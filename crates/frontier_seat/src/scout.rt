@@ -36,12 +36,23 @@ const MOST_CLAIMS: u32 = u32::MAX;
 
 /// A seat with the grid of what it has seen, an index of types, which may be lent to it, and room to
 /// work: with the grid, two bytes and an eighth a site.
-#[derive(Drop)]
 pub struct Scout<'i> {
     growing: Growing,
     picker: Picker<'i>,
     work: WorkList,
     listed: bool,
+}
+
+impl<'i> Drop for Scout<'i> {
+    // One call wherever it is given back.
+    fn drop(self) {
+        let Scout {
+            growing: _growing,
+            picker: _picker,
+            work: _work,
+            listed: _listed,
+        } = self;
+    }
 }
 
 impl<'i> Model for Scout<'i> {
@@ -374,7 +385,12 @@ impl<'i> Scout<'i> {
         ensures grid { result.1 ≡ self.entry.grid }
         ensures same { SamePlacements result.0.scout.seen result.1.tiles }
     {
-        let growing = self.growing;
+        let Scout {
+            growing,
+            picker: _picker,
+            work: _work,
+            listed: _listed,
+        } = self;
         (growing.seat, growing.grid)
     }
 }

@@ -1,5 +1,5 @@
 // The part of a work list that a worker looks at first.
-ghost use Rattle.std.specs.Prelude.{◌<◌, IfSome};
+ghost use Rattle.std.specs.Prelude.{◌<◌, ◌≤◌, IfSome};
 ghost use Rattle.atam.specs.Sites.{IsBox};
 ghost use Rattle.number_set.specs.Numbers.{IsIn};
 
@@ -134,7 +134,7 @@ impl Share {
     pub(crate) fn has_some(&self, numbers: &NumberSet, area: &BoxArea) -> bool
         requires { IsBox area.now }
     {
-        self.in_bands(numbers, area, 0).is_some()
+        self.least_from(numbers, area, 0).is_some()
     }
 
     // The next of the worker's own sites, if it is in the span in which it looked last.
@@ -157,29 +157,25 @@ impl Share {
                 return Some(number);
             }
         }
-        self.from_band(numbers, area, self.last.row / BAND_ROWS)
+        let bottom = self.last.row / BAND_ROWS * BAND_ROWS;
+        self.from_number(numbers, area, bottom as usize * area.width() as usize)
     }
 
-    // The least of the worker's own sites in the band of this row, from the number on, else in the
-    // next own band that has one.
+    // The least of the worker's own sites from the number on, else of all.
     pub(crate) fn from_number(
         &self,
         numbers: &NumberSet,
         area: &BoxArea,
         number: usize,
-        row: u32,
     ) -> Option<usize>
         requires { IsBox area.now }
         ensures below { IfSome result (λ n. n < numbers.now.bound) }
         ensures listed { IfSome result (IsIn numbers.now) }
     {
-        let band = row / BAND_ROWS;
-        if self.owns_band(band) {
-            if let Some(number) = in_band(numbers, area, band, number) {
-                return Some(number);
-            }
+        if let Some(own) = self.least_from(numbers, area, number) {
+            return Some(own);
         }
-        self.from_band(numbers, area, band.saturating_add(1))
+        self.least_from(numbers, area, 0)
     }
 
     // The worker looks at the site in this column and row, and goes on beside it.
@@ -189,45 +185,37 @@ impl Share {
         self.last = Span::at(area, column, row);
     }
 
-    // The least of the worker's own sites in the first band that has one, from this band on, else
-    // of all.
-    fn from_band(&self, numbers: &NumberSet, area: &BoxArea, band: u32) -> Option<usize>
+    // The least of the worker's own sites from the number on. Each listed site that is in another's
+    // band is passed with all up to the next own band.
+    fn least_from(&self, numbers: &NumberSet, area: &BoxArea, from: usize) -> Option<usize>
         requires { IsBox area.now }
         ensures below { IfSome result (λ n. n < numbers.now.bound) }
         ensures listed { IfSome result (IsIn numbers.now) }
     {
-        if let Some(number) = self.in_bands(numbers, area, band) {
-            return Some(number);
-        }
-        self.in_bands(numbers, area, 0)
-    }
-
-    // The same, but from this band on only.
-    fn in_bands(&self, numbers: &NumberSet, area: &BoxArea, from: u32) -> Option<usize>
-        requires { IsBox area.now }
-        ensures below { IfSome result (λ n. n < numbers.now.bound) }
-        ensures listed { IfSome result (IsIn numbers.now) }
-    {
-        for band in from..MOST_BANDS {
+        let band_sites = area.width() as usize * BAND_ROWS as usize;
+        let end = band_sites * MOST_BANDS as usize;
+        let mut at = from;
+        while at < end {
+            let number = numbers.least_between(at, end)?;
+            let band = (number / band_sites) as u32;
             if self.owns_band(band) {
-                if let Some(number) = in_band(numbers, area, band, 0) {
-                    return Some(number);
-                }
+                return Some(number);
             }
+            at = (at + 1).max((self.next_band(band) as usize).saturating_mul(band_sites));
         }
         None
     }
-}
 
-// The least listed site of a band from this number on.
-fn in_band(numbers: &NumberSet, area: &BoxArea, band: u32, from: usize) -> Option<usize>
-    requires { IsBox area.now }
-    ensures below { IfSome result (λ n. n < numbers.now.bound) }
-    ensures listed { IfSome result (IsIn numbers.now) }
-{
-    let sites = area.width() as usize * BAND_ROWS as usize;
-    let first = band as usize * sites;
-    numbers.least_between(from.max(first), first + sites)
+    // The worker's first band behind this one, or the one behind all where none is left.
+    fn next_band(&self, band: u32) -> u32
+        ensures { result ≤ MOST_BANDS }
+    {
+        let next = band.saturating_add(1);
+        if next >= MOST_BANDS {
+            return MOST_BANDS;
+        }
+        MOST_BANDS.min(next + (self.bands >> next).trailing_zeros())
+    }
 }
 
 // A bit for every of-th band.

@@ -14,9 +14,15 @@ enum Holding<'i> {
 }
 
 // An index of types, which is the scout's own or lent to it. Contracts see the index.
-#[derive(Drop)]
 pub(crate) struct Types<'i> {
     holding: Holding<'i>,
+}
+
+impl<'i> Drop for Types<'i> {
+    // One call wherever it is given back.
+    fn drop(self) {
+        let Types { holding: _holding } = self;
+    }
 }
 
 impl<'i> Model for Types<'i> {

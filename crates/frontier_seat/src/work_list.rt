@@ -24,12 +24,23 @@ pub(crate) struct Spot {
 // Sites of a box, each listed at most once, with room for all, and which of them are looked at
 // first: an eighth of a byte a site. The row of the site that was looked at last is kept, since the
 // next one is mostly in it.
-#[derive(Drop)]
 pub(crate) struct WorkList {
     area: BoxArea,
     numbers: NumberSet,
     share: Share,
     row: Row,
+}
+
+impl Drop for WorkList {
+    // One call wherever it is given back.
+    fn drop(self) {
+        let WorkList {
+            area: _area,
+            numbers: _numbers,
+            share: _share,
+            row: _row,
+        } = self;
+    }
 }
 
 impl Model for WorkList {
@@ -124,11 +135,7 @@ impl WorkList {
         ensures listed { IfSome result (λ spot. IsIn self.old.numbers spot.number) }
     {
         let area = self.area;
-        let first = self.spot_of(from as usize);
-        let (_column, row) = column_and_row(&area, first.site);
-        let number = self
-            .share
-            .from_number(&self.numbers, &area, from as usize, row)?;
+        let number = self.share.from_number(&self.numbers, &area, from as usize)?;
         Some(self.spot_of(number))
     }
 

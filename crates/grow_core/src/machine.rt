@@ -22,11 +22,21 @@ use tile_system::{NoMemory, Place, Site, System, TypeId};
 /// It takes two bytes a site for each of the grid and the placers, and room for a tile at each
 /// site; so does each scout for what it has seen and for its own tiles. A look and a claim take
 /// steady time; a split and a join look at each site of the box.
-#[derive(Drop)]
 pub struct Core {
     alloc: Global,
     tiles: PlacedTiles,
     scouts: Scouts,
+}
+
+impl Drop for Core {
+    // One call wherever it is given back.
+    fn drop(self) {
+        let Core {
+            alloc: _alloc,
+            tiles: _tiles,
+            scouts: _scouts,
+        } = self;
+    }
 }
 
 impl Model for Core {

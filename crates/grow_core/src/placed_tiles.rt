@@ -17,11 +17,21 @@ use tile_system::{BoxArea, NoMemory, Placed, Site, System, TypeId};
 const SEED: u32 = 65535;
 
 // Tiles with distinct sites in a box, each with its placer, in the order in which they were placed.
-#[derive(Drop)]
 pub(crate) struct PlacedTiles {
     grid: Grid,
     tiles: Vec<PlacedTile>,
     placers: Vec<u16>,
+}
+
+impl Drop for PlacedTiles {
+    // One call wherever it is given back.
+    fn drop(self) {
+        let PlacedTiles {
+            grid: _grid,
+            tiles: _tiles,
+            placers: _placers,
+        } = self;
+    }
 }
 
 impl Model for PlacedTiles {

@@ -22,10 +22,19 @@ use tile_system::{BoxArea, NoMemory, Place};
 const NAMES: usize = 64;
 
 // One entry for each name from 0 to 63: the scout of this name, if it lives.
-#[derive(Drop)]
 pub(crate) struct Scouts {
     area: BoxArea,
     entries: Vec<Option<Scout>>,
+}
+
+impl Drop for Scouts {
+    // One call wherever it is given back.
+    fn drop(self) {
+        let Scouts {
+            area: _area,
+            entries: _entries,
+        } = self;
+    }
 }
 
 impl Model for Scouts {

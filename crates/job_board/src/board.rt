@@ -14,12 +14,23 @@ use std::marker::Model;
 use tile_system::NoMemory;
 
 /// Jobs, the state of each, and the moves that led there.
-#[derive(Drop)]
 pub struct Board<'a> {
     jobs: &'a [Job],
     states: Vec<State>,
     journal: Vec<Move>,
     next: u32,
+}
+
+impl<'a> Drop for Board<'a> {
+    // One call wherever it is given back.
+    fn drop(self) {
+        let Board {
+            jobs: _jobs,
+            states: _states,
+            journal: _journal,
+            next: _next,
+        } = self;
+    }
 }
 
 impl<'a> Model for Board<'a> {

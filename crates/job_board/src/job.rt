@@ -4,10 +4,19 @@ ghost use Rattle.std.specs.Prelude.{◌≡◌, ◌↔◌, IsTrue};
 use tile_system::System;
 
 /// A system that is to be grown, and the choice of its line, on which no outcome depends.
-#[derive(Drop)]
 pub struct Job {
     pub sys: System,
     pub choice: u64,
+}
+
+impl Drop for Job {
+    // One call wherever it is given back.
+    fn drop(self) {
+        let Job {
+            sys: _sys,
+            choice: _choice,
+        } = self;
+    }
 }
 
 /// Whether two jobs are equal. It takes no memory.

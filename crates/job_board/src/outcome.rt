@@ -19,11 +19,21 @@ use type_index::TypeIndex;
 
 /// The canonical sequence of what grew, the least open site outside the box with the least type that
 /// attaches there, and the verdict on the sequence: eight bytes a place.
-#[derive(Drop)]
 pub struct Outcome {
     sequence: Sequence,
     outside: Option<(Site, TypeId)>,
     verdict: Verdict,
+}
+
+impl Drop for Outcome {
+    // One call wherever it is given back.
+    fn drop(self) {
+        let Outcome {
+            sequence: _sequence,
+            outside: _outside,
+            verdict: _verdict,
+        } = self;
+    }
 }
 
 impl Model for Outcome {

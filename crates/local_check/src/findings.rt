@@ -48,11 +48,21 @@ struct Known {
 
 // For each type what was found last at a place of it, so that it need not be looked up again.
 // Rivals are sought until one is found, since only the first one counts.
-#[derive(Drop)]
 pub(crate) struct Findings {
     last: Vec<Known>,
     cache: FacingCache,
     seeks: bool,
+}
+
+impl Drop for Findings {
+    // One call wherever it is given back.
+    fn drop(self) {
+        let Findings {
+            last: _last,
+            cache: _cache,
+            seeks: _seeks,
+        } = self;
+    }
 }
 
 impl Model for Findings {

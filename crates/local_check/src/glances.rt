@@ -50,10 +50,19 @@ struct Seen {
 }
 
 // For each type what was seen last of a tile of it, so that it need not be looked up again.
-#[derive(Drop)]
 pub(crate) struct Glances {
     last: Vec<Seen>,
     cache: FacingCache,
+}
+
+impl Drop for Glances {
+    // One call wherever it is given back.
+    fn drop(self) {
+        let Glances {
+            last: _last,
+            cache: _cache,
+        } = self;
+    }
 }
 
 impl Model for Glances {

@@ -18,6 +18,6 @@ mod verdict;
 
 pub use judgement::{judge, judge_closed};
 pub use laws::{law_clean, law_one_verdict, law_yes};
-pub use once::{Judged, judge_once};
+pub use once::{Judged, judge_legal, judge_once};
 pub use side_table::{SideSets, inputs, inputs_by_index, inputs_of_grid};
 pub use verdict::Verdict;

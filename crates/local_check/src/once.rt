@@ -41,6 +41,27 @@ pub fn judge_once(alloc: Global, sys: &System, seq: &Sequence) -> Result<Judged,
     Ok(Judged::Breach(Legality::WrongSeed))
 }
 
+/// The verdict on a legal sequence, as `judge` tells it, found as `judge_once` does, by an index of
+/// the types that is lent.
+pub fn judge_legal(
+    alloc: Global,
+    sys: &System,
+    seq: &Sequence,
+    types: &TypeIndex,
+) -> Result<Verdict, NoMemory>
+    requires legal { IsLegal sys.now seq.now }
+    requires fits { Fits sys.now seq.now }
+    requires index { IsIndexOf sys.now types.now }
+    ensures { IfOk result (IsVerdict sys.now seq.now) }
+{
+    sys.recall_valid();
+    let mut grid = grid_of_seeds(alloc, sys)?;
+    match judge_by_index(alloc, sys, seq, types, &mut grid)? {
+        Judged::Legal(verdict) => Ok(verdict),
+        Judged::Breach(_) => unreachable!(),
+    }
+}
+
 // The same of a sequence that begins with the seeds.
 fn judge_begun(alloc: Global, sys: &System, seq: &Sequence) -> Result<Judged, NoMemory>
     requires begun { take (length sys.now.seeds) seq.now ≡ sys.now.seeds }

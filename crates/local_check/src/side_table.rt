@@ -26,7 +26,6 @@ use type_index::TypeIndex;
 /// The input and output sides of each place of a sequence, the grid of its places, an index of the
 /// system's types, and where the sequence first breaks a condition on its places. The grid and the
 /// index are its own or lent.
-#[derive(Drop)]
 pub struct SideSets<'a> {
     grid: Cow<'a, Grid>,
     seed_count: usize,
@@ -34,6 +33,20 @@ pub struct SideSets<'a> {
     index: Cow<'a, TypeIndex>,
     inexact: Option<(Site, u32)>,
     rival: Option<(Site, TypeId)>,
+}
+
+impl<'a> Drop for SideSets<'a> {
+    // One call wherever it is given back.
+    fn drop(self) {
+        let SideSets {
+            grid: _grid,
+            seed_count: _seed_count,
+            sides: _sides,
+            index: _index,
+            inexact: _inexact,
+            rival: _rival,
+        } = self;
+    }
 }
 
 impl<'a> Model for SideSets<'a> {

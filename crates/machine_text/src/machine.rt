@@ -15,7 +15,6 @@ use tile_system::NoMemory;
 
 /// A Turing machine on a row of cells. States and symbols go by their numbers, from 0 in the order in which the text
 /// declares them: state 0 is the start state, and symbol 0 the blank.
-#[derive(Drop)]
 pub struct Machine {
     states: NameList,
     symbols: NameList,
@@ -24,6 +23,21 @@ pub struct Machine {
     rows: u32,
     head: u32,
     tape: Vec<u32>,
+}
+
+impl Drop for Machine {
+    // One call wherever it is given back.
+    fn drop(self) {
+        let Machine {
+            states: _states,
+            symbols: _symbols,
+            rules: _rules,
+            cells: _cells,
+            rows: _rows,
+            head: _head,
+            tape: _tape,
+        } = self;
+    }
 }
 
 impl Model for Machine {

@@ -10,10 +10,19 @@ use tile_system::NoMemory;
 const MARKS: usize = 256;
 
 /// Names, numbered from 0 in the order in which they came, beside a table of the first name of each mark.
-#[derive(Drop)]
 pub struct NameList {
     names: Vec<Vec<u8>>,
     firsts: [Option<u32>; MARKS],
+}
+
+impl Drop for NameList {
+    // One call wherever it is given back.
+    fn drop(self) {
+        let NameList {
+            names: _names,
+            firsts: _firsts,
+        } = self;
+    }
 }
 
 impl Model for NameList {

@@ -11,10 +11,19 @@ use std::marker::Model;
 use tile_system::NoMemory;
 
 /// The rules of a machine in their order, at most one for each state and symbol, beside a table of them.
-#[derive(Drop)]
 pub(crate) struct RuleList {
     transitions: Vec<Transition>,
     table: Vec<Option<Rule>>,
+}
+
+impl Drop for RuleList {
+    // One call wherever it is given back.
+    fn drop(self) {
+        let RuleList {
+            transitions: _transitions,
+            table: _table,
+        } = self;
+    }
 }
 
 impl Model for RuleList {

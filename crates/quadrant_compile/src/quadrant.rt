@@ -13,7 +13,6 @@ use tile_system::NoMemory;
 
 /// Rules from two symbols to two over columns and rows, which are counted from 1, with symbols at the borders. Symbols
 /// go by their numbers, from 0 in the order in which the text declares them.
-#[derive(Drop)]
 pub struct Quadrant {
     symbols: NameList,
     rules: RuleList,
@@ -22,6 +21,21 @@ pub struct Quadrant {
     height: u32,
     bottom: Vec<u32>,
     left: Vec<u32>,
+}
+
+impl Drop for Quadrant {
+    // One call wherever it is given back.
+    fn drop(self) {
+        let Quadrant {
+            symbols: _symbols,
+            rules: _rules,
+            ruled: _ruled,
+            width: _width,
+            height: _height,
+            bottom: _bottom,
+            left: _left,
+        } = self;
+    }
 }
 
 impl Model for Quadrant {

@@ -11,10 +11,19 @@ use std::marker::Model;
 use tile_system::NoMemory;
 
 /// Rules in their order, at most one for any two symbols, beside a table of their answers.
-#[derive(Drop)]
 pub(crate) struct RuleList {
     rules: Vec<Rule>,
     table: Vec<Option<Answer>>,
+}
+
+impl Drop for RuleList {
+    // One call wherever it is given back.
+    fn drop(self) {
+        let RuleList {
+            rules: _rules,
+            table: _table,
+        } = self;
+    }
 }
 
 impl Model for RuleList {

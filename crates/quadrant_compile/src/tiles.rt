@@ -15,11 +15,21 @@ use tile_io::{Failed, Sink};
 use tile_system::NoMemory;
 
 /// The tile set of a quadrant, seen as the system that `compile_quadrant` gives.
-#[derive(Drop)]
 pub struct QuadrantTiles {
     quadrant: Quadrant,
     label_list: Vec<Label>,
     kind_list: Vec<Kind>,
+}
+
+impl Drop for QuadrantTiles {
+    // One call wherever it is given back.
+    fn drop(self) {
+        let QuadrantTiles {
+            quadrant: _quadrant,
+            label_list: _label_list,
+            kind_list: _kind_list,
+        } = self;
+    }
 }
 
 impl Model for QuadrantTiles {

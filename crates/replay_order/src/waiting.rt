@@ -19,13 +19,25 @@ use tile_system::{BoxArea, NoMemory, Place, Side};
 // How much pull the tile at each site of a span lacks to be held, and which of these sites are ready.
 // A site is ready once, when its tile lacks nothing any more. Any other site counts as one that
 // lacks nothing from the beginning. Each call but `make` takes no memory.
-#[derive(Drop)]
 pub(crate) struct WaitingSites {
     area: BoxArea,
     first: usize,
     end: usize,
     lacks: Vec<u16>,
     ready: ReadyNumbers,
+}
+
+impl Drop for WaitingSites {
+    // One call wherever it is given back.
+    fn drop(self) {
+        let WaitingSites {
+            area: _area,
+            first: _first,
+            end: _end,
+            lacks: _lacks,
+            ready: _ready,
+        } = self;
+    }
 }
 
 impl Model for WaitingSites {

@@ -10,7 +10,6 @@ use std::alloc::Global;
 use std::marker::Model;
 
 /// A source over bytes in memory.
-#[derive(Drop)]
 pub struct MemorySource {
     bytes: Vec<u8>,
     at: usize,
@@ -18,6 +17,20 @@ pub struct MemorySource {
     fails: Vec<u32>,
     calls: u64,
     faults: u64,
+}
+
+impl Drop for MemorySource {
+    // One call wherever it is given back.
+    fn drop(self) {
+        let MemorySource {
+            bytes: _bytes,
+            at: _at,
+            most: _most,
+            fails: _fails,
+            calls: _calls,
+            faults: _faults,
+        } = self;
+    }
 }
 
 impl Model for MemorySource {
@@ -118,7 +131,6 @@ fn fails_at(fails: &[u32], call: u64) -> bool
 pub struct NoRoom;
 
 /// A sink into memory, whose room is taken when it is made.
-#[derive(Drop)]
 pub struct MemorySink {
     bytes: Vec<u8>,
     room: usize,
@@ -126,6 +138,20 @@ pub struct MemorySink {
     fails: Vec<u32>,
     calls: u64,
     faults: u64,
+}
+
+impl Drop for MemorySink {
+    // One call wherever it is given back.
+    fn drop(self) {
+        let MemorySink {
+            bytes: _bytes,
+            room: _room,
+            most: _most,
+            fails: _fails,
+            calls: _calls,
+            faults: _faults,
+        } = self;
+    }
 }
 
 impl Model for MemorySink {

@@ -14,12 +14,23 @@ use tile_system::{Site, System, TypeId};
 
 /// What a system grew into: its tiles in canonical order, what is open outside its box, and the
 /// verdict on this order.
-#[derive(Drop)]
 pub struct Growth {
     pub sys: System,
     pub order: Sequence,
     pub outside: Option<(Site, TypeId)>,
     pub verdict: Verdict,
+}
+
+impl Drop for Growth {
+    // One call wherever it is given back.
+    fn drop(self) {
+        let Growth {
+            sys: _sys,
+            order: _order,
+            outside: _outside,
+            verdict: _verdict,
+        } = self;
+    }
 }
 
 impl Reply for Growth {

@@ -5,6 +5,8 @@ ghost use Rattle.atam.specs.Canonical.{IsCanonical};
 ghost use Rattle.atam.specs.Growth.{IsClosedInBox, IsLeastOpenOutside, IsProducible};
 ghost use Rattle.atam.specs.Placements.{HasDistinctSites};
 ghost use Rattle.type_index.specs.Indexes.{IsIndexOf};
+ghost use Rattle.replay_order.specs.ReplayAnswers.{IsWholeOrder};
+ghost use Rattle.local_check.specs.Judgement.{IsVerdict};
 ghost use Rattle.grow_workers.specs.Workers.{IsGrownBy};
 ghost use Rattle.tilebench.specs.Growths.{is_unique};
 ghost use Rattle.tilebench.specs.Inner.Rooms.{IsJudgedGrowth, IsVerdictOn};
@@ -13,7 +15,7 @@ use crate::order::{grow_ordered, order_of};
 use crate::resources::{Crew, Resources};
 use assembly::{Grid, Sequence};
 use fan_out::WorkerCount;
-use local_check::{Verdict, inputs_by_index, judge};
+use local_check::{Verdict, inputs_by_index, judge, judge_legal};
 use site_table::Grown;
 use std::thread::Threads;
 use tile_io::Gate;
@@ -86,22 +88,36 @@ pub fn judge_grid<R: Threads + Sync, G: Gate>(
 {
     grid.recall_sites();
     let order = order_of(resources, sys, grid, known, workers)?;
-    let sides = inputs_by_index(
-        resources.rt,
-        resources.alloc,
-        sys,
-        &order,
-        grid,
-        types,
-        workers,
-    )?;
-    let verdict = judge(sys, &order, &sides);
+    let verdict = verdict_on(resources, sys, types, grid, &order, workers)?;
     let outside = open_outside(sys, types, grid, verdict);
     Ok(JudgedGrowth {
         order,
         verdict,
         outside,
     })
+}
+
+// The verdict on a growth in its order. One worker looks at each place as it comes, several look at
+// ranges of them.
+fn verdict_on<R: Threads + Sync, G: Gate>(
+    resources: &Resources<'_, R, G>,
+    sys: &System,
+    types: &TypeIndex,
+    grid: &Grid,
+    order: &Sequence,
+    workers: WorkerCount,
+) -> Result<Verdict, NoMemory>
+    requires index { IsIndexOf sys.now types.now }
+    requires area { grid.now.area ≡ sys.now.area }
+    requires order { IsWholeOrder sys.now grid.now.tiles order.now }
+    ensures { IfOk result (IsVerdict sys.now order.now) }
+{
+    let alloc = resources.alloc;
+    if workers.get() == 1 {
+        return judge_legal(alloc, sys, order, types);
+    }
+    let sides = inputs_by_index(resources.rt, alloc, sys, order, grid, types, workers)?;
+    Ok(judge(sys, order, &sides))
 }
 
 // The least open site outside the box of a full growth. A verdict for which the plane was looked

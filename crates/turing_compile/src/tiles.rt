@@ -15,11 +15,21 @@ use tile_io::{Failed, Sink};
 use tile_system::NoMemory;
 
 /// The tile set of a machine, seen as the system that `compile` gives.
-#[derive(Drop)]
 pub struct MachineTiles {
     machine: Machine,
     label_list: Vec<Label>,
     kind_list: Vec<Kind>,
+}
+
+impl Drop for MachineTiles {
+    // One call wherever it is given back.
+    fn drop(self) {
+        let MachineTiles {
+            machine: _machine,
+            label_list: _label_list,
+            kind_list: _kind_list,
+        } = self;
+    }
 }
 
 impl Model for MachineTiles {

@@ -14,11 +14,21 @@ use tile_system::{GlueId, NoMemory, Side, System, TypeId};
 // For each glue the first type with the glue on the side, and behind each type the next one with
 // its glue; past the last one the number of types. And the codes of the glues on the side: first
 // that of no tile, then that of each type.
-#[derive(Drop)]
 pub(crate) struct BearerLists {
     first: Vec<u16>,
     next: Vec<u16>,
     codes: Vec<u16>,
+}
+
+impl Drop for BearerLists {
+    // One call wherever it is given back.
+    fn drop(self) {
+        let BearerLists {
+            first: _first,
+            next: _next,
+            codes: _codes,
+        } = self;
+    }
 }
 
 impl Model for BearerLists {

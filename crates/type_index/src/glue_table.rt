@@ -23,11 +23,21 @@ pub(crate) enum GlueKind {
 }
 
 // The strength of each glue, the greatest with which any glue interacts with it, and its kind.
-#[derive(Drop)]
 pub(crate) struct GlueTable {
     strengths: Vec<u8>,
     mosts: Vec<u8>,
     kinds: Vec<GlueKind>,
+}
+
+impl Drop for GlueTable {
+    // One call wherever it is given back.
+    fn drop(self) {
+        let GlueTable {
+            strengths: _strengths,
+            mosts: _mosts,
+            kinds: _kinds,
+        } = self;
+    }
 }
 
 impl Model for GlueTable {

@@ -28,10 +28,19 @@ pub(crate) struct Meeting {
 
 // For each glue that is listed the place of the first type that interacts with it on one side. The
 // last place of each list has the number of types.
-#[derive(Drop)]
 pub(crate) struct MeetingLists {
     first: Vec<u32>,
     meetings: Vec<Meeting>,
+}
+
+impl Drop for MeetingLists {
+    // One call wherever it is given back.
+    fn drop(self) {
+        let MeetingLists {
+            first: _first,
+            meetings: _meetings,
+        } = self;
+    }
 }
 
 impl Model for MeetingLists {

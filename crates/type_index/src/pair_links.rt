@@ -10,11 +10,21 @@ use tile_system::{GlueId, GluePair, NoMemory, System};
 
 // For each glue the first pair that has it, and behind each pair the next one that has its first
 // glue and the next one that has its second; past the last one the number of pairs.
-#[derive(Drop)]
 pub(crate) struct PairLinks {
     first: Vec<u32>,
     behind_first: Vec<u32>,
     behind_second: Vec<u32>,
+}
+
+impl Drop for PairLinks {
+    // One call wherever it is given back.
+    fn drop(self) {
+        let PairLinks {
+            first: _first,
+            behind_first: _behind_first,
+            behind_second: _behind_second,
+        } = self;
+    }
 }
 
 impl Model for PairLinks {

@@ -9,10 +9,19 @@ use tile_system::{NoMemory, Place, System};
 
 /// Places in one order, and for each frame how many of the first ones it has. All calls but `make`
 /// take no memory.
-#[derive(Drop)]
 pub struct Frames {
     places: Vec<Place>,
     counts: Vec<u32>,
+}
+
+impl Drop for Frames {
+    // One call wherever it is given back.
+    fn drop(self) {
+        let Frames {
+            places: _places,
+            counts: _counts,
+        } = self;
+    }
 }
 
 impl Model for Frames {

@@ -21,10 +21,19 @@ use tile_system::{NoMemory, Place, Side, Site, System};
 
 // The listed places as a grid, and the numbers of the sites where a tile that was seen attaches to
 // them: two bytes and an eighth a site. All calls but `make` take no memory.
-#[derive(Drop)]
 pub(crate) struct Listing {
     listed: Grid,
     ready: NumberSet,
+}
+
+impl Drop for Listing {
+    // One call wherever it is given back.
+    fn drop(self) {
+        let Listing {
+            listed: _listed,
+            ready: _ready,
+        } = self;
+    }
 }
 
 impl Model for Listing {

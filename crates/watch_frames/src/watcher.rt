@@ -16,13 +16,25 @@ use tile_io::Gate;
 use tile_system::{NoMemory, System};
 
 /// A seat that looks at the sites of the box while others claim them, and the frames that it took.
-#[derive(Drop)]
 pub struct Watcher {
     seat: SiteSeat,
     seen: Grid,
     frames: Frames,
     listing: Listing,
     many: u32,
+}
+
+impl Drop for Watcher {
+    // One call wherever it is given back.
+    fn drop(self) {
+        let Watcher {
+            seat: _seat,
+            seen: _seen,
+            frames: _frames,
+            listing: _listing,
+            many: _many,
+        } = self;
+    }
 }
 
 impl Model for Watcher {
@@ -140,6 +152,13 @@ impl Watcher {
         ensures are { AreFrames self.seat.sys result.2.places result.2.counts }
         ensures part { IsPartOf result.2.places result.0.scout.seen }
     {
-        (self.seat, self.seen, self.frames)
+        let Watcher {
+            seat,
+            seen,
+            frames,
+            listing: _listing,
+            many: _many,
+        } = self;
+        (seat, seen, frames)
     }
 }

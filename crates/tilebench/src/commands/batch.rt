@@ -61,10 +61,19 @@ impl Batch {
 }
 
 /// Jobs, and what answers each.
-#[derive(Drop)]
 pub struct Batched {
     pub jobs: Vec<Job>,
     pub outcomes: Vec<Outcome>,
+}
+
+impl Drop for Batched {
+    // One call wherever it is given back.
+    fn drop(self) {
+        let Batched {
+            jobs: _jobs,
+            outcomes: _outcomes,
+        } = self;
+    }
 }
 
 impl Reply for Batched {

@@ -53,10 +53,19 @@ impl PlainRoom for Certify {
 }
 
 /// The certificate of an assembly of a system, or what keeps it from having one.
-#[derive(Drop)]
 pub struct Certified {
     pub sys: System,
     pub certification: Certification,
+}
+
+impl Drop for Certified {
+    // One call wherever it is given back.
+    fn drop(self) {
+        let Certified {
+            sys: _sys,
+            certification: _certification,
+        } = self;
+    }
 }
 
 /// The certificate of an assembly, or what keeps it from having one.

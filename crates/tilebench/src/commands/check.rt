@@ -53,10 +53,19 @@ impl PlainRoom for Check {
 }
 
 /// The judgement on a sequence of a system.
-#[derive(Drop)]
 pub struct Checked {
     pub sys: System,
     pub judgement: Judged,
+}
+
+impl Drop for Checked {
+    // One call wherever it is given back.
+    fn drop(self) {
+        let Checked {
+            sys: _sys,
+            judgement: _judgement,
+        } = self;
+    }
 }
 
 impl Reply for Checked {

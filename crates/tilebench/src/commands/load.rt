@@ -81,12 +81,23 @@ pub struct Counter {
 }
 
 /// The counter of a number, and what it grew into.
-#[derive(Drop)]
 pub struct Loaded {
     pub number: u64,
     pub counter: Counter,
     pub tiles: u32,
     pub growth: Growth,
+}
+
+impl Drop for Loaded {
+    // One call wherever it is given back.
+    fn drop(self) {
+        let Loaded {
+            number: _number,
+            counter: _counter,
+            tiles: _tiles,
+            growth: _growth,
+        } = self;
+    }
 }
 
 impl Reply for Loaded {

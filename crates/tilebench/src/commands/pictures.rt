@@ -45,10 +45,19 @@ impl PlainRoom for Picture {
 }
 
 /// An assembly of a system, to be pictured.
-#[derive(Drop)]
 pub struct Pictured {
     pub sys: System,
     pub grid: Grid,
+}
+
+impl Drop for Pictured {
+    // One call wherever it is given back.
+    fn drop(self) {
+        let Pictured {
+            sys: _sys,
+            grid: _grid,
+        } = self;
+    }
 }
 
 impl Reply for Pictured {

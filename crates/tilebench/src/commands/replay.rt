@@ -43,10 +43,19 @@ impl PlainRoom for Replay {
 }
 
 /// The canonical order of an assembly of a system, or what keeps it from having one.
-#[derive(Drop)]
 pub struct Replayed {
     pub sys: System,
     pub reordering: Reordering,
+}
+
+impl Drop for Replayed {
+    // One call wherever it is given back.
+    fn drop(self) {
+        let Replayed {
+            sys: _sys,
+            reordering: _reordering,
+        } = self;
+    }
 }
 
 impl Reply for Replayed {

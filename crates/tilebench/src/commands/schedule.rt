@@ -53,11 +53,21 @@ impl PlainRoom for Schedule {
 }
 
 /// What the events of a schedule were answered, and the tiles that came of them in canonical order.
-#[derive(Drop)]
 pub struct Scheduled {
     pub sys: System,
     pub replies: Vec<Result<Seen, CoreStop>>,
     pub order: Sequence,
+}
+
+impl Drop for Scheduled {
+    // One call wherever it is given back.
+    fn drop(self) {
+        let Scheduled {
+            sys: _sys,
+            replies: _replies,
+            order: _order,
+        } = self;
+    }
 }
 
 impl Reply for Scheduled {

@@ -86,10 +86,19 @@ fn verdict_by<R: Threads + Sync, G: Gate>(
 }
 
 /// The verdict on a certificate for a system.
-#[derive(Drop)]
 pub struct Verified {
     pub sys: System,
     pub verdict: CertVerdict,
+}
+
+impl Drop for Verified {
+    // One call wherever it is given back.
+    fn drop(self) {
+        let Verified {
+            sys: _sys,
+            verdict: _verdict,
+        } = self;
+    }
 }
 
 impl Reply for Verified {

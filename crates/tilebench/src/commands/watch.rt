@@ -102,10 +102,19 @@ fn judge_watched<R: Threads + Sync, G: Gate>(
 }
 
 /// Frames of a growth, and what the system grew into.
-#[derive(Drop)]
 pub struct Watched {
     pub frames: Frames,
     pub growth: Growth,
+}
+
+impl Drop for Watched {
+    // One call wherever it is given back.
+    fn drop(self) {
+        let Watched {
+            frames: _frames,
+            growth: _growth,
+        } = self;
+    }
 }
 
 impl Reply for Watched {
