@@ -1,46 +1,61 @@
-// A `mark` line in its plain form, which is read without being cut into words.
+// A `mark` line in its plain form, which is read from the front of a text without being cut into words.
 ghost use Rattle.std.specs.Prelude.{◌≡◌, ◌++◌, ◌∷◌, IfSome};
-ghost use Rattle.cert_text.specs.Inner.Plain.{IsPlainMark};
+ghost use Rattle.cert_text.specs.Inner.Plain.{BeginsPlain, IsPlainMark};
 
-use seq_text::plain_coordinate;
+use atam::LONGEST_NAME;
+use seq_text::{plain_coordinate, plain_end};
 use tile_system::Site;
 
-/// The site of a line in its plain form, and the words behind it.
+/// The site of a line in its plain form, the words behind it, and how many bytes the line has with its newline.
 #[derive(Drop)]
 pub(crate) struct PlainMark<'a> {
     pub(crate) site: Site,
     pub(crate) name: &'a [u8],
     pub(crate) sides: &'a [u8],
     pub(crate) rank: &'a [u8],
+    pub(crate) length: usize,
 }
 
-/// The site and the words of a line, which are those of an entry, if the line is a `mark` line.
+/// What a text has at its front, if it begins with a `mark` line and the words are those of an entry.
 #[inline(always)]
-pub(crate) fn plain_mark(line: &[u8]) -> Option<PlainMark<'_>>
-    ensures { IfSome result (λ mark.
-        IsPlainMark line.now mark.site mark.name.now mark.sides.now mark.rank.now) }
+pub(crate) fn plain_mark(text: &[u8]) -> Option<PlainMark<'_>>
+    ensures { IfSome result (λ mark. BeginsPlain text.now mark.site mark.name.now mark.sides.now
+        mark.rank.now mark.length) }
 {
-    let [b'm', b'a', b'r', b'k', b' ', fields @ ..] = line else {
+    let (site, name, sides, fields) = plain_fields(text)?;
+    let (rank, behind) = plain_end(fields)?;
+    let length = text.len() - behind.len();
+    Some(PlainMark {
+        site,
+        name,
+        sides,
+        rank,
+        length,
+    })
+}
+
+// The site at the front, the name and the sides, and what stands behind them.
+#[inline(always)]
+fn plain_fields(text: &[u8]) -> Option<(Site, &[u8], &[u8], &[u8])>
+    ensures { IfSome result (λ found.
+        IsPlainMark text.now found.0 found.1.now found.2.now found.3.now) }
+{
+    let [b'm', b'a', b'r', b'k', b' ', fields @ ..] = text else {
         return None;
     };
     let (x, fields) = plain_coordinate(fields)?;
     let (y, fields) = plain_coordinate(fields)?;
     let (name, fields) = plain_word(fields)?;
-    let (sides, rank) = plain_word(fields)?;
-    Some(PlainMark {
-        site: Site { x, y },
-        name,
-        sides,
-        rank,
-    })
+    let (sides, fields) = plain_word(fields)?;
+    Some((Site { x, y }, name, sides, fields))
 }
 
-// The bytes in front of the first space, and those behind it.
+// The bytes in front of the first space, no more than a name has, and those behind it.
 #[inline(always)]
 fn plain_word(bytes: &[u8]) -> Option<(&[u8], &[u8])>
     ensures { IfSome result (λ found. bytes.now ≡ found.0.now ++ 32 ∷ found.1.now) }
 {
-    for index in 0..bytes.len() {
+    for index in 0..bytes.len().min(LONGEST_NAME + 1) {
         let byte = bytes[index];
         if byte == b' ' {
             return Some((&bytes[..index], &bytes[index + 1..]));

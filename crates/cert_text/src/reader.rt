@@ -5,12 +5,11 @@ ghost use Rattle.atam.specs.Sites.{InBox};
 ghost use Rattle.atam.specs.Assembly.{Fits};
 ghost use Rattle.atam.specs.Placements.{tile_at};
 ghost use Rattle.atam.specs.TileSystem.{IsType};
-ghost use Rattle.tile_io.specs.Lines.{words_of};
 ghost use Rattle.tile_io.specs.NextLine.{IsMark};
 ghost use Rattle.tile_io.specs.Formats.{ReadsOrStops};
 ghost use Rattle.cert_check.specs.Certificates.{places_of};
 ghost use Rattle.cert_text.specs.CertificateText.{ReadsCertificate, certificate_format, entry_fields, mark_fields, rank_field};
-ghost use Rattle.cert_text.specs.Inner.Plain.{IsMarkLine};
+ghost use Rattle.cert_text.specs.Inner.Plain.{BeginsWithMark};
 ghost use Rattle.cert_text.specs.Inner.SoFar.{AreKept};
 
 use crate::keyword::LineKind;
@@ -20,7 +19,8 @@ use assembly::Grid;
 use cert_check::{Certificate, Entry};
 use std::alloc::Global;
 use tile_io::{
-    Cause, LineReader, LineStop, LineWords, MOST_INPUT, Mark, TextStop, read_count, read_text,
+    Cause, Front, LineReader, LineStop, LineWords, MOST_INPUT, Mark, TextStop, read_count,
+    read_text,
 };
 use tile_system::{NoMemory, Place, Placed, Site, System};
 use tile_text::read_place;
@@ -111,11 +111,18 @@ impl<'a> LineReader for CertificateReader<'a> {
     }
 
     // A `mark` line in its plain form that passes its checks. Each other line is left.
-    fn take_plain(&mut self, line: &[u8]) -> Option<Result<bool, LineStop>> {
-        let entry = self.read_plain(line)?;
+    #[inline(always)]
+    fn take_front(&mut self, rest: &[u8]) -> Option<Front> {
+        let (entry, length) = self.read_front(rest)?;
         match self.hold(entry) {
-            Ok(()) => Some(Ok(false)),
-            Err(NoMemory) => Some(Err(LineStop::NoMemory)),
+            Ok(()) => Some(Front {
+                length,
+                done: Ok(false),
+            }),
+            Err(NoMemory) => Some(Front {
+                length,
+                done: Err(LineStop::NoMemory),
+            }),
         }
     }
 
@@ -164,18 +171,20 @@ impl<'a> CertificateReader<'a> {
         Ok(entry)
     }
 
-    // The entry of a `mark` line in its plain form, where the line passes its checks.
+    // The entry of the `mark` line at the front, where it is in its plain form and passes its checks, and how many bytes the
+    // line has with its newline.
     #[inline(always)]
-    fn read_plain(&self, line: &[u8]) -> Option<Entry>
+    fn read_front(&self, text: &[u8]) -> Option<(Entry, usize)>
         requires { AreKept self.now.system.now self.now.entries.items self.now.grid }
-        ensures entry { IfSome result (IsMarkLine
-            self.now.system.now self.now.entries.items (words_of line.now)) }
-        ensures inside { IfSome result (λ e. InBox self.now.system.now.area e.place.site) }
-        ensures known { IfSome result (λ e. IsType self.now.system.now e.place.tile) }
-        ensures sides { IfSome result (λ e. e.sides < 16) }
-        ensures free { IfSome result (λ e. tile_at self.now.grid.tiles e.place.site ≡ None) }
+        ensures entry { IfSome result (λ found. BeginsWithMark
+            self.now.system.now self.now.entries.items text.now found.0 found.1) }
+        ensures inside { IfSome result (λ found. InBox self.now.system.now.area found.0.place.site) }
+        ensures known { IfSome result (λ found. IsType self.now.system.now found.0.place.tile) }
+        ensures sides { IfSome result (λ found. found.0.sides < 16) }
+        ensures free { IfSome result (λ found.
+            tile_at self.now.grid.tiles found.0.place.site ≡ None) }
     {
-        let mark = plain_mark(line)?;
+        let mark = plain_mark(text)?;
         let tile = self.system.find_type(mark.name)?;
         let Ok(sides) = read_sides(mark.sides) else {
             return None;
@@ -193,7 +202,7 @@ impl<'a> CertificateReader<'a> {
             site: mark.site,
             tile,
         };
-        Some(Entry { place, sides, rank })
+        Some((Entry { place, sides, rank }, mark.length))
     }
 
     // Whether no entry has the site.

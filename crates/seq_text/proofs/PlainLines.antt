@@ -1,5 +1,5 @@
 -- A `place` line in its plain form reads as its place.
-use Rattle.std.proofs.Common.{◌≡◌, ℕ, zero, suc, ◌+◌, ◌-◌, ◌*◌, ◌^◌, ◌≤◌, ◌<◌, ◌==◌, Bool, true, false, cond, List, [], ◌∷◌, ◌++◌, length, take, drop, get_or, codes, pos, Option, Some, None, Ok, inl, inr, refl, sym, ap, subst, ◌∙◌, length-append, arith, length-take-le, length-drop}
+use Rattle.std.proofs.Common.{◌≡◌, ℕ, zero, suc, ◌+◌, ◌-◌, ◌*◌, ◌^◌, ◌≤◌, ◌<◌, ◌==◌, Bool, true, false, cond, List, [], ◌∷◌, ◌++◌, length, take, drop, get_or, codes, pos, Option, Some, None, Ok, inl, inr, refl, sym, ap, subst, ◌∙◌, append_assoc, length-append, arith, length-take-le, length-drop}
 use Rattle.std.specs.Prelude.{ℤ, neg_ℤ, int_le, nat_le, find, bytes_eq, option_map}
 use Rattle.std.proofs.Math.ListN.{get_or-append}
 use Rattle.std.proofs.Math.Nat.{pow-le-pow_right}
@@ -9,13 +9,13 @@ use Rattle.std.proofs.lemmas.List.{take-append-drop, drop_more, take_all, get_or
 use Rattle.std.proofs.lemmas.List.Elements.{All-cons, All-from_recursion}
 use Rattle.std.proofs.lemmas.List.Sums.{fold_more}
 use Rattle.tile_io.specs.declared.fault.Cause.TheVariants.{BadNumber}
-use Rattle.tile_io.specs.Lines.{words_of}
+use Rattle.tile_io.specs.Lines.{words_of, BeginsWithLine}
 use Rattle.tile_io.specs.Checks.{◌>>=◌, require, is_digit, are_digits, digits_value, without_minus, starts_with_minus, number_in, number_value, in_range, coordinate, check_line, field, last_of}
 use Rattle.tile_io.specs.declared.limits.TheConstants.{LEAST_COORDINATE, GREATEST_COORDINATE}
 use Rattle.tile_io.proofs.Checking.{bind_ok, require_ok}
 use Rattle.tile_io.proofs.Cuts.{is_space, is_newline}
 use Rattle.tile_io.proofs.Digits.{digits_parts, digits_each, digit_at, number_of_digits}
-use Rattle.tile_io.proofs.Spelled.{IsWord, words_of-join}
+use Rattle.tile_io.proofs.Spelled.{IsWord, IsSpelled, words_of-join, begins_spelled}
 use Rattle.tile_io.proofs.WordsSpelled.{word_from}
 use Rattle.atam.specs.declared.site.Site.{Site}
 use Rattle.atam.specs.TileSystem.{is_name}
@@ -35,9 +35,9 @@ use Rattle.seq_text.specs.Inner.Kinds.{kind_of, may_stand_after}
 use Rattle.seq_text.specs.Inner.SoFar.{HoldsLines}
 use Rattle.seq_text.proofs.Fields.{place_of_found}
 use Rattle.seq_text.proofs.Growths.{row_named}
-use Rattle.tile_text.proofs.PlainWords.{keyword_word, name_word}
+use Rattle.tile_text.proofs.PlainWords.{keyword_word, name_word, name_short}
 use Rattle.seq_text.specs.PlainCoordinates.{StartsWithCoordinate}
-use Rattle.seq_text.specs.Inner.Plain.{StartsWithDigits, HasNoDigits, IsPlainPlace, IsPlaceLine}
+use Rattle.seq_text.specs.Inner.Plain.{StartsWithDigits, HasNoDigits, IsPlainPlace, IsPlaceLine, BeginsPlain, BeginsWithPlace}
 
 -- what a digit is
 pub digit_bounds : (b : ℕ) → is_digit b ≡ true → (48 ≤ b) × (b ≤ 57)
@@ -56,13 +56,13 @@ value_none bytes = refl
 pub small_digits : (size i : ℕ) → size < 10 ^ i → i ≤ 6 → size < 10 ^ 6
 small_digits size i small few = let most : 10 ^ i ≤ 10 ^ 6 = pow-le-pow_right (omega arith) few in omega (arith, small, most)
 
--- what stands in front of a space, and behind it
-pub space_at : (bytes : List ℕ) (i : ℕ) → i < length bytes → get_or bytes i 0 ≡ 32 → bytes ≡ take i bytes ++ 32 ∷ take (length bytes - (i + 1)) (drop (i + 1) bytes)
-space_at bytes i within space =
+-- what stands in front of a byte, and behind it
+pub byte_at : (bytes : List ℕ) (byte i : ℕ) → i < length bytes → get_or bytes i 0 ≡ byte → bytes ≡ take i bytes ++ byte ∷ take (length bytes - (i + 1)) (drop (i + 1) bytes)
+byte_at bytes byte i within is =
     let rest = drop (i + 1) bytes in
-    let back : drop i bytes ≡ 32 ∷ rest = drop_more bytes i 0 within ∙ ap (λ b. b ∷ rest) space in
+    let back : drop i bytes ≡ byte ∷ rest = drop_more bytes i 0 within ∙ ap (λ b. b ∷ rest) is in
     let whole : take (length bytes - (i + 1)) rest ≡ rest = take_all (length bytes - (i + 1)) rest (omega (arith, length-drop (i + 1) bytes)) in
-    sym (take-append-drop i bytes) ∙ ap (λ l. take i bytes ++ l) (back ∙ ap (λ l. 32 ∷ l) (sym whole))
+    sym (take-append-drop i bytes) ∙ ap (λ l. take i bytes ++ l) (back ∙ ap (λ l. byte ∷ l) (sym whole))
 
 -- the digits in front of a space
 pub digits_before : (bytes : List ℕ) (i size : ℕ) → 0 < i → i ≤ 6 → i < length bytes → get_or bytes i 0 ≡ 32 → ((k : ℕ) → k < i → is_digit (get_or bytes k 0) ≡ true) →
@@ -72,7 +72,7 @@ digits_before bytes i size some few within space digits value small =
     let size_is : length word ≡ i = length-take-le i bytes (omega (arith, within)) in
     record {
       word = word;
-      cut = space_at bytes i within space;
+      cut = byte_at bytes 32 i within space;
       digits = digits_each word (omega (arith, size_is, some)) (omega (arith, size_is, few)) (λ k less. let before : k < i = omega (arith, less, size_is) in ap is_digit (get_or-take i bytes k 0 before) ∙ digits k before);
       few = omega (arith, size_is, few);
       value = value;
@@ -206,13 +206,42 @@ pub number_word : (least most : ℤ) (word : List ℕ) (z : ℤ) → number_in l
 number_word least most [] z e = let none = number_digits least most [] z e in absurd (cc none)
 number_word least most (b ∷ bs) z e = number_word_by b bs (b == 45) refl (number_digits least most (b ∷ bs) z e)
 
+number_short_by : (b : ℕ) (bs : List ℕ) (minus : Bool) → (b == 45) ≡ minus → are_digits (cond minus bs (b ∷ bs)) ≡ true → length (b ∷ bs) ≤ 11
+number_short_by b bs true e digits = let few : length bs ≤ 10 = (digits_parts bs digits).1 in omega (arith, few)
+number_short_by b bs false e digits = let few : length (b ∷ bs) ≤ 10 = (digits_parts (b ∷ bs) digits).1 in omega (arith, few)
+
+-- and the word is short
+pub number_short : (least most : ℤ) (word : List ℕ) (z : ℤ) → number_in least most word ≡ Ok z → length word ≤ 11
+number_short least most [] z e = omega arith
+number_short least most (b ∷ bs) z e = number_short_by b bs (b == 45) refl (number_digits least most (b ∷ bs) z e)
+
 module _ (line : List ℕ) (m : Site) (name : List ℕ) (plain : IsPlainPlace line m name) where
   -- its words
+  place_words : List (List ℕ)
+  place_words = codes "place" ∷ plain.column ∷ plain.row ∷ name ∷ []
+
+  plain_spelled : is_name name ≡ true → IsSpelled place_words
+  unfolding place_words
+  plain_spelled named =
+      let x : length plain.column ≤ 11 = number_short _ _ plain.column m.x plain.x in
+      let y : length plain.row ≤ 11 = number_short _ _ plain.row m.y plain.y in
+      let few : length name ≤ 40 = name_short name named in
+      record {
+        parts = All-from_recursion IsWord place_words (keyword_word (codes "place") (omega arith) refl, (number_word _ _ plain.column m.x plain.x, (number_word _ _ plain.row m.y plain.y, (name_word name named, tt))));
+        short = simp length-append (omega (arith, x, y, few));
+        kept = refl;
+      }
+
   pub plain_words : is_name name ≡ true → words_of line ≡ codes "place" ∷ plain.column ∷ plain.row ∷ name ∷ []
-  plain_words named =
-      let words = codes "place" ∷ plain.column ∷ plain.row ∷ name ∷ [] in
-      let each = All-from_recursion IsWord words (keyword_word (codes "place") (omega arith) refl, (number_word _ _ plain.column m.x plain.x, (number_word _ _ plain.row m.y plain.y, (name_word name named, tt)))) in
-      ap words_of plain.spelled ∙ words_of-join words each
+  unfolding place_words
+  plain_words named = ap words_of plain.spelled ∙ words_of-join place_words (plain_spelled named).parts
+
+  -- what stands in front of the newline behind it
+  pub plain_begins : (text behind : List ℕ) → is_name name ≡ true → text ≡ line ++ 10 ∷ behind → BeginsWithLine text line
+  unfolding place_words
+  plain_begins text behind named whole =
+      let Begins : List ℕ → Type 0 = λ l. BeginsWithLine text l in
+      subst Begins (sym plain.spelled) (begins_spelled text behind place_words (whole ∙ ap (λ l. l ++ 10 ∷ behind) plain.spelled) (plain_spelled named))
 
   -- and its site
   pub plain_site : site_field plain.column plain.row ≡ Ok m
@@ -229,6 +258,40 @@ plain_line distinct sys earlier line m name t plain named found inside free =
     let read : place_field (names_of sys) plain.column plain.row name ≡ Ok p =
     place_of_found sys plain.column plain.row name t named found ∙ ap (λ s. s >>= (λ n. Ok (record { site = n; tile = t }))) (plain_site line m name plain) in
     subst Reads (sym (plain_words line m name plain named)) (record { count = refl; keyword = refl; reads = rw (read, inside, free) refl })
+
+-- and those of one at the front of a text
+pub plain_front : (distinct : Bool) (sys : TileSystem) (earlier : List Place) (text : List ℕ) (m : Site) (name : List ℕ) (count : ℕ) (t : TypeId) → BeginsPlain text m name count → is_name name ≡ true →
+    type_named sys.types name ≡ Some t.0 → is_in_box sys.area m ≡ true → may_stand distinct earlier m ≡ true → BeginsWithPlace distinct sys earlier text (record { site = m; tile = t }) count
+plain_front distinct sys earlier text m name count t h named found inside free =
+    record { line = h.line; begins = plain_begins h.line m name h.plain text h.behind named h.whole; count_is = h.count_is; place = plain_line distinct sys earlier h.line m name t h.plain named found inside free }
+
+-- a name and a newline behind the coordinates
+module _ (text : List ℕ) (m : Site) (fields name behind : List ℕ) (plain : IsPlainPlace text m fields) (cut : fields ≡ name ++ 10 ∷ behind) where
+  front_line : List ℕ
+  front_line = codes "place" ++ 32 ∷ (plain.column ++ 32 ∷ (plain.row ++ 32 ∷ name))
+
+  front_whole : text ≡ front_line ++ 10 ∷ behind
+  unfolding front_line
+  front_whole = plain.spelled ∙ ap (λ l. codes "place" ++ 32 ∷ (plain.column ++ 32 ∷ (plain.row ++ 32 ∷ l))) cut ∙ simp append_assoc refl
+
+  -- end the line
+  front_size : length text ≡ length front_line + 1 + length behind
+  front_size = let whole : length text ≡ length front_line + length (10 ∷ behind) = ap length front_whole ∙ length-append front_line (10 ∷ behind) in omega (arith, whole)
+
+  pub front_begins : BeginsPlain text m name (length text - length behind)
+  unfolding front_line
+  front_begins =
+      let size : length text ≡ length front_line + 1 + length behind = front_size in
+      record {
+        line = front_line;
+        behind = behind;
+        plain = record { column = plain.column; row = plain.row; spelled = refl; x = plain.x; y = plain.y };
+        whole = front_whole;
+        count_is = omega (arith, size);
+      }
+
+  pub front_within : length behind ≤ length text
+  front_within = let size : length text ≡ length front_line + 1 + length behind = front_size in omega (arith, size)
 
 place_follows : (last : Option GrowthItem) → may_stand_after kinds.Place (option_map kind_of last) ≡ true → follows_place last ≡ true
 place_follows None e = refl

@@ -23,7 +23,7 @@ pub use laws::{
 };
 pub use legality::print_legality;
 pub use places::{PlacePieces, print_places, put_places};
-pub use plain::plain_coordinate;
+pub use plain::{plain_coordinate, plain_end};
 pub use reader::{read_grid, read_grid_once, read_sequence, read_sequence_once};
 pub use schedule::read_events;
 pub use seen::{print_replies, print_seen, put_seen};

@@ -1,25 +1,61 @@
-// A `place` line in its plain form, which is read without being cut into words.
-ghost use Rattle.std.specs.Prelude.{◌≡◌, ◌∷◌, ℕ, ℤ, List, false, IfNone, IfSome};
+// A `place` line in its plain form, which is read from the front of a text without being cut into words.
+ghost use Rattle.std.specs.Prelude.{◌≡◌, ◌∷◌, ◌++◌, ℕ, ℤ, List, false, IfNone, IfSome};
 ghost use Rattle.tile_io.specs.Checks.{is_digit, starts_with_minus};
 ghost use Rattle.seq_text.specs.PlainCoordinates.{StartsWithCoordinate};
-ghost use Rattle.seq_text.specs.Inner.Plain.{HasNoDigits, IsPlainPlace, StartsWithDigits};
+ghost use Rattle.seq_text.specs.Inner.Plain.{BeginsPlain, HasNoDigits, IsPlainPlace, StartsWithDigits};
 
+use atam::LONGEST_NAME;
 use tile_system::Site;
 
 // How many digits a number may have in this form: each such number is a coordinate.
 const MOST_PLAIN_DIGITS: usize = 6;
 
-// The site of a line, and what stands behind it: the name of a type, if the line is a `place` line.
+/// The site and the name of a line, and how many bytes it has with its newline.
+#[derive(Drop)]
+pub(crate) struct PlainPlace<'a> {
+    pub(crate) site: Site,
+    pub(crate) name: &'a [u8],
+    pub(crate) length: usize,
+}
+
+/// What a text has at its front, if it begins with a `place` line and the name is one.
 #[inline(always)]
-pub(crate) fn plain_place(line: &[u8]) -> Option<(Site, &[u8])>
-    ensures { IfSome result (λ found. IsPlainPlace line.now found.0 found.1.now) }
+pub(crate) fn plain_place(text: &[u8]) -> Option<PlainPlace<'_>>
+    ensures { IfSome result (λ place.
+        BeginsPlain text.now place.site place.name.now place.length) }
 {
-    let [b'p', b'l', b'a', b'c', b'e', b' ', fields @ ..] = line else {
+    let (site, fields) = plain_site(text)?;
+    let (name, behind) = plain_end(fields)?;
+    let length = text.len() - behind.len();
+    Some(PlainPlace { site, name, length })
+}
+
+// The site at the front, and what stands behind it.
+#[inline(always)]
+fn plain_site(text: &[u8]) -> Option<(Site, &[u8])>
+    ensures { IfSome result (λ found. IsPlainPlace text.now found.0 found.1.now) }
+{
+    let [b'p', b'l', b'a', b'c', b'e', b' ', fields @ ..] = text else {
         return None;
     };
     let (x, fields) = plain_coordinate(fields)?;
-    let (y, name) = plain_coordinate(fields)?;
-    Some((Site { x, y }, name))
+    let (y, fields) = plain_coordinate(fields)?;
+    Some((Site { x, y }, fields))
+}
+
+/// The last word of a line in its plain form, and what stands behind the newline after it, if no more bytes are in front of
+/// the newline than a name has.
+#[inline(always)]
+pub fn plain_end(bytes: &[u8]) -> Option<(&[u8], &[u8])>
+    ensures { IfSome result (λ found. bytes.now ≡ found.0.now ++ 10 ∷ found.1.now) }
+{
+    for index in 0..bytes.len().min(LONGEST_NAME + 1) {
+        let byte = bytes[index];
+        if byte == b'\n' {
+            return Some((&bytes[..index], &bytes[index + 1..]));
+        }
+    }
+    None
 }
 
 /// The coordinate in its plain form at the front, and what stands behind the space after it.

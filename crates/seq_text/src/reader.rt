@@ -4,23 +4,23 @@ ghost use Rattle.atam.specs.Sites.{InBox};
 ghost use Rattle.atam.specs.Assembly.{Fits};
 ghost use Rattle.atam.specs.Placements.{HasDistinctSites};
 ghost use Rattle.tile_io.specs.NextLine.{IsMark};
-ghost use Rattle.tile_io.specs.Lines.{words_of};
 ghost use Rattle.tile_io.specs.Formats.{ReadsOrStops};
 ghost use Rattle.tile_io.specs.LineReader.{TakesItem};
 ghost use Rattle.atam.specs.TileSystem.{IsType};
 ghost use Rattle.tile_text.specs.Fields.{place_field};
 ghost use Rattle.seq_text.specs.GrowthText.{GrowthItem, sequence_format, grid_format, ReadsSequence, ReadsGrid, names_of, place_fields, place_in, may_stand};
 ghost use Rattle.seq_text.specs.Inner.Kinds.{may_stand_after};
-ghost use Rattle.seq_text.specs.Inner.Plain.{IsPlaceLine};
+ghost use Rattle.seq_text.specs.Inner.Plain.{BeginsWithPlace};
 ghost use Rattle.seq_text.specs.Inner.SoFar.{HasScratch};
 
 use crate::kind::LineKind;
-use crate::plain::plain_place;
+use crate::plain::{PlainPlace, plain_place};
 use assembly::{Grid, Sequence};
 use atam::MOST_TYPES;
 use std::alloc::Global;
 use tile_io::{
-    Cause, LineReader, LineStop, LineWords, MOST_INPUT, Mark, TextStop, read_text, read_text_once,
+    Cause, Front, LineReader, LineStop, LineWords, MOST_INPUT, Mark, TextStop, read_text,
+    read_text_once,
 };
 use tile_system::{NoMemory, Place, Placed, Site, System};
 use tile_text::{read_place, read_site};
@@ -167,11 +167,18 @@ impl<'a> LineReader for GrowthReader<'a> {
     }
 
     // A `place` line in its plain form that passes its checks. Each other line is left.
-    fn take_plain(&mut self, line: &[u8]) -> Option<Result<bool, LineStop>> {
-        let place = self.read_plain(line)?;
+    #[inline(always)]
+    fn take_front(&mut self, rest: &[u8]) -> Option<Front> {
+        let (place, length) = self.read_front(rest)?;
         match self.hold(place) {
-            Ok(()) => Some(Ok(false)),
-            Err(NoMemory) => Some(Err(LineStop::NoMemory)),
+            Ok(()) => Some(Front {
+                length,
+                done: Ok(false),
+            }),
+            Err(NoMemory) => Some(Front {
+                length,
+                done: Err(LineStop::NoMemory),
+            }),
         }
     }
 
@@ -259,23 +266,24 @@ impl<'a> GrowthReader<'a> {
         Ok(place)
     }
 
-    // The place of a `place` line in its plain form, where the line passes its checks.
+    // The place of the `place` line at the front, where it is in its plain form and passes its checks, and how many bytes
+    // the line has with its newline.
     #[inline(always)]
-    fn read_plain(&self, line: &[u8]) -> Option<Place>
+    fn read_front(&self, text: &[u8]) -> Option<(Place, usize)>
         requires { HasScratch self.now.system.now self.now.places self.now.scratch }
         ensures follows { IfSome result (λ _.
             may_stand_after LineKind.Place self.now.last ≡ true) }
-        ensures place { IfSome result (IsPlaceLine (is_some self.now.scratch)
-            self.now.system.now self.now.places (words_of line.now)) }
-        ensures inside { IfSome result (λ p. InBox self.now.system.now.area p.site) }
-        ensures small { IfSome result (λ p. p.tile.0 < MOST_TYPES) }
-        ensures free { IfSome result (λ p.
-            may_stand (is_some self.now.scratch) self.now.places p.site ≡ true) }
+        ensures place { IfSome result (λ found. BeginsWithPlace (is_some self.now.scratch)
+            self.now.system.now self.now.places text.now found.0 found.1) }
+        ensures inside { IfSome result (λ found. InBox self.now.system.now.area found.0.site) }
+        ensures small { IfSome result (λ found. found.0.tile.0 < MOST_TYPES) }
+        ensures free { IfSome result (λ found.
+            may_stand (is_some self.now.scratch) self.now.places found.0.site ≡ true) }
     {
         if !LineKind::Place.may_stand(self.last) {
             return None;
         }
-        let (site, name) = plain_place(line)?;
+        let PlainPlace { site, name, length } = plain_place(text)?;
         let tile = self.system.find_type(name)?;
         if !self.system.area().holds(site) {
             return None;
@@ -283,7 +291,7 @@ impl<'a> GrowthReader<'a> {
         if !self.is_free(site) {
             return None;
         }
-        Some(Place { site, tile })
+        Some((Place { site, tile }, length))
     }
 
     // Whether a tile may be placed at a site after those that were read.

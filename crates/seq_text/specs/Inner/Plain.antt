@@ -1,5 +1,6 @@
 -- A `place` line in its plain form.
-use Rattle.std.specs.Prelude.{◌≡◌, ℕ, ◌<◌, ◌≤◌, ◌^◌, Bool, true, List, length, ◌∷◌, ◌++◌, codes, Ok}
+use Rattle.std.specs.Prelude.{◌≡◌, ℕ, ◌+◌, ◌<◌, ◌≤◌, ◌^◌, Bool, true, List, length, ◌∷◌, ◌++◌, codes, Ok}
+use Rattle.tile_io.specs.Lines.{words_of, BeginsWithLine}
 use Rattle.tile_io.specs.Checks.{are_digits, coordinate, digits_value, field}
 use Rattle.atam.specs.declared.site.Site.{Site}
 use Rattle.atam.specs.declared.place.Place.{Place}
@@ -27,8 +28,23 @@ pub record IsPlainPlace (line : List ℕ) (m : Site) (name : List ℕ) : Type 0 
   pub x : coordinate column ≡ Ok m.x
   pub y : coordinate row ≡ Ok m.y
 
+-- a text begins with such a line, and it has so many bytes with its newline
+pub record BeginsPlain (text : List ℕ) (m : Site) (name : List ℕ) (count : ℕ) : Type 0 where
+  pub line : List ℕ
+  pub behind : List ℕ
+  pub plain : IsPlainPlace line m name
+  pub whole : text ≡ line ++ 10 ∷ behind
+  pub count_is : count ≡ length line + 1
+
 -- the words of a `place` line that passes its checks, with this place
 pub record IsPlaceLine (distinct : Bool) (sys : TileSystem) (earlier : List Place) (words : List (List ℕ)) (p : Place) : Type 0 where
   pub count : length words ≡ 4
   pub keyword : field words 0 ≡ codes "place"
   pub reads : place_in distinct sys earlier words ≡ Ok p
+
+-- a text begins with a `place` line that passes its checks, and it has so many bytes with its newline
+pub record BeginsWithPlace (distinct : Bool) (sys : TileSystem) (earlier : List Place) (text : List ℕ) (p : Place) (count : ℕ) : Type 0 where
+  pub line : List ℕ
+  pub begins : BeginsWithLine text line
+  pub count_is : count ≡ length line + 1
+  pub place : IsPlaceLine distinct sys earlier (words_of line) p
