@@ -1,5 +1,5 @@
 -- What a system grew into, and what is told of it.
-use Rattle.std.proofs.Common.{◌≡◌, All, List, Option, Some, None, ap, refl, subst, sym}
+use Rattle.std.proofs.Common.{◌≡◌, All, List, Option, ap, refl, subst, sym}
 use Rattle.atam.specs.declared.place.Place.{Place}
 use Rattle.atam.specs.declared.place.TypeId.{TypeId}
 use Rattle.atam.specs.declared.site.Site.{Site}
@@ -7,16 +7,17 @@ use Rattle.atam.specs.declared.area.BoxArea.{BoxArea}
 use Rattle.atam.specs.Sites.{InBox}
 use Rattle.atam.specs.TileSystem.{TileSystem}
 use Rattle.atam.specs.Assembly.{Fits}
-use Rattle.atam.specs.Growth.{IsClosedInBox, IsLeastOpen, IsLeastOpenOutside, IsProducible}
+use Rattle.atam.specs.Growth.{IsClosedInBox, IsLeastOpenOutside, IsProducible}
 use Rattle.atam.specs.Placements.{HasDistinctSites}
 use Rattle.atam.proofs.Open.{least_open_same}
+use Rattle.atam.proofs.Opening.{IsCandidate-same}
 use Rattle.atam.proofs.Tiles.{SameTiles, SameTiles-from, same_back}
 use Rattle.atam.proofs.Canon.{producible_types}
+use Rattle.replay_order.specs.ReplayAnswers.{IsWholeOrder}
 use Rattle.site_table.specs.Seats.{GrownValue}
 use Rattle.local_check.specs.declared.once.Judged.{Judged}
 use Rattle.local_check.specs.declared.once.Judged.TheVariants.{Legal, Breach}
 use Rattle.local_check.specs.Judged.{IsJudged}
-use Rattle.local_check.specs.declared.verdict.Verdict.TheVariants.{Yes, NotTerminal}
 use Rattle.seq_text.proofs.NamedTypes.{verdict_types}
 use Rattle.tilebench.specs.declared.growth.Growth.{Growth}
 use Rattle.tilebench.specs.Commands.Grow.{IsGrowthText}

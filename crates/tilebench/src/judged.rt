@@ -47,12 +47,12 @@ pub fn grow_judged<R: Threads + Sync, G: Gate>(
 {
     let types = TypeIndex::build(resources.alloc, sys)?;
     let (grown, order) = grow_ordered(resources, sys, &types, crew)?;
-    let judged = judge_grown(resources, sys, &types, &grown, order, crew.workers)?;
+    let judged = judge_growth(resources, sys, &types, &grown, order, crew.workers)?;
     Ok((grown, judged))
 }
 
 // The verdict on what has grown, whose canonical order may be known, by so many workers.
-fn judge_grown<R: Threads + Sync, G: Gate>(
+fn judge_growth<R: Threads + Sync, G: Gate>(
     resources: &Resources<'_, R, G>,
     sys: &System,
     types: &TypeIndex,
