@@ -15,7 +15,6 @@ use Rattle.tilebench.specs.declared.judged.JudgedGrowth.{JudgedGrowth}
 use Rattle.replay_order.specs.ReplayAnswers.{IsWholeOrder}
 use Rattle.local_check.specs.declared.once.Judged.{Judged}
 use Rattle.local_check.specs.declared.once.Judged.TheVariants.{Legal, Breach}
-use Rattle.local_check.specs.declared.verdict.Verdict.{Verdict}
 use Rattle.local_check.specs.Judgement.{IsVerdict}
 use Rattle.tilebench.specs.declared.reordering.Reordering.{Reordering}
 use Rattle.tilebench.specs.declared.reordering.Reordering.TheVariants.{Whole}

@@ -1,8 +1,7 @@
 -- a legal sequence has at most as many places as the box has sites
-use Rattle.std.proofs.Common.{◌<◌, ◌≤◌, length, arith}
+use Rattle.std.proofs.Common.{arith}
 use Rattle.atam.proofs.Count.{count_in_box}
 use Rattle.atam.proofs.Sequences.{IsLegal-distinct}
-use Rattle.assembly.specs.Cells.{cell_count}
 use Rattle.assembly.proofs.Cells.{cell_count-most}
 use Rattle.local_check.proofs.once.judge_grown.Goals as goal
 
