@@ -1,10 +1,9 @@
-use Rattle.std.proofs.Common.{◌≡◌, ◌<◌, ◌≤◌, ◌+◌, ◌-◌, ℕ, List, length, take, drop, get_or, flat_map, refl, sym, ◌∙◌, ap, arith}
+use Rattle.std.proofs.Common.{◌≡◌, ◌<◌, ◌≤◌, ◌+◌, ◌-◌, length, take, drop, get_or, flat_map, sym, ◌∙◌, ap, arith}
 use Rattle.std.proofs.lemmas.Option.{get_or_from_slice_get}
 use Rattle.std.proofs.lemmas.Result.{err_from_is_err_and}
-use Rattle.atam.specs.declared.place.Place.{Place}
 use Rattle.atam.specs.TileSystem.{TileSystem}
 use Rattle.tile_io.proofs.Printing.{PassesOn-next, PassesOn-halted, PassesOn-text}
-use Rattle.seq_text.specs.GrowthLines.{place_line, place_lines}
+use Rattle.seq_text.specs.GrowthLines.{place_line}
 use Rattle.watch_frames.proofs.FrameSpans.{added-length, added-at, added-all}
 use Rattle.watch_frames.proofs.printing.put_added.Goals as goal
 

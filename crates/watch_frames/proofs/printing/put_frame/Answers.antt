@@ -1,4 +1,4 @@
-use Rattle.std.proofs.Common.{rules, ◌≡◌, ◌∷◌, ◌++◌, [], ℕ, List, codes, decimal, take, drop, sym, ap}
+use Rattle.std.proofs.Common.{rules, ◌≡◌, ◌∷◌, ◌++◌, [], ℕ, List, codes, decimal, take, drop}
 use Rattle.std.proofs.lemmas.Result.{err_from_is_err_and}
 use Rattle.tile_io.specs.Lines.{line_of}
 use Rattle.tile_io.proofs.Printing.{PassesOn-then, PassesOn-stopped, PassesOn-text}

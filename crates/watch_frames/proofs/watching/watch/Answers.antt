@@ -1,5 +1,4 @@
-use Rattle.std.proofs.Common.{rules, ◌≡◌, ◌-◌, ◌^◌, ℕ, List, [], length, sym, ◌∙◌, ap, subst, arith}
-use Rattle.atam.specs.declared.place.Place.{Place}
+use Rattle.std.proofs.Common.{rules, ◌≡◌, ◌-◌, ◌^◌, ℕ, [], length, sym, ◌∙◌, ap, subst, arith}
 use Rattle.atam.specs.Placements.{SamePlacements}
 use Rattle.atam.specs.TileSystem.{TileSystem}
 use Rattle.assembly.specs.Grids.{TileGrid}
