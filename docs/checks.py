@@ -113,7 +113,8 @@ def promises():
             told += [f"PROVED.md: {it} has no public function {name}" for name in missing]
             if clauses:
                 told += [f"PROVED.md: {it}::{name} has none of {cells[2]}" for name in found
-                         if not any(has(contracts(it)[name], clause) for clause in clauses)]
+                         # (a drop by hand takes its value apart, and promises nothing)
+                         if not name.endswith("::drop") and not any(has(contracts(it)[name], clause) for clause in clauses)]
                 told += [f"PROVED.md: no clause {clause} in the row {cells[0]} of {it}" for clause in clauses
                          if not any(has(contracts(it)[name], clause) for name in found)]
         if not done:
