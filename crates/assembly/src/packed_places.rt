@@ -48,6 +48,7 @@ impl PackedPlaces {
         Ok(())
     }
 
+    #[inline(always)]
     pub(crate) fn push(&mut self, place: Place) -> Result<(), NoMemory>
         ensures ok { OnOk result (self.new.places ≡ self.old.places ++ place ∷ []) }
         ensures unchanged { OnErr result (self.new.places ≡ self.old.places) }
@@ -59,6 +60,7 @@ impl PackedPlaces {
         Ok(())
     }
 
+    #[inline(never)]
     fn push_far(&mut self, place: Place) -> Result<(), NoMemory>
         ensures ok { OnOk result (self.new.places ≡ self.old.places ++ place ∷ []) }
         ensures unchanged { OnErr result (self.new.places ≡ self.old.places) }

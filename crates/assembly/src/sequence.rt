@@ -38,6 +38,7 @@ impl Sequence {
         Sequence { places }
     }
 
+    #[inline(always)]
     pub fn push(&mut self, place: Place) -> Result<(), NoMemory>
         ensures ok { OnOk result (self.new ≡ self.old ++ place ∷ []) }
         ensures unchanged { OnErr result (self.new ≡ self.old) }

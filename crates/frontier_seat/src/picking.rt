@@ -1,5 +1,5 @@
 // Which of the types that attach at a site is claimed.
-ghost use Rattle.std.specs.Prelude.{◌≡◌, ◌≤◌, length, None, IfOk};
+ghost use Rattle.std.specs.Prelude.{◌≡◌, None, IfOk};
 ghost use Rattle.atam.specs.Sites.{IsNearSite};
 ghost use Rattle.atam.specs.Placements.{tile_at};
 ghost use Rattle.atam.specs.Assembly.{Fits};
@@ -11,16 +11,15 @@ ghost use Rattle.frontier_seat.specs.Inner.Pickers.{IsPickerOf};
 use crate::Chooser;
 use crate::types::Types;
 use assembly::Grid;
-use attach_rule::TypeList;
 use std::alloc::Global;
 use tile_system::{Beside, NoMemory, Site, System, TypeId};
-use type_index::FacingCache;
+use type_index::{FacingCache, HeldList};
 
-// An index of types, what was found by it before, and room for all types.
+// An index of types, what was found by it before, and the types that were listed last.
 pub(crate) struct Picker<'i> {
     types: Types<'i>,
     cache: FacingCache,
-    list: TypeList,
+    list: HeldList,
 }
 
 impl<'i> Drop for Picker<'i> {
@@ -46,7 +45,7 @@ impl<'i> Picker<'i> {
         Ok(Picker {
             types,
             cache: FacingCache::make(alloc, sys)?,
-            list: TypeList::make(alloc, sys)?,
+            list: HeldList::make(alloc, sys)?,
         })
     }
 
@@ -73,7 +72,7 @@ impl<'i> Picker<'i> {
             .cache
             .found_beside(sys, self.types.index(), grid, site, beside);
         if found.count > 2 {
-            return self.pick_listed(sys, grid, site, chooser);
+            return self.pick_listed(sys, grid, site, beside, chooser);
         }
         if found.count < 2 {
             return found.first;
@@ -91,21 +90,24 @@ impl<'i> Picker<'i> {
         sys: &System,
         grid: &Grid,
         site: Site,
+        beside: &Beside,
         chooser: &mut C,
     ) -> Option<TypeId>
         requires picker { IsPickerOf sys.now self.old }
         requires near { IsNearSite site }
+        requires empty { tile_at grid.now.tiles site ≡ None }
+        requires beside { StandBeside grid.now.tiles site beside.now }
         requires fits { Fits sys.now grid.now.tiles }
         ensures open { IsOpenType sys.now grid.now.tiles site result }
         ensures picker { IsPickerOf sys.now self.new }
     {
-        self.types
-            .index()
-            .candidates(sys, grid, site, &mut self.list);
-        let count = self.list.len();
+        self.list
+            .list(sys, self.types.index(), grid, site, beside);
+        let listed = self.list.types();
+        let count = listed.len();
         if count == 0 {
             return None;
         }
-        Some(self.list.get(chooser.pick(count)))
+        Some(listed.get(chooser.pick(count)))
     }
 }
