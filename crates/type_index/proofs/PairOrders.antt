@@ -10,7 +10,7 @@ use Rattle.atam.specs.TileSystem.{TileSystem, IsPair, is_pair_of}
 use Rattle.atam.proofs.Lists.{All-slice_get}
 use Rattle.type_index.specs.declared.glue_table.GlueKind.{GlueKind}
 use Rattle.type_index.specs.declared.glue_table.GlueKind.TheVariants.{Listed}
-use Rattle.type_index.specs.PairLinks.{HasGlue, LacksGlue, PairsWithListed, is_list_kind, is_known_list_kind, is_listed, IsNextPair, PairOrder, HasRoomFor, ArePairLinks}
+use Rattle.type_index.specs.PairLinks.{HasGlue, LacksGlue, PairsWithListed, is_list_kind, is_known_list_kind, is_listed, IsNextPair, PairOrder, ArePairLinks}
 use Rattle.type_index.specs.Inner.Linking.{PutsPair, linked}
 
 -- an element that is read
@@ -175,14 +175,6 @@ links_none sys kinds from links all glues firsts seconds fresh = record {
   behind_first = λ k p later there. absurd (none_past sys.pairs p k (omega (arith, all, later)) there);
   behind_second = λ k p later there. absurd (none_past sys.pairs p k (omega (arith, all, later)) there);
 }
-
--- the next pair of one of the glues of a pair
-pub behind_known : (sys : TileSystem) (kinds : List GlueKind) (links : PairOrder) (k : ℕ) (p : GluePair) (g : GlueId) → ArePairLinks sys kinds 0 links → slice_get sys.pairs k ≡ Some p → HasGlue g p →
-    ((p.first.0 ≡ g.0) → IsNextPair sys.pairs kinds g (k + 1) (slice_index links.behind_first k)) × ((p.first.0 ≢ g.0) → IsNextPair sys.pairs kinds g (k + 1) (slice_index links.behind_second k))
-behind_known sys kinds links k p g are there has =
-    let First : ℕ → Type 0 = λ n. IsNextPair sys.pairs kinds (record { 0 = n }) (k + 1) (slice_index links.behind_first k) in
-    let Second : ℕ → Type 0 = λ n. IsNextPair sys.pairs kinds (record { 0 = n }) (k + 1) (slice_index links.behind_second k) in
-    ((λ same. subst First same (are.behind_first k p (omega arith) there)), (λ apart. elim has [ inl same ↦ absurd (apart same) | inr same ↦ subst Second same (are.behind_second k p (omega arith) there) ]))
 
 -- a pair is of one of its glues and the other one
 pub other_is : (a b g : ℕ) → (a ≡ g) ⊎ (b ≡ g) → a ≢ b → ((a ≡ g) → (b ≢ g) × (((a == g && b == b) || (a == b && b == g)) ≡ true)) × ((a ≢ g) → ((a == g && b == a) || (a == a && b == g)) ≡ true)

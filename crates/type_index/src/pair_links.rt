@@ -1,8 +1,9 @@
 // The pairs of a system by the glues that they have.
-ghost use Rattle.std.specs.Prelude.{◌≡◌, ◌<◌, ◌+◌, List, length, slice_get, slice_index, IfOk, Some};
+ghost use Rattle.std.specs.Prelude.{◌≡◌, ◌<◌, ◌+◌, List, length, slice_get, IfOk, Some};
 ghost use Rattle.atam.specs.TileSystem.{IsPair};
 ghost use Rattle.type_index.specs.declared.glue_table.GlueKind.{GlueKind};
-ghost use Rattle.type_index.specs.PairLinks.{AreLinksOfAll, ArePairLinks, HasGlue, HasRoomFor, IsNextPair, is_listed};
+ghost use Rattle.type_index.specs.PairLinks.{AreLinksOfAll, ArePairLinks, HasGlue, HasRoomFor};
+ghost use Rattle.type_index.specs.PairLinks.{IsNextPair, is_listed};
 ghost use Rattle.type_index.specs.Inner.Linking.{PutsPair, linked};
 
 use crate::glue_table::GlueKind;
@@ -98,7 +99,9 @@ impl PairLinks {
     fn link(&mut self, kinds: &[GlueKind], number: u32, glue: GlueId, other: GlueId)
         requires known { glue.0 < length self.old.first }
         requires kind { other.0 < length kinds.now }
-        ensures { self.new ≡ record self.old { first = linked kinds.now glue other number self.old.first } }
+        ensures { self.new ≡ record self.old {
+          first = linked kinds.now glue other number self.old.first;
+        } }
     {
         if has_lists(kinds, other) {
             self.first[glue.0 as usize] = number;
@@ -110,7 +113,8 @@ impl PairLinks {
     pub(crate) fn first(&self, sys: &System, glue: GlueId) -> u32
         requires room { HasRoomFor sys.now self.now }
         requires known { glue.0 < length sys.now.glues }
-        ensures { (kinds : List GlueKind) → ArePairLinks sys.now kinds 0 self.now → IsNextPair sys.now.pairs kinds glue 0 result }
+        ensures { (kinds : List GlueKind) → ArePairLinks sys.now kinds 0 self.now
+            → IsNextPair sys.now.pairs kinds glue 0 result }
     {
         sys.recall_valid();
         self.first[glue.0 as usize]
@@ -122,7 +126,8 @@ impl PairLinks {
         requires room { HasRoomFor sys.now self.now }
         requires pair { slice_get sys.now.pairs number ≡ Some pair }
         requires glue { HasGlue glue pair }
-        ensures { (kinds : List GlueKind) → ArePairLinks sys.now kinds 0 self.now → IsNextPair sys.now.pairs kinds glue (number + 1) result }
+        ensures { (kinds : List GlueKind) → ArePairLinks sys.now kinds 0 self.now
+            → IsNextPair sys.now.pairs kinds glue (number + 1) result }
     {
         sys.recall_valid();
         if pair.first == glue {

@@ -1,5 +1,6 @@
-use Rattle.std.proofs.Common.{arith}
+use Rattle.std.proofs.Common.{arith, get_or}
 use Rattle.std.proofs.Math.Nat.{le_refl}
+use Rattle.atam.specs.declared.place.GluePair.{GluePair}
 use Rattle.type_index.proofs.Meeting.{glue_known, met_all, met_begun, met_more}
 use Rattle.type_index.proofs.PairOrders.{has_glue, pair_there}
 use Rattle.type_index.proofs.meeting_lists.MeetingLists.put.Goals as goal
@@ -31,7 +32,8 @@ loop-number-init c =
 pub other_of-requires-clause-has : goal.other_of-requires-clause-has
 other_of-requires-clause-has c =
     let sys = c.args.sys.now in
-    has_glue c.args.glues.now.kinds c.args.glue _
+    let none : GluePair = record { first = record { 0 = 0 }; second = record { 0 = 0 }; strength = 0 } in
+    has_glue c.args.glues.now.kinds c.args.glue (get_or c.pairs-pairs.result.now c.loop-number.number none)
     (c.loop-number.invariant.next.here _ (pair_there c.pairs-pairs.result.now sys.pairs c.loop-number.number c.pair_count-count.result _ c.pairs-pairs.ensures.pairs c.pair_count-count.ensures.count c.loop-number-test.true))
 
 pub meet-requires-in-loop-number-clause-small : goal.meet-requires-in-loop-number-clause-small
@@ -70,6 +72,10 @@ loop-number-preserved c =
       few = omega (arith, at.few, c.meet-in-loop-number.ensures.few, next.after);
       each = omega (arith, c.meet-in-loop-number.ensures.first, at.each);
     }
+
+pub loop-number-smaller : goal.loop-number-smaller
+loop-number-smaller c =
+    omega (arith, (c.behind-number.ensures c.args.glues.now.kinds c.requires.links).after, c.loop-number-test.true, c.pair_count-count.ensures.count)
 
 pub returns-clause-lists : goal.returns-clause-lists
 returns-clause-lists c =
