@@ -20,6 +20,7 @@ use Rattle.type_index.specs.PairLinks.{IsNextPair}
 use Rattle.type_index.specs.Inner.Linking.{HasNoMeetings, PutsMeeting}
 use Rattle.type_index.specs.declared.cursor.Cursor.{Cursor}
 use Rattle.type_index.specs.Inner.Cursors.{IsCursor}
+use Rattle.type_index.proofs.PairOrders.{pairs_with}
 use Rattle.type_index.proofs.Cursors.{between_pair, between_same, cursor_met, interaction_within}
 
 -- a list with one more element has all that it had, and the new one at its end
@@ -187,20 +188,15 @@ pub record AreMet (sys : TileSystem) (d : Side) (kinds : List GlueKind) (t : Typ
   pub rest : (h : GlueId) → slice_get kinds h.0 ≡ Some Listed → h.0 ≢ g.0 → ((k : ℕ) (p : GluePair) → k < n → slice_get sys.pairs k ≡ Some p → is_pair_of p g h ≡ false) →
       Leads sys d h lists.meetings (t.0 + 1) (slice_index lists.first h.0)
 
-lacks_not : (a b g h : ℕ) → a ≢ g → b ≢ g → ((a == g && b == h) || (a == h && b == g)) ≡ false
-lacks_not a b g h left right = grind (arith, tests)
-
 true_false : true ≡ false → ⊥
 true_false both = cc
 
 module _ (sys : TileSystem) (d : Side) (kinds : List GlueKind) (valid : IsValid sys) (t : TypeId) (g : GlueId) (kind : IsType sys t) (bears : side_glue sys t d ≡ Some g) where
-  pub met_begun : (n : ℕ) (strength : ℕ) (old new : MeetingOrder) → strength ≡ strength_of sys g → IsNextPair sys.pairs g 0 n → AreMeetings sys d kinds (t.0 + 1) old → PutsMeeting kinds g t strength old new → AreMet sys d kinds t g n new
+  pub met_begun : (n : ℕ) (strength : ℕ) (old new : MeetingOrder) → strength ≡ strength_of sys g → IsNextPair sys.pairs kinds g 0 n → AreMeetings sys d kinds (t.0 + 1) old → PutsMeeting kinds g t strength old new → AreMet sys d kinds t g n new
   met_begun n strength old new is next lists puts = record {
     known = λ h listed. omega (arith, put_length sys d kinds g t strength old new puts, lists.known h listed);
     own = λ listed. put_here sys d kinds g t strength old new puts listed (lists.known g listed) kind (is ∙ sym (between_same sys g) ∙ sym (ap (λ own. interaction sys own (Some g)) bears)) (lists.first g listed);
-    met = λ h listed k p below there hit.
-        let lacks = next.none_between k p (omega arith) below there in
-        absurd (true_false (sym hit ∙ lacks_not p.first.0 p.second.0 g.0 h.0 lacks.0 lacks.1));
+    met = λ h listed k p below there hit. absurd (next.none_between k p (omega arith) below there (pairs_with kinds p g h listed hit));
     rest = λ h listed apart none. put_apart sys d kinds g t strength old new puts h (t.0 + 1) apart (lists.first h listed);
   }
 
@@ -221,7 +217,7 @@ module _ (sys : TileSystem) (d : Side) (kinds : List GlueKind) (valid : IsValid 
     strength_there =
         sym (strength_of_pair sys.pairs g other n p none_before there of_both) ∙ sym (between_pair sys g other (λ same. apart (sym same))) ∙ sym (ap (λ own. interaction sys own (Some other)) bears)
 
-    pub met_more : (to : ℕ) (old new : MeetingOrder) → IsNextPair sys.pairs g (n + 1) to → AreMet sys d kinds t g n old → PutsMeeting kinds other t p.strength old new → AreMet sys d kinds t g to new
+    pub met_more : (to : ℕ) (old new : MeetingOrder) → IsNextPair sys.pairs kinds g (n + 1) to → AreMet sys d kinds t g n old → PutsMeeting kinds other t p.strength old new → AreMet sys d kinds t g to new
     met_more to old new next lists puts = record {
       known = λ h listed. omega (arith, put_length sys d kinds other t p.strength old new puts, lists.known h listed);
       own = λ listed. put_apart sys d kinds other t p.strength old new puts g t.0 (λ same. apart (sym same)) (lists.own listed);
@@ -231,7 +227,7 @@ module _ (sys : TileSystem) (d : Side) (kinds : List GlueKind) (valid : IsValid 
             let Is : ℕ → Type 0 = λ m. Leads sys d (record { 0 = m }) new.meetings t.0 (slice_index new.first m) in
             let listed_other : Listed_at other.0 = subst Listed_at same listed in
             subst Is (sym same) (put_here sys d kinds other t p.strength old new puts listed_other (lists.known other listed_other) kind strength_there (lists.rest other listed_other apart none_before))
-        | inr unlike ↦ put_apart sys d kinds other t p.strength old new puts h t.0 unlike (lists.met h listed k q (earlier h k q unlike below at hit) at hit)
+        | inr unlike ↦ put_apart sys d kinds other t p.strength old new puts h t.0 unlike (lists.met h listed k q (earlier h k q listed unlike below at hit) at hit)
       ];
       rest = λ h listed unlike none.
           let not_other : h.0 ≢ other.0 = λ same.
@@ -241,8 +237,8 @@ module _ (sys : TileSystem) (d : Side) (kinds : List GlueKind) (valid : IsValid 
           put_apart sys d kinds other t p.strength old new puts h (t.0 + 1) not_other (lists.rest h listed unlike (λ k q below at. none k q (omega (arith, below, next.after)) at));
     }
       where
-        earlier : (h : GlueId) (k : ℕ) (q : GluePair) → h.0 ≢ other.0 → k < to → slice_get sys.pairs k ≡ Some q → is_pair_of q g h ≡ true → k < n
-        earlier h k q unlike below at hit = elim (cases_lt k n) [
+        earlier : (h : GlueId) (k : ℕ) (q : GluePair) → slice_get kinds h.0 ≡ Some Listed → h.0 ≢ other.0 → k < to → slice_get sys.pairs k ≡ Some q → is_pair_of q g h ≡ true → k < n
+        earlier h k q listed unlike below at hit = elim (cases_lt k n) [
           | inl before ↦ before
           | inr past ↦ elim (cases_eq k n) [
             | inl same ↦
@@ -250,9 +246,7 @@ module _ (sys : TileSystem) (d : Side) (kinds : List GlueKind) (valid : IsValid 
                 let q_is_p = same_Some q p (sym (subst At same at) ∙ there) in
                 let Hit : GluePair → Type 0 = λ r. is_pair_of r g h ≡ true in
                 absurd (unlike (of_other h (subst Hit q_is_p hit)))
-            | inr later ↦
-                let lacks = next.none_between k q (omega (arith, past, later)) below at in
-                absurd (true_false (sym hit ∙ lacks_not q.first.0 q.second.0 g.0 h.0 lacks.0 lacks.1))
+            | inr later ↦ absurd (next.none_between k q (omega (arith, past, later)) below at (pairs_with kinds q g h listed hit))
           ]
         ]
 

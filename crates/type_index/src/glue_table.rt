@@ -3,7 +3,7 @@ ghost use Rattle.std.specs.Prelude.{◌≡◌, ◌≢◌, ◌<◌, ◌≤◌, le
 ghost use Rattle.atam.specs.declared.limits.TheConstants.{MOST_STRENGTH};
 ghost use Rattle.atam.specs.TileSystem.{strength_between, strength_of};
 ghost use Rattle.type_index.specs.Indexes.{AreGlueFacts, AreKindsOf, AreMostsOf, AreStrengthsOf, IsLone};
-ghost use Rattle.type_index.specs.PairLinks.{ArePairLinks};
+ghost use Rattle.type_index.specs.PairLinks.{AreLinksOfAll};
 
 use crate::pair_links::PairLinks;
 use crate::reach::reach_of;
@@ -53,12 +53,7 @@ impl Model for GlueTable {
 }
 
 impl GlueTable {
-    pub(crate) fn build(
-        alloc: Global,
-        sys: &System,
-        links: &PairLinks,
-    ) -> Result<GlueTable, NoMemory>
-        requires { ArePairLinks sys.now 0 links.now }
+    pub(crate) fn build(alloc: Global, sys: &System) -> Result<GlueTable, NoMemory>
         ensures { IfOk result (AreGlueFacts sys.now) }
     {
         let strengths = strengths_of(alloc, sys)?;
@@ -66,7 +61,7 @@ impl GlueTable {
         Ok(GlueTable {
             strengths,
             mosts,
-            kinds: kinds_of(alloc, sys, links)?,
+            kinds: kinds_of(alloc, sys)?,
         })
     }
 
@@ -92,6 +87,14 @@ impl GlueTable {
     {
         sys.recall_valid();
         u32::from(self.mosts[glue.0 as usize])
+    }
+
+    // The kind of each glue.
+    #[inline(always)]
+    pub(crate) fn kinds(&self) -> &[GlueKind]
+        ensures { result.now ≡ self.now.kinds }
+    {
+        self.kinds.as_slice()
     }
 
     #[inline(always)]
@@ -141,19 +144,19 @@ fn raise(mosts: &mut Vec<u8>, glue: GlueId, strength: u32)
 }
 
 // The kind of each glue. A glue for whose lists there is no room has none.
-fn kinds_of(alloc: Global, sys: &System, links: &PairLinks) -> Result<Vec<GlueKind>, NoMemory>
-    requires { ArePairLinks sys.now 0 links.now }
+fn kinds_of(alloc: Global, sys: &System) -> Result<Vec<GlueKind>, NoMemory>
     ensures { IfOk result (λ kinds. AreKindsOf sys.now kinds.items) }
 {
     let count = sys.glue_count();
     if sys.pair_count() == 0 {
         return Ok(Vec::from_elem(alloc, GlueKind::Alone, count as usize)?);
     }
+    let links = PairLinks::of_all(alloc, sys)?;
     let reach = reach_of(alloc, sys)?;
     let mut room = MOST_MEETINGS;
     let mut kinds = Vec::with_capacity(alloc, count as usize)?;
     for number in 0..count {
-        let kind = kind_of(sys, links, GlueId(number), reach[number as usize], room);
+        let kind = kind_of(sys, &links, GlueId(number), reach[number as usize], room);
         if kind == GlueKind::Listed {
             room -= reach[number as usize];
         }
@@ -164,11 +167,12 @@ fn kinds_of(alloc: Global, sys: &System, links: &PairLinks) -> Result<Vec<GlueKi
 
 // The kind of a glue whose lists have so many types in all, where there is so much room.
 fn kind_of(sys: &System, links: &PairLinks, glue: GlueId, reach: u32, room: u32) -> GlueKind
-    requires links { ArePairLinks sys.now 0 links.now }
+    requires links { AreLinksOfAll sys.now links.now }
     requires known { glue.0 < length sys.now.glues }
     ensures lone { result ≡ GlueKind.Alone → IsLone sys.now glue }
     ensures room { result ≡ GlueKind.Listed → reach ≤ room }
 {
+    sys.recall_valid();
     if links.first(sys, glue) == sys.pair_count() {
         GlueKind::Alone
     } else if reach <= room {

@@ -64,7 +64,7 @@ impl MeetingLists {
         links: &PairLinks,
     ) -> Result<MeetingLists, NoMemory>
         requires glues { AreGlueFacts sys.now glues.now }
-        requires links { ArePairLinks sys.now 0 links.now }
+        requires links { ArePairLinks sys.now glues.now.kinds 0 links.now }
         ensures { IfOk result (AreMeetings sys.now side glues.now.kinds 0) }
     {
         if sys.pair_count() > 0 {
@@ -85,7 +85,7 @@ impl MeetingLists {
         links: &PairLinks,
     ) -> Result<MeetingLists, NoMemory>
         requires glues { AreGlueFacts sys.now glues.now }
-        requires links { ArePairLinks sys.now 0 links.now }
+        requires links { ArePairLinks sys.now glues.now.kinds 0 links.now }
         ensures { IfOk result (AreMeetings sys.now side glues.now.kinds 0) }
     {
         sys.recall_valid();
@@ -124,7 +124,7 @@ impl MeetingLists {
         links: &PairLinks,
     ) -> Result<(), NoMemory>
         requires glues { AreGlueFacts sys.now glues.now }
-        requires links { ArePairLinks sys.now 0 links.now }
+        requires links { ArePairLinks sys.now glues.now.kinds 0 links.now }
         requires kind { IsType sys.now tile }
         requires lists { AreMeetings sys.now side glues.now.kinds (tile.0 + 1) self.old }
         requires first { length self.old.first ≡ length sys.now.glues }
@@ -150,7 +150,7 @@ impl MeetingLists {
         links: &PairLinks,
     ) -> Result<(), NoMemory>
         requires glues { AreGlueFacts sys.now glues.now }
-        requires links { ArePairLinks sys.now 0 links.now }
+        requires links { ArePairLinks sys.now glues.now.kinds 0 links.now }
         requires kind { IsType sys.now tile }
         requires bears { side_glue sys.now tile side ≡ Some glue }
         requires lists { AreMeetings sys.now side glues.now.kinds (tile.0 + 1) self.old }

@@ -1,7 +1,8 @@
-use Rattle.std.proofs.Common.{arith}
+use Rattle.std.proofs.Common.{arith, get_or}
 use Rattle.std.proofs.Math.Nat.{le_refl}
+use Rattle.atam.specs.declared.place.GluePair.{GluePair}
 use Rattle.type_index.proofs.Meeting.{glue_known, met_all, met_begun, met_more}
-use Rattle.type_index.proofs.PairOrders.{pair_there}
+use Rattle.type_index.proofs.PairOrders.{has_glue, pair_there}
 use Rattle.type_index.proofs.meeting_lists.MeetingLists.put.Goals as goal
 
 pub strength-requires-clause-known : goal.strength-requires-clause-known
@@ -19,7 +20,7 @@ first-number-requires-clause-known c = glue_known c.args.sys.now c.args.tile c.a
 pub loop-number-init : goal.loop-number-init
 loop-number-init c =
     let sys = c.args.sys.now in
-    let next = c.first-number.ensures in
+    let next = c.first-number.ensures c.args.glues.now.kinds c.requires.links in
     record {
       lists = met_begun sys c.args.side c.args.glues.now.kinds c.recall_valid.ensures.valid c.args.tile c.args.glue c.requires.kind c.requires.bears c.first-number.result _ c.args.self.now c.meet.new.self c.strength.ensures.value next
           c.requires.lists c.in_ok-meet.ensures.puts;
@@ -31,7 +32,9 @@ loop-number-init c =
 pub other_of-requires-clause-has : goal.other_of-requires-clause-has
 other_of-requires-clause-has c =
     let sys = c.args.sys.now in
-    c.loop-number.invariant.next.here _ (pair_there c.pairs-pairs.result.now sys.pairs c.loop-number.number c.pair_count-count.result _ c.pairs-pairs.ensures.pairs c.pair_count-count.ensures.count c.loop-number-test.true)
+    let none : GluePair = record { first = record { 0 = 0 }; second = record { 0 = 0 }; strength = 0 } in
+    has_glue c.args.glues.now.kinds c.args.glue (get_or c.pairs-pairs.result.now c.loop-number.number none)
+    (c.loop-number.invariant.next.here _ (pair_there c.pairs-pairs.result.now sys.pairs c.loop-number.number c.pair_count-count.result _ c.pairs-pairs.ensures.pairs c.pair_count-count.ensures.count c.loop-number-test.true))
 
 pub meet-requires-in-loop-number-clause-small : goal.meet-requires-in-loop-number-clause-small
 meet-requires-in-loop-number-clause-small c = omega (arith, c.requires.kind, c.recall_valid.ensures.valid.type_count)
@@ -60,7 +63,7 @@ pub loop-number-preserved : goal.loop-number-preserved
 loop-number-preserved c =
     let sys = c.args.sys.now in
     let at = c.loop-number.invariant in
-    let next = c.behind-number.ensures in
+    let next = c.behind-number.ensures c.args.glues.now.kinds c.requires.links in
     let is_there = pair_there c.pairs-pairs.result.now sys.pairs c.loop-number.number c.pair_count-count.result _ c.pairs-pairs.ensures.pairs c.pair_count-count.ensures.count c.loop-number-test.true in
     record {
       lists = met_more sys c.args.side c.args.glues.now.kinds c.recall_valid.ensures.valid c.args.tile c.args.glue c.requires.kind c.requires.bears c.loop-number.number _ c.other_of.result is_there c.other_of.ensures.unlike
@@ -69,6 +72,10 @@ loop-number-preserved c =
       few = omega (arith, at.few, c.meet-in-loop-number.ensures.few, next.after);
       each = omega (arith, c.meet-in-loop-number.ensures.first, at.each);
     }
+
+pub loop-number-smaller : goal.loop-number-smaller
+loop-number-smaller c =
+    omega (arith, (c.behind-number.ensures c.args.glues.now.kinds c.requires.links).after, c.loop-number-test.true, c.pair_count-count.ensures.count)
 
 pub returns-clause-lists : goal.returns-clause-lists
 returns-clause-lists c =

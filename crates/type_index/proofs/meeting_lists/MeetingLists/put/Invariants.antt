@@ -7,7 +7,7 @@ use Rattle.type_index.proofs.meeting_lists.MeetingLists.put.Given as goal
 abbrev pub invariant-loop-number : goal.invariant-loop-number
 invariant-loop-number l = record {
   lists : AreMet l.sys l.fn.side l.glues.kinds l.tile l.glue l.number l.self;
-  next : IsNextPair l.sys.pairs l.glue l.number l.number;
+  next : IsNextPair l.sys.pairs l.glues.kinds l.glue l.number l.number;
   few : length l.self.meetings ≤ length l.fn.self.meetings + 1 + l.number;
   each : length l.self.first ≡ length l.sys.glues;
 }
