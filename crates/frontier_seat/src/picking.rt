@@ -101,8 +101,7 @@ impl<'i> Picker<'i> {
         ensures open { IsOpenType sys.now grid.now.tiles site result }
         ensures picker { IsPickerOf sys.now self.new }
     {
-        self.list
-            .list(sys, self.types.index(), grid, site, beside);
+        self.list.list(sys, self.types.index(), grid, site, beside);
         let listed = self.list.types();
         let count = listed.len();
         if count == 0 {
