@@ -21,22 +21,11 @@ use Rattle.atam.proofs.Placements.{index_at-none, index_at-some, tile_at-place}
 use Rattle.atam.proofs.Sequences.{IsLegal-listed, IsLegal-tile_at, same_index}
 use Rattle.atam.proofs.Confluence.{is_input-later}
 use Rattle.atam.proofs.SameVerdict.{is_output-some}
-use Rattle.atam.proofs.Opening.{bond-beside, IsCandidate-same}
-use Rattle.atam.proofs.Tiles.{SameTiles}
-use Rattle.local_check.specs.Clean.{IsDead, ComesClean, AllCleanBelow, HasCleanPlaces}
-use Rattle.local_check.specs.Inner.Sides.{bond_if}
+use Rattle.atam.proofs.Opening.{bond-beside}
+use Rattle.type_index.specs.Clean.{IsDead, ComesClean, AllCleanBelow, HasCleanPlaces}
+use Rattle.type_index.specs.SideSets.{bond_if}
 use Rattle.local_check.proofs.Keeping.{bond_kept}
 use Rattle.local_check.proofs.Sides.{apart}
-
--- a tile comes clean among the same tiles
-pub comes_same : (sys : TileSystem) (a b : List Place) (m : Site) (t : TypeId) → SameTiles a b → ComesClean sys a m t → ComesClean sys b m t
-comes_same sys a b m t same clean = record {
-  sole = λ u grows. clean.sole u (IsCandidate-same sys b a m u (λ n. sym (same n)) grows);
-  settled = λ d v at. elim (clean.settled d v (same (neighbor m d) ∙ at)) [
-    | inl bound ↦ inl (subst (λ (n : ℕ). 0 < n) (bond-beside sys a b m t d (same (neighbor m d))) bound)
-    | inr dead ↦ inr dead
-  ];
-}
 
 at_most : (on : Bool) (w : ℕ) → bond_if on w ≤ w
 at_most true w = le_refl w

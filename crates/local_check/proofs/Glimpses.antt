@@ -1,7 +1,6 @@
--- What is seen of tiles as they come, and what it is to come clean by the glues that face a site.
-use Rattle.std.proofs.Common.{◌≡◌, ◌⊎◌, ◌<◌, ◌≤◌, ◌∙◌, ℕ, Bool, true, false, true≢false, List, length, set, replicate, slice_get, Option, Some, None, is_some, refl, sym, ap, subst, inl, inr, arith}
+-- What is seen of tiles as they come.
+use Rattle.std.proofs.Common.{◌≡◌, ◌<◌, ◌∙◌, ℕ, true, false, List, length, set, replicate, slice_get, Option, Some, is_some, refl, sym, ap, subst, inl, inr, arith}
 use Rattle.std.proofs.lemmas.Bool.{cases_eq}
-use Rattle.std.proofs.lemmas.Bool.Decides.{eqb_tells}
 use Rattle.std.proofs.lemmas.List.{get_or-replicate, length-replicate}
 use Rattle.std.proofs.lemmas.Option.{same_Some, slice_get_within, get_or_from_slice_get}
 use Rattle.atam.specs.declared.site.Side.{Side}
@@ -10,81 +9,32 @@ use Rattle.atam.specs.declared.site.Site.{Site}
 use Rattle.atam.specs.declared.place.GlueId.{GlueId}
 use Rattle.atam.specs.declared.place.TypeId.{TypeId}
 use Rattle.atam.specs.declared.place.Place.{Place}
-use Rattle.atam.specs.Sites.{neighbor, opposite}
+use Rattle.atam.specs.Sites.{neighbor}
 use Rattle.atam.specs.Placements.{tile_at}
-use Rattle.atam.specs.TileSystem.{TileSystem, side_glue, strength_between}
-use Rattle.atam.specs.Assembly.{interaction, bond}
+use Rattle.atam.specs.TileSystem.{TileSystem, side_glue}
+use Rattle.atam.specs.Assembly.{interaction}
 use Rattle.atam.proofs.Bonds.{interaction-none}
 use Rattle.attach_rule.specs.declared.bonding.Strengths.{Strengths}
 use Rattle.attach_rule.specs.declared.facing.FacingGlues.{FacingGlues}
 use Rattle.attach_rule.specs.Bonds.{AreBonds}
 use Rattle.attach_rule.specs.Facing.{AreNone, FacesSite}
 use Rattle.attach_rule.proofs.Held.{facing_pull-pull}
-use Rattle.type_index.specs.HeldTypes.{IsHeld, FirstHeldBut}
-use Rattle.type_index.proofs.Cursors.{lone_unpaired}
-use Rattle.local_check.specs.SideSets.{SideSet, has}
-use Rattle.local_check.specs.Clean.{IsDead, ComesClean}
+use Rattle.type_index.specs.HeldTypes.{IsHeld}
+use Rattle.type_index.specs.SideSets.{SideSet, has, sides_beside}
+use Rattle.type_index.specs.Clean.{ComesClean, AreSettled}
+use Rattle.type_index.proofs.Settling.{has_beside, held_by, strength_is}
 use Rattle.local_check.specs.declared.glances.Glance.{Glance}
 use Rattle.local_check.specs.declared.glances.Seen.{Seen}
-use Rattle.local_check.specs.Inner.Sides.{sides_beside}
-use Rattle.local_check.specs.Inner.Glances.{IsGlance, IsGlanceFor, glance_of, strength_on, AreSettled}
+use Rattle.local_check.specs.Inner.Glances.{IsGlance, IsGlanceFor, glance_of}
 use Rattle.local_check.proofs.Sites.{slice_get-set, slice_get-apart}
-
-abbrev pub four_sides : Bool → Bool → Bool → Bool → SideSet
-four_sides n e s w = record { north = n; east = e; south = s; west = w }
-
--- a side without a glue is dead
-pub dead_bare : (sys : TileSystem) (t : TypeId) (d : Side) → side_glue sys t d ≡ None → IsDead sys t d
-dead_bare sys t d none u = ap (λ g. interaction sys (side_glue sys u (opposite d)) g) none ∙ interaction-none sys (side_glue sys u (opposite d))
-
--- so is one with a glue that doesn't interact with itself, where there are no pairs
-between : (sys : TileSystem) (g h : GlueId) → length sys.pairs ≡ 0 → strength_between sys g g ≡ 0 → strength_between sys h g ≡ 0
-unfolding strength_between
-between sys g h unpaired weak = elim (eqb_tells h.0 g.0) [
-  | inl same ↦ ap (λ n. strength_between sys (record { 0 = n }) g) same.1 ∙ weak
-  | inr differ ↦ rw differ.0 (lone_unpaired sys g unpaired h)
-]
-
-pub alone : (sys : TileSystem) (g : GlueId) → length sys.pairs ≡ 0 → strength_between sys g g ≡ 0 → (own : Option GlueId) → interaction sys own (Some g) ≡ 0
-alone sys g unpaired weak None = refl
-alone sys g unpaired weak (Some h) = between sys g h unpaired weak
-
--- each of the sides is settled, if it is one of these
-pub all_settled : (sys : TileSystem) (t : TypeId) (bonds : Strengths) (sides : SideSet) (n e s w : Bool) →
-    (n ≡ true → has sides North ≡ true → (0 < bonds.north) ⊎ IsDead sys t North) → (e ≡ true → has sides East ≡ true → (0 < bonds.east) ⊎ IsDead sys t East) →
-    (s ≡ true → has sides South ≡ true → (0 < bonds.south) ⊎ IsDead sys t South) → (w ≡ true → has sides West ≡ true → (0 < bonds.west) ⊎ IsDead sys t West) →
-    four_sides n e s w ≡ four_sides true true true true → AreSettled sys t bonds sides
-all_settled sys t bonds sides n e s w north east south west all North = north (ap (λ (a : SideSet). a.north) all)
-all_settled sys t bonds sides n e s w north east south west all East = east (ap (λ (a : SideSet). a.east) all)
-all_settled sys t bonds sides n e s w north east south west all South = south (ap (λ (a : SideSet). a.south) all)
-all_settled sys t bonds sides n e s w north east south west all West = west (ap (λ (a : SideSet). a.west) all)
-
--- where no first other type is held, none is
-pub no_other_held : (sys : TileSystem) (glues : FacingGlues) (but : TypeId) (found : Option TypeId) → is_some found ≡ false → FirstHeldBut sys glues but found →
-    (u : TypeId) → IsHeld sys glues u → u ≡ but
-no_other_held sys glues but None none first = first
-no_other_held sys glues but (Some t) none first = absurd (true≢false none)
 
 -- a tile comes clean by its strengths with the tiles beside it, and by the types that the glues hold
 module _ (sys : TileSystem) (tiles : List Place) (m : Site) (t : TypeId) (glues : FacingGlues) (faces : FacesSite sys tiles m glues) (bonds : Strengths) (are : AreBonds sys tiles m t bonds) where
-  strength_is : (d : Side) → strength_on bonds d ≡ bond sys tiles m t d
-  strength_is North = are.north
-  strength_is East = are.east
-  strength_is South = are.south
-  strength_is West = are.west
-
-  has_beside : (d : Side) → has (sides_beside tiles m) d ≡ is_some (tile_at tiles (neighbor m d))
-  has_beside North = refl
-  has_beside East = refl
-  has_beside South = refl
-  has_beside West = refl
-
   pub comes_clean : (beside : SideSet) → beside ≡ sides_beside tiles m → AreSettled sys t bonds beside → ((u : TypeId) → IsHeld sys glues u → u ≡ t) → ComesClean sys tiles m t
   comes_clean beside is settled sole = record {
-    sole = λ u grows.
-        sole u (record { kind = grows.kind; held = subst (λ (n : ℕ). sys.tau ≤ n) (sym (facing_pull-pull sys tiles m glues u faces)) grows.attaches.held });
-    settled = λ d v at. elim (settled d (ap (λ sides. has sides d) is ∙ has_beside d ∙ ap is_some at)) [
-      | inl bound ↦ inl (subst (λ (n : ℕ). 0 < n) (strength_is d) bound)
+    sole = λ u grows. sole u (held_by sys tiles m glues u faces grows);
+    settled = λ d v at. elim (settled d (ap (λ sides. has sides d) is ∙ has_beside tiles m d ∙ ap is_some at)) [
+      | inl bound ↦ inl (subst (λ (n : ℕ). 0 < n) (strength_is sys tiles m t bonds are d) bound)
       | inr dead ↦ inr dead
     ];
   }

@@ -16,12 +16,11 @@ use Rattle.std.proofs.Math.Seq.{take-length}
 use Rattle.atam.proofs.Placements.{Extends, Extends-take}
 use Rattle.atam.proofs.Sequences.{IsLegal-distinct}
 use Rattle.atam.proofs.Tiles.{SameTiles, SameTiles-from}
-use Rattle.local_check.specs.SideSets.{SideSet, has}
+use Rattle.type_index.specs.SideSets.{SideSet, has, glues_on}
 use Rattle.attach_rule.specs.declared.facing.FacingGlues.{FacingGlues}
 use Rattle.attach_rule.specs.Facing.{FacesSite, facing_pull}
 use Rattle.type_index.specs.HeldTypes.{IsHeld, FirstHeldBut}
 use Rattle.type_index.specs.Others.{IsFirstBut}
-use Rattle.local_check.specs.Inner.Sides.{glues_on}
 use Rattle.local_check.specs.Judgement.{IsLeastRival, FindsInexact, FindsRival}
 use Rattle.local_check.specs.Inner.Ranges.{AllExactIn, NoRivalIn, FindsInexactIn, FindsRivalIn}
 use Rattle.local_check.proofs.Keeping.{gone_here, pull_facing}

@@ -22,13 +22,14 @@ use Rattle.atam.proofs.Sequences.{IsLegal-empty, IsLegal-tile_at, IsLegal-listed
 use Rattle.atam.proofs.Confluence.{is_input-seed, is_input-later}
 use Rattle.atam.proofs.SameVerdict.{is_output-some, is_output-none}
 use Rattle.type_index.specs.Indexes.{TypeLists, IsIndexOf}
-use Rattle.local_check.specs.SideSets.{SideSet, has, has_at, AreSidesOf}
+use Rattle.type_index.specs.SideSets.{SideSet, has, bond_if, sum_on, bound_by, difference, complement}
+use Rattle.local_check.specs.SideSets.{has_at, AreSidesOf}
 use Rattle.attach_rule.specs.declared.bonding.Strengths.{Strengths}
 use Rattle.attach_rule.specs.declared.facing.FacingGlues.{FacingGlues}
 use Rattle.attach_rule.specs.Bonds.{AreBonds}
 use Rattle.attach_rule.specs.Facing.{FacesSite}
 use Rattle.local_check.specs.Judgement.{FindsInexact, FindsRival}
-use Rattle.local_check.specs.Inner.Sides.{bond_if, sum_on, pull_on, bound_by, bound_sides, difference, complement, AreEarlierFrom, AreOutputsFrom}
+use Rattle.local_check.specs.Inner.Sides.{pull_on, bound_sides, AreEarlierFrom, AreOutputsFrom}
 use Rattle.atam.proofs.Opening.{bond-beside}
 use Rattle.atam.proofs.Tiles.{SameTiles}
 use Rattle.local_check.proofs.Sites.{slice_get-some, distinct-take}

@@ -11,7 +11,8 @@ use Rattle.atam.specs.TileSystem.{TileSystem}
 use Rattle.atam.specs.Assembly.{bond, pull}
 use Rattle.atam.proofs.Bonds.{bond_is, bond-none}
 use Rattle.atam.proofs.Placements.{Extends}
-use Rattle.local_check.specs.Inner.Sides.{bound_sides, sides_beside, intersection, difference, bond_if, pull_on}
+use Rattle.type_index.specs.SideSets.{sides_beside, intersection, difference, bond_if}
+use Rattle.local_check.specs.Inner.Sides.{bound_sides, pull_on}
 
 in_both : (on : Bool) (w : ℕ) → (nat_lt 0 w && on) ≡ nat_lt 0 (bond_if on w)
 in_both true w = elim (nat_lt 0 w) as (λ b. (b && true) ≡ b) [ true ↦ refl | false ↦ refl ]

@@ -1,5 +1,4 @@
 pub mod Sides
-pub mod SideBits
 pub mod PlaceSides
 pub mod PlaceFindings
 pub mod StoodSites

@@ -1,6 +1,5 @@
 pub mod SideSets
 pub mod Judgement
 pub mod Judged
-pub mod Clean
 pub mod Laws
 pub mod Inner

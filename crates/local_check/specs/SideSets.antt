@@ -1,30 +1,16 @@
--- Sets of sides, the input and output sides of the places of a sequence, and what was found with them.
+-- The input and output sides of the places of a sequence, and what was found with them.
 use Rattle.std.specs.Prelude.{◌≡◌, ℕ, ◌<◌, Bool, false, ◌&&◌, nat_le, List, length, Option, slice_get}
 use Rattle.std.specs.Option.{option_map_or}
 use Rattle.atam.specs.declared.site.Side.{Side}
-use Rattle.atam.specs.declared.site.Side.TheVariants.{North, East, South, West}
 use Rattle.atam.specs.declared.site.Site.{Site}
 use Rattle.atam.specs.declared.place.TypeId.{TypeId}
 use Rattle.atam.specs.declared.place.Place.{Place}
 use Rattle.atam.specs.Placements.{SamePlacements}
 use Rattle.atam.specs.TileSystem.{TileSystem}
 use Rattle.atam.specs.Determinism.{is_input, is_output}
+use Rattle.type_index.specs.SideSets.{SideSet, has}
 use Rattle.type_index.specs.Indexes.{TypeLists, IsIndexOf}
 use Rattle.local_check.specs.Judgement.{FindsInexact, FindsRival}
-
--- the sides of a tile that something holds of
-pub record SideSet : Type 0 where
-  pub north : Bool
-  pub east : Bool
-  pub south : Bool
-  pub west : Bool
-
--- whether a side is in the set
-abbrev pub has : SideSet → Side → Bool
-has sides North = sides.north
-has sides East = sides.east
-has sides South = sides.south
-has sides West = sides.west
 
 -- whether the set at an index has a side
 abbrev pub has_at : List SideSet → ℕ → Side → Bool

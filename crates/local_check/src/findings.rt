@@ -10,13 +10,12 @@ ghost use Rattle.type_index.specs.HeldTypes.{FirstHeldBut};
 ghost use Rattle.type_index.specs.Findings.{AreFindings, IsKeyOf};
 ghost use Rattle.local_check.specs.Inner.PlaceFindings.{IsFinding, ArePlaceFindings, IsKept};
 
-use crate::side_set::SideSet;
 use assembly::{Grid, site_index};
 use attach_rule::FacingGlues;
 use std::alloc::Global;
 use std::marker::Model;
 use tile_system::{NoMemory, Place, Side, Site, System, TypeId};
-use type_index::{FacingCache, TypeIndex, glues_of_key, key_of_codes};
+use type_index::{FacingCache, SideSet, TypeIndex, glues_of_key, key_of_codes};
 
 // What is found at a place, where tiles stood beside some sides before: the sides that interact
 // with those tiles, their pull, the other sides that interact, and the first rival.

@@ -1,27 +1,24 @@
 // What is seen of tiles as they come, by what came before with the same surroundings.
-ghost use Rattle.std.specs.Prelude.{◌≡◌, ◌⊎◌, ◌<◌, true, length, Option, Some, IfOk, IsTrue};
-ghost use Rattle.atam.specs.declared.place.GlueId.{GlueId};
+ghost use Rattle.std.specs.Prelude.{◌≡◌, ◌<◌, true, IfOk, IsTrue};
 ghost use Rattle.atam.specs.declared.place.TypeId.{TypeId};
 ghost use Rattle.atam.specs.Sites.{InBox};
 ghost use Rattle.atam.specs.TileSystem.{IsType, IsValid};
-ghost use Rattle.atam.specs.Assembly.{Fits, interaction};
+ghost use Rattle.atam.specs.Assembly.{Fits};
 ghost use Rattle.assembly.specs.Cells.{cell_count, site_at};
 ghost use Rattle.type_index.specs.Indexes.{IsIndexOf};
 ghost use Rattle.type_index.specs.HeldTypes.{IsHeld};
 ghost use Rattle.type_index.specs.Findings.{AreFindings};
-ghost use Rattle.local_check.specs.Clean.{IsDead};
-ghost use Rattle.local_check.specs.SideSets.{has};
-ghost use Rattle.local_check.specs.Inner.Sides.{sides_beside};
-ghost use Rattle.local_check.specs.Inner.Glances.{AreGlances, AreSettled, IsGlance, IsGlanceFor};
+ghost use Rattle.type_index.specs.Clean.{AreSettled};
+ghost use Rattle.type_index.specs.SideSets.{sides_beside};
+ghost use Rattle.local_check.specs.Inner.Glances.{AreGlances, IsGlance, IsGlanceFor};
 
 use crate::findings::key_inside;
-use crate::side_set::SideSet;
 use assembly::Grid;
 use attach_rule::{FacingGlues, Strengths};
 use std::alloc::Global;
 use std::marker::Model;
-use tile_system::{GlueId, NoMemory, Place, Side, Site, System, TypeId};
-use type_index::{FacingCache, TypeIndex, glues_of_key};
+use tile_system::{NoMemory, Place, Site, System, TypeId};
+use type_index::{FacingCache, SideSet, TypeIndex, glues_of_key, settled_sides};
 
 // What is seen of a tile as it comes: the sum that holds it, and whether it comes clean.
 #[derive(Clone, Copy)]
@@ -176,7 +173,8 @@ impl Glances {
         ensures known { AreFindings sys.now self.new.cache }
         ensures last { self.new.last ≡ self.old.last }
     {
-        if !asked || !are_settled(sys, tile, bonds, beside) {
+        let settled = settled_sides(sys, tile, bonds);
+        if !asked || !beside.is_within(settled) {
             return false;
         }
         let other = self.cache.found(sys, types, glues).other_than(tile);
@@ -192,62 +190,5 @@ fn sides_beside(grid: &Grid, site: Site, number: usize) -> SideSet
     requires number { site_at grid.now.area number ≡ site }
     ensures { result ≡ sides_beside grid.now.tiles site }
 {
-    let beside = grid.beside_at(site, number);
-    SideSet::of(
-        beside.north.is_some(),
-        beside.east.is_some(),
-        beside.south.is_some(),
-        beside.west.is_some(),
-    )
-}
-
-// Whether each of these sides has a strength, or is dead.
-fn are_settled(sys: &System, tile: TypeId, bonds: &Strengths, sides: SideSet) -> bool
-    requires { IsType sys.now tile }
-    ensures { IsTrue result → AreSettled sys.now tile bonds.now sides }
-{
-    let settled = SideSet::of(
-        is_settled(sys, tile, sides, Side::North, bonds.north),
-        is_settled(sys, tile, sides, Side::East, bonds.east),
-        is_settled(sys, tile, sides, Side::South, bonds.south),
-        is_settled(sys, tile, sides, Side::West, bonds.west),
-    );
-    settled.is_same(&SideSet::ALL)
-}
-
-// The same of one side, if it is one of these.
-fn is_settled(sys: &System, tile: TypeId, sides: SideSet, side: Side, strength: u32) -> bool
-    requires { IsType sys.now tile }
-    ensures { IsTrue result → has sides side ≡ true → (0 < strength) ⊎ IsDead sys.now tile side }
-{
-    if strength > 0 {
-        return true;
-    }
-    if sides.has(side) {
-        return is_dead(sys, tile, side);
-    }
-    true
-}
-
-// Whether it is clear that no type interacts with the side.
-fn is_dead(sys: &System, tile: TypeId, side: Side) -> bool
-    requires { IsType sys.now tile }
-    ensures { IsTrue result → IsDead sys.now tile side }
-{
-    match sys.side(tile, side) {
-        None => true,
-        Some(glue) => is_weak(sys, glue),
-    }
-}
-
-// Whether it is clear that no glue interacts with this one. Where there are pairs, none is looked
-// at.
-fn is_weak(sys: &System, glue: GlueId) -> bool
-    requires { glue.0 < length sys.now.glues }
-    ensures { IsTrue result → (own : Option GlueId) → interaction sys.now own (Some glue) ≡ 0 }
-{
-    if sys.pair_count() > 0 {
-        return false;
-    }
-    sys.between(glue, glue) == 0
+    SideSet::beside(&grid.beside_at(site, number))
 }

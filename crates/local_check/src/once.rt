@@ -4,6 +4,7 @@ ghost use Rattle.atam.specs.Placements.{SamePlacements};
 ghost use Rattle.atam.specs.Assembly.{Fits};
 ghost use Rattle.atam.specs.Growth.{IsClosedInBox, IsLeastOpenOutside, IsLegal};
 ghost use Rattle.atam.specs.Determinism.{HasExactInputs, HasNoRivals};
+ghost use Rattle.type_index.specs.Clean.{CameExact};
 ghost use Rattle.type_index.specs.Indexes.{IsIndexOf};
 ghost use Rattle.local_check.specs.Judgement.{IsVerdict};
 ghost use Rattle.local_check.specs.Judged.{IsJudged};
@@ -64,6 +65,20 @@ pub fn judge_grown(
         Passed::Legal(passage) => grown_verdict(alloc, sys, seq, types, &grid, passage, outside),
         Passed::Breach(_) => unreachable!(),
     }
+}
+
+/// The same of a sequence of which it is known that each place came clean, held by exactly the
+/// temperature: no place is looked at.
+pub fn judge_clean(sys: &System, seq: &Sequence, outside: Option<(Site, TypeId)>) -> Verdict
+    requires legal { IsLegal sys.now seq.now }
+    requires clean { CameExact sys.now seq.now }
+    requires closed { IsClosedInBox sys.now seq.now }
+    requires outside { IsLeastOpenOutside sys.now seq.now outside }
+    ensures { IsVerdict sys.now seq.now result }
+{
+    let _known_of = seq;
+    sys.recall_valid();
+    verdict_by(outside)
 }
 
 // The same, by what was found as the places came.

@@ -1,8 +1,8 @@
 // Both sets of sides of a place.
 ghost use Rattle.std.specs.Prelude.{◌≡◌};
 
-use crate::side_set::SideSet;
 use std::marker::Model;
+use type_index::SideSet;
 
 // The sides of a place that interact with the seeds or with an earlier place, and its output sides.
 // They are one byte, a half for each set, since there is one for each place of a sequence.

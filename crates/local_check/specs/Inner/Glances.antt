@@ -1,22 +1,18 @@
 -- What is seen of a tile as it comes, by its type, the glues that face it and the sides beside which a tile stands.
-use Rattle.std.specs.Prelude.{◌≡◌, ◌⊎◌, ℕ, ◌<◌, true, List, length, Some, slice_get}
-use Rattle.atam.specs.declared.site.Side.{Side}
-use Rattle.atam.specs.declared.site.Side.TheVariants.{North, East, South, West}
+use Rattle.std.specs.Prelude.{◌≡◌, ℕ, true, List, length, Some, slice_get}
 use Rattle.atam.specs.declared.site.Site.{Site}
 use Rattle.atam.specs.declared.place.TypeId.{TypeId}
 use Rattle.atam.specs.declared.place.Place.{Place}
 use Rattle.atam.specs.TileSystem.{TileSystem}
 use Rattle.atam.specs.Assembly.{pull}
-use Rattle.attach_rule.specs.declared.bonding.Strengths.{Strengths}
 use Rattle.attach_rule.specs.declared.facing.FacingGlues.{FacingGlues}
 use Rattle.attach_rule.specs.Facing.{FacesSite}
 use Rattle.type_index.specs.declared.cache as cache
 use Rattle.type_index.specs.Findings.{AreFindings, IsKeyOf}
-use Rattle.local_check.specs.SideSets.{SideSet, has}
-use Rattle.local_check.specs.Clean.{IsDead, ComesClean}
+use Rattle.type_index.specs.SideSets.{SideSet, sides_beside}
+use Rattle.type_index.specs.Clean.{ComesClean}
 use Rattle.local_check.specs.declared.glances.Glance.{Glance}
 use Rattle.local_check.specs.declared.glances.Seen.{Seen}
-use Rattle.local_check.specs.Inner.Sides.{sides_beside}
 
 -- at a site among these tiles, the pull on the type, and that it comes clean, if that is said
 pub record IsGlance (sys : TileSystem) (tiles : List Place) (m : Site) (t : TypeId) (glance : Glance) : Type 0 where
@@ -41,13 +37,3 @@ pub record AreGlances (sys : TileSystem) (table : GlanceTable) : Type 0 where
   pub count : length table.last ≡ length sys.types
   pub each : (t : TypeId) (seen : Seen) → slice_get table.last t.0 ≡ Some seen → IsGlanceFor sys t seen.key seen.beside (glance_of seen)
   pub cache : AreFindings sys table.cache
-
-abbrev pub strength_on : Strengths → Side → ℕ
-strength_on bonds North = bonds.north
-strength_on bonds East = bonds.east
-strength_on bonds South = bonds.south
-strength_on bonds West = bonds.west
-
--- each of these sides has a strength, or is dead
-abbrev pub AreSettled : TileSystem → TypeId → Strengths → SideSet → Type 0
-AreSettled sys t bonds sides = (d : Side) → has sides d ≡ true → (0 < strength_on bonds d) ⊎ IsDead sys t d

@@ -9,7 +9,7 @@ use Rattle.replay_order.specs.Legalities.{IsLegalityAnswer}
 use Rattle.local_check.specs.declared.passage.Passage.{Passage}
 use Rattle.local_check.specs.declared.passage.Passed.{Passed}
 use Rattle.local_check.specs.declared.passage.Passed.TheVariants.{Legal, Breach}
-use Rattle.local_check.specs.Clean.{HasCleanPlaces}
+use Rattle.type_index.specs.Clean.{HasCleanPlaces}
 use Rattle.local_check.specs.Judgement.{FindsInexact}
 
 -- of a legal sequence, whose places now stand in the grid: the first that isn't held exactly, and that all came clean, if that is said

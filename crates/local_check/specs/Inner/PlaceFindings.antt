@@ -9,10 +9,10 @@ use Rattle.attach_rule.specs.Facing.{FacesSite}
 use Rattle.type_index.specs.declared.cache as cache
 use Rattle.type_index.specs.HeldTypes.{FirstHeldBut}
 use Rattle.type_index.specs.Findings.{AreFindings, IsKeyOf}
-use Rattle.local_check.specs.SideSets.{SideSet}
+use Rattle.type_index.specs.SideSets.{SideSet, intersection, difference, complement, glues_on}
 use Rattle.local_check.specs.declared.findings.Finding.{Finding}
 use Rattle.local_check.specs.declared.findings.Known.{Known}
-use Rattle.local_check.specs.Inner.Sides.{bound_sides, intersection, difference, complement, pull_on, glues_on}
+use Rattle.local_check.specs.Inner.Sides.{bound_sides, pull_on}
 
 -- At a site among these tiles, of which those beside some sides stood there before, the sides of a type that interact with these, the other
 -- sides that interact, and the pull of those that stood there before. And where rivals are sought, the first other type that the glues on all

@@ -16,10 +16,11 @@ use Rattle.atam.proofs.Tiles.{SameTiles, SameTiles-from}
 use Rattle.assembly.specs.Cells.{cell_count, site_at}
 use Rattle.assembly.proofs.Putting.{part_take, SamePlacements-more}
 use Rattle.replay_order.proofs.Sequences.{first_taken, first_weak, legal_more}
-use Rattle.local_check.specs.Clean.{AllCleanBelow}
+use Rattle.type_index.specs.Clean.{AllCleanBelow}
 use Rattle.local_check.proofs.Judging.{inexact_whole}
 use Rattle.local_check.specs.Inner.Ranges.{FindsInexactIn}
-use Rattle.local_check.proofs.Clean.{comes_same, clean_all, clean_more}
+use Rattle.type_index.proofs.Settling.{comes_same}
+use Rattle.local_check.proofs.Clean.{clean_all, clean_more}
 use Rattle.local_check.proofs.passage.pass.Goals as goal
 
 -- an option that isn't some is none

@@ -14,11 +14,11 @@ use Rattle.atam.proofs.Lists.{All-slice_get, seeds_within}
 use Rattle.atam.proofs.Opening.{Fits-part}
 use Rattle.attach_rule.specs.declared.facing.FacingGlues.{FacingGlues}
 use Rattle.attach_rule.specs.Facing.{FacesSite}
-use Rattle.local_check.specs.SideSets.{SideSet, has}
+use Rattle.type_index.specs.SideSets.{SideSet, has, intersection, difference, complement, sides_beside}
 use Rattle.local_check.specs.Inner.PlaceFindings.{FindingTable, ArePlaceFindings}
 use Rattle.local_check.specs.Inner.PlaceSides.{PlaceSides, earlier_sets, output_sets}
 use Rattle.local_check.specs.Inner.Ranges.{FindsInexactIn, FindsRivalIn}
-use Rattle.local_check.specs.Inner.Sides.{AreEarlierFrom, AreOutputsFrom, bound_sides, intersection, difference, complement, pull_on, sides_beside}
+use Rattle.local_check.specs.Inner.Sides.{AreEarlierFrom, AreOutputsFrom, bound_sides, pull_on}
 use Rattle.local_check.proofs.Sides.{bound_sides-same, earlier_more, outputs_more, output_here, length-push, has-complement}
 use Rattle.assembly.proofs.Putting.{take_more}
 use Rattle.local_check.specs.Inner.StoodSites.{StoodTable, TellsSites}

@@ -6,7 +6,7 @@ use Rattle.atam.specs.Assembly.{glue_at}
 use Rattle.attach_rule.specs.declared.facing.FacingGlues.{FacingGlues}
 use Rattle.attach_rule.specs.Facing.{FacesSite}
 use Rattle.type_index.specs.Findings.{IsKeyOf}
-use Rattle.local_check.specs.SideSets.{SideSet}
+use Rattle.type_index.specs.SideSets.{SideSet}
 use Rattle.local_check.specs.declared.findings.Known.{Known}
 use Rattle.local_check.specs.Inner.PlaceFindings.{FindingTable, IsFinding, ArePlaceFindings, IsKept}
 use Rattle.local_check.proofs.findings.Findings.at.Goals as goal

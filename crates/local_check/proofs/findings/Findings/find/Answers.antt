@@ -10,7 +10,7 @@ use Rattle.type_index.specs.Findings.{AreFindings}
 use Rattle.type_index.proofs.Keys.{same_key}
 use Rattle.local_check.specs.declared.findings.Finding.{Finding}
 use Rattle.local_check.specs.declared.findings.Known.{Known}
-use Rattle.local_check.specs.Inner.Sides.{intersection, difference, complement, glues_on}
+use Rattle.type_index.specs.SideSets.{intersection, difference, complement, glues_on}
 use Rattle.local_check.specs.Inner.PlaceFindings.{IsFinding, IsKnown}
 use Rattle.local_check.proofs.PlaceFindings.{known_set, same_facing}
 use Rattle.local_check.proofs.Sites.{slice_get-set}

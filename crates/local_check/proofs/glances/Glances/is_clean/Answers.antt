@@ -1,6 +1,9 @@
 use Rattle.std.proofs.Common.{◌∙◌, not, ap}
-use Rattle.local_check.proofs.Glimpses.{no_other_held}
+use Rattle.type_index.proofs.Settling.{no_other_held, within_sides}
 use Rattle.local_check.proofs.glances.Glances.is_clean.Goals as goal
+
+pub returns-clause-settled : goal.returns-clause-settled
+returns-clause-settled c said d in_set = ?
 
 pub returns-clause-sole : goal.returns-clause-sole
 returns-clause-sole c said =

@@ -2,7 +2,7 @@
 use Rattle.std.specs.Prelude.{◌≡◌, ℕ, ◌+◌, ◌*◌, ◌/◌, ◌%◌, ◌<◌, ◌==◌, Bool, if◌then◌else◌}
 use Rattle.std.proofs.Common.{◌∙◌, arith}
 use Rattle.std.proofs.lemmas.Bool.Decides.{nat_tests}
-use Rattle.local_check.specs.SideSets.{SideSet}
+use Rattle.type_index.specs.SideSets.{SideSet}
 
 abbrev pub bit : Bool → ℕ
 bit b = if b then 1 else 0

@@ -2,8 +2,8 @@ use Rattle.std.proofs.Common.{◌∙◌, sym, ap}
 use Rattle.atam.specs.Sites.{opposite}
 use Rattle.atam.specs.TileSystem.{side_glue}
 use Rattle.atam.specs.Assembly.{interaction}
-use Rattle.local_check.proofs.Glimpses.{dead_bare}
-use Rattle.local_check.proofs.glances.is_dead.Goals as goal
+use Rattle.type_index.proofs.Settling.{dead_bare}
+use Rattle.type_index.proofs.settled.is_dead.Goals as goal
 
 pub returns-in-None : goal.returns-in-None
 returns-in-None c said = dead_bare c.args.sys.now c.args.tile c.args.side (sym c.in-None.ensures.glue)

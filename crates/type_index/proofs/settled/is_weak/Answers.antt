@@ -1,7 +1,7 @@
 use Rattle.std.proofs.Common.{◌∙◌, sym, arith}
 use Rattle.std.proofs.lemmas.Bool.{eqb-true}
-use Rattle.local_check.proofs.Glimpses.{alone}
-use Rattle.local_check.proofs.glances.is_weak.Goals as goal
+use Rattle.type_index.proofs.Settling.{alone}
+use Rattle.type_index.proofs.settled.is_weak.Goals as goal
 
 pub returns : goal.returns
 returns c said own =

@@ -1,25 +1,27 @@
 // A set of sides.
-ghost use Rattle.std.specs.Prelude.{◌≡◌, ◌≤◌, ◌<◌, IsTrue};
+ghost use Rattle.std.specs.Prelude.{◌≡◌, ◌≤◌, ◌<◌, List, IsTrue};
 ghost use Rattle.atam.specs.declared.limits.TheConstants.{MOST_STRENGTH};
+ghost use Rattle.atam.specs.declared.place.Place.{Place};
+ghost use Rattle.atam.specs.declared.site.Site.{Site};
 ghost use Rattle.attach_rule.specs.Bonds.{AreStrengths};
-ghost use Rattle.local_check.specs.SideSets.{has};
-ghost use Rattle.local_check.specs.Inner.SideBits.{set_of};
-ghost use Rattle.local_check.specs.Inner.Sides.{bound_by, intersection, difference, complement, bond_if, sum_on, glues_on};
+ghost use Rattle.tile_system.specs.Neighbors.{StandBeside};
+ghost use Rattle.type_index.specs.SideSets.{has, is_within, bound_by, sides_beside, intersection, difference, complement, bond_if, sum_on, glues_on};
+ghost use Rattle.type_index.specs.SideBits.{set_of};
 
 use attach_rule::{FacingGlues, Strengths};
 use std::marker::Model;
-use tile_system::Side;
+use tile_system::{Beside, Side};
 
-// The sides of a tile that something holds of, with a bit for each side.
+/// The sides of a tile that something holds of, with a bit for each side.
 #[derive(Clone, Copy)]
-pub(crate) struct SideSet {
+pub struct SideSet {
     bits: u8,
 }
 
 impl Model for SideSet {
     ghost use Rattle.std.specs.Prelude.{◌<◌};
-    ghost use Rattle.local_check.specs.SideSets.{SideSet};
-    ghost use Rattle.local_check.specs.Inner.SideBits.{set_of, bits_of, bits_back};
+    ghost use Rattle.type_index.specs.SideSets.{SideSet};
+    ghost use Rattle.type_index.specs.SideBits.{set_of, bits_of, bits_back};
 
     ghost Value = { SideSet };
 
@@ -33,33 +35,33 @@ impl Model for SideSet {
 }
 
 impl SideSet {
-    // The set of no sides.
-    pub(crate) const NONE: SideSet = SideSet { bits: 0 };
+    /// The set of no sides.
+    pub const NONE: SideSet = SideSet { bits: 0 };
 
-    // That of all four.
-    pub(crate) const ALL: SideSet = SideSet { bits: 15 };
+    /// That of all four.
+    pub const ALL: SideSet = SideSet { bits: 15 };
 
-    // The set as a number.
+    /// The set as a number.
     #[inline(always)]
-    pub(crate) fn bits(self) -> u8
+    pub fn bits(self) -> u8
         ensures back { set_of result ≡ self }
         ensures small { result < 16 }
     {
         self.bits
     }
 
-    // The set with this number.
+    /// The set with this number.
     #[inline(always)]
-    pub(crate) fn from_bits(bits: u8) -> SideSet
+    pub fn from_bits(bits: u8) -> SideSet
         requires { bits < 16 }
         ensures { result ≡ set_of bits }
     {
         SideSet { bits }
     }
 
-    // The sides for which it holds.
+    /// The sides for which it holds.
     #[inline(always)]
-    pub(crate) fn of(north: bool, east: bool, south: bool, west: bool) -> SideSet
+    pub fn of(north: bool, east: bool, south: bool, west: bool) -> SideSet
         ensures { result ≡ record { north = north; east = east; south = south; west = west } }
     {
         SideSet {
@@ -67,9 +69,23 @@ impl SideSet {
         }
     }
 
-    // The sides with a strength above 0.
+    /// The sides beside which there is a tile.
     #[inline(always)]
-    pub(crate) fn bound_by(bonds: &Strengths) -> SideSet
+    pub fn beside(beside: &Beside) -> SideSet
+        ensures { (tiles : List Place) (site : Site) → StandBeside tiles site beside.now
+            → result ≡ sides_beside tiles site }
+    {
+        SideSet::of(
+            beside.north.is_some(),
+            beside.east.is_some(),
+            beside.south.is_some(),
+            beside.west.is_some(),
+        )
+    }
+
+    /// The sides with a strength above 0.
+    #[inline(always)]
+    pub fn bound_by(bonds: &Strengths) -> SideSet
         ensures { result ≡ bound_by bonds.now }
     {
         SideSet::of(
@@ -80,8 +96,9 @@ impl SideSet {
         )
     }
 
+    /// Whether a side is in the set.
     #[inline(always)]
-    pub(crate) fn has(self, side: Side) -> bool
+    pub fn has(self, side: Side) -> bool
         ensures { result ≡ has self side }
     {
         match side {
@@ -92,17 +109,28 @@ impl SideSet {
         }
     }
 
-    // Whether the other set has the same sides.
+    /// Whether the other set has the same sides.
     #[inline(always)]
-    pub(crate) fn is_same(&self, other: &SideSet) -> bool
+    pub fn is_same(&self, other: &SideSet) -> bool
         ensures { IsTrue result → self.now ≡ other.now }
     {
         self.bits == other.bits
     }
 
-    // The sides that aren't in the set.
+    /// Whether the other set has each side of this one.
     #[inline(always)]
-    pub(crate) fn complement(self) -> SideSet
+    pub fn is_within(self, other: SideSet) -> bool
+        ensures { result ≡ is_within self other }
+    {
+        (!self.has(Side::North) || other.has(Side::North))
+            && (!self.has(Side::East) || other.has(Side::East))
+            && (!self.has(Side::South) || other.has(Side::South))
+            && (!self.has(Side::West) || other.has(Side::West))
+    }
+
+    /// The sides that aren't in the set.
+    #[inline(always)]
+    pub fn complement(self) -> SideSet
         ensures { result ≡ complement self }
     {
         SideSet::of(
@@ -113,9 +141,9 @@ impl SideSet {
         )
     }
 
-    // The sides that the other set has too.
+    /// The sides that the other set has too.
     #[inline(always)]
-    pub(crate) fn within(self, other: SideSet) -> SideSet
+    pub fn within(self, other: SideSet) -> SideSet
         ensures { result ≡ intersection self other }
     {
         SideSet::of(
@@ -126,9 +154,9 @@ impl SideSet {
         )
     }
 
-    // The sides that the other set doesn't have.
+    /// The sides that the other set doesn't have.
     #[inline(always)]
-    pub(crate) fn without(self, other: SideSet) -> SideSet
+    pub fn without(self, other: SideSet) -> SideSet
         ensures { result ≡ difference self other }
     {
         SideSet::of(
@@ -139,8 +167,8 @@ impl SideSet {
         )
     }
 
-    // The sum of the strengths of these sides alone.
-    pub(crate) fn sum_on(self, bonds: &Strengths) -> u32
+    /// The sum of the strengths of these sides alone.
+    pub fn sum_on(self, bonds: &Strengths) -> u32
         requires { AreStrengths bonds.now }
         ensures { result ≡ sum_on self bonds.now }
     {
@@ -150,9 +178,9 @@ impl SideSet {
             + bond_if(self.has(Side::West), bonds.west)
     }
 
-    // The glues that face these sides alone.
+    /// The glues that face these sides alone.
     #[inline(always)]
-    pub(crate) fn glues_on(self, glues: &FacingGlues) -> FacingGlues
+    pub fn glues_on(self, glues: &FacingGlues) -> FacingGlues
         ensures { result ≡ glues_on self glues.now }
     {
         FacingGlues {
