@@ -14,7 +14,8 @@ fn refusal(alloc: Global, text: &str) -> Option<TextStop> {
     read_batch(alloc, text.as_bytes(), Mark::start()).err()
 }
 
-// A line of the two jobs, counted from 1, what stands there instead, and the line and the cause of what refuses it.
+// A line of the two jobs, counted from 1, what stands there instead, and the line and the cause of
+// what refuses it.
 const CHANGED: [(usize, &str, u32, Cause); 16] = [
     (1, "batch 2", 1, Cause::NoHeader),
     (1, "batch", 1, Cause::NoHeader),

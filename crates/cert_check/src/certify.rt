@@ -14,8 +14,8 @@ use local_check::SideSets;
 use std::alloc::Global;
 use tile_system::{NoMemory, Side, System};
 
-/// The certificate of a legal sequence, by its sides: the places in their order, each with its input
-/// sides and its index as its rank. It takes twenty bytes a place.
+/// The certificate of a legal sequence, by its sides: the places in their order, each with its
+/// input sides and its index as its rank. It takes twenty bytes a place.
 pub fn certificate_of(
     alloc: Global,
     sys: &System,

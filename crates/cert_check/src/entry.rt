@@ -4,7 +4,8 @@ ghost use Rattle.cert_check.specs.Certificates.{bit_of, states};
 
 use tile_system::{Place, Side};
 
-/// A place, the sides that are stated to hold it (bits 1, 2, 4 and 8 for north, east, south and west), and its rank.
+/// A place, the sides that are stated to hold it (bits 1, 2, 4 and 8 for north, east, south and
+/// west), and its rank.
 #[derive(Clone, Copy, Debug, PartialEq, Eq)]
 pub struct Entry {
     pub place: Place,

@@ -4,10 +4,11 @@ ghost use Rattle.cert_check.specs.Judgement.{first_fault};
 
 use tile_system::{Side, Site, TypeId};
 
-/// Whether a certificate is good, or the first check that fails: a seed that is no entry's place; sides
-/// stated at a seed's place; a stated side that nothing of lesser rank holds; stated bonds that don't add
-/// up to the temperature (their sum); an unstated bond that isn't answered; another type that could stand
-/// there; and a type that attaches beside the entry, at the site that is given.
+/// Whether a certificate is good, or the first check that fails: a seed that is no entry's place;
+/// sides stated at a seed's place; a stated side that nothing of lesser rank holds; stated bonds
+/// that don't add up to the temperature (their sum); an unstated bond that isn't answered; another
+/// type that could stand there; and a type that attaches beside the entry, at the site that is
+/// given.
 #[derive(Clone, Copy, Debug, PartialEq, Eq)]
 pub enum CertVerdict {
     Yes,

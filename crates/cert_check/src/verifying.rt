@@ -21,11 +21,11 @@ use tile_system::{NoMemory, Place, Placed, Site, System};
 use type_index::{FacingCache, TypeIndex};
 
 /// Checks a certificate that fits the system, by so many workers, each in a thread of its own but
-/// one. The answer is the same for any number of them. Each calls the gate once, and then looks once
-/// at each entry of its portion and at the sites beside it; where a seed is no entry's place none is
-/// started. The time grows with the number of entries and with the number of sites of the box. It
-/// takes memory for the number of an entry and a tile at each site of the box, for an index of the
-/// types, and for what each worker has found before.
+/// one. The answer is the same for any number of them. Each calls the gate once, and then looks
+/// once at each entry of its portion and at the sites beside it; where a seed is no entry's place
+/// none is started. The time grows with the number of entries and with the number of sites of the
+/// box. It takes memory for the number of an entry and a tile at each site of the box, for an index
+/// of the types, and for what each worker has found before.
 pub fn verify<R: Threads + Sync, G: Gate>(
     rt: &R,
     alloc: Global,

@@ -1,4 +1,5 @@
-//! Tests of certificates by the program: worked rows, each check that fails, and who comes to the gate.
+//! Tests of certificates by the program: worked rows, each check that fails, and who comes to the
+//! gate.
 #![tactic(auto)]
 
 #[cfg(test)]

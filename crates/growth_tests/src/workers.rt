@@ -79,8 +79,8 @@ fn are_wins(grown: &Grown, wins: &[u32], workers: usize) -> bool {
     wins.len() == workers && total == grown.grid().count()
 }
 
-// Whether so many workers grow the same tiles on a table, hand back its seat with all its numbers, and
-// list what each has won, and each comes to the gate once.
+// Whether so many workers grow the same tiles on a table, hand back its seat with all its numbers,
+// and list what each has won, and each comes to the gate once.
 fn is_same_on_a_table<R: Threads + Sync>(
     rt: &R,
     alloc: Global,

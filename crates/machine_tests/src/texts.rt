@@ -30,8 +30,8 @@ fn refusal(alloc: Global, text: &str) -> Option<TextStop> {
     machine(alloc, text).err()
 }
 
-// A line of the bit flipper, counted from 1, what stands there instead, and the line and the cause of
-// what refuses it.
+// A line of the bit flipper, counted from 1, what stands there instead, and the line and the cause
+// of what refuses it.
 const CHANGED: [(usize, &str, u32, Cause); 31] = [
     (1, "machine 2", 1, Cause::NoHeader),
     (1, "tiles 1", 1, Cause::NoHeader),

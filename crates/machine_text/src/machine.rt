@@ -13,8 +13,8 @@ use std::alloc::Global;
 use std::marker::Model;
 use tile_system::NoMemory;
 
-/// A Turing machine on a row of cells. States and symbols go by their numbers, from 0 in the order in which the text
-/// declares them: state 0 is the start state, and symbol 0 the blank.
+/// A Turing machine on a row of cells. States and symbols go by their numbers, from 0 in the order
+/// in which the text declares them: state 0 is the start state, and symbol 0 the blank.
 pub struct Machine {
     states: NameList,
     symbols: NameList,

@@ -9,7 +9,8 @@ use tile_system::NoMemory;
 // How many marks there are.
 const MARKS: usize = 256;
 
-/// Names, numbered from 0 in the order in which they came, beside a table of the first name of each mark.
+/// Names, numbered from 0 in the order in which they came, beside a table of the first name of each
+/// mark.
 pub struct NameList {
     names: Vec<Vec<u8>>,
     firsts: [Option<u32>; MARKS],
@@ -63,7 +64,8 @@ impl NameList {
         self.names[number as usize].as_slice()
     }
 
-    /// The number of a name, in time that grows with the number of names, where others have its mark.
+    /// The number of a name, in time that grows with the number of names, where others have its
+    /// mark.
     pub fn find(&self, name: &[u8]) -> Option<u32>
         ensures { result ≡ position (bytes_eq name.now) self.now }
     {

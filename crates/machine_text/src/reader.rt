@@ -13,7 +13,8 @@ use crate::take::take_item;
 use std::alloc::Global;
 use tile_io::{LineReader, LineStop, LineWords, MOST_INPUT, Mark, TextStop, read_text};
 
-/// Reads a machine text, up to its end line, in time that grows with its length and the number of its names.
+/// Reads a machine text, up to its end line, in time that grows with its length and the number of
+/// its names.
 pub fn read_machine(alloc: Global, text: &[u8], from: Mark) -> Result<(Machine, Mark), TextStop>
     requires short { length text.now ≤ MOST_INPUT }
     requires mark { IsMark text.now from }

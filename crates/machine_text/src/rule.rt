@@ -8,8 +8,9 @@ pub enum Turn {
     Stay,
 }
 
-/// What a machine does in a state at a symbol: the state that it goes to, the symbol that it writes, and where its head
-/// goes. States and symbols are numbered from 0 in the order in which they are declared.
+/// What a machine does in a state at a symbol: the state that it goes to, the symbol that it
+/// writes, and where its head goes. States and symbols are numbered from 0 in the order in which
+/// they are declared.
 #[derive(Clone, Copy, Debug, PartialEq, Eq)]
 pub struct Rule {
     pub state: u32,

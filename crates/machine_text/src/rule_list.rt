@@ -10,7 +10,8 @@ use std::alloc::Global;
 use std::marker::Model;
 use tile_system::NoMemory;
 
-/// The rules of a machine in their order, at most one for each state and symbol, beside a table of them.
+/// The rules of a machine in their order, at most one for each state and symbol, beside a table of
+/// them.
 pub(crate) struct RuleList {
     transitions: Vec<Transition>,
     table: Vec<Option<Rule>>,

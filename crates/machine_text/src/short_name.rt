@@ -1,4 +1,5 @@
-// Short names, as states and symbols have them: which may be declared, and which number one refers to.
+// Short names, as states and symbols have them: which may be declared, and which number one refers
+// to.
 ghost use Rattle.std.specs.Prelude.{◌≡◌, ◌≤◌, ◌<◌, length, IfOk, drop};
 ghost use Rattle.std.specs.List.{list_all};
 ghost use Rattle.std.specs.Iterator.{YieldsFirstRef};
@@ -13,7 +14,8 @@ use crate::name_list::NameList;
 use std::alloc::Global;
 use tile_io::{Cause, LineStop, LineWords, WordIter, words};
 
-/// The numbers that the words of a line behind the first refer to, each in time that grows with the number of names.
+/// The numbers that the words of a line behind the first refer to, each in time that grows with the
+/// number of names.
 pub fn find_names(alloc: Global, names: &NameList, words: &LineWords) -> Result<Vec<u32>, LineStop>
     requires { 2 ≤ length words.now }
     ensures { Refers (references names.now (drop 1 words.now)) result }

@@ -260,7 +260,8 @@ const TAKEN: [Change; 7] = [
     },
 ];
 
-// One site outside is open on one edge of the box; where all four are, the southern one is the least.
+// One site outside is open on one edge of the box; where all four are, the southern one is the
+// least.
 const OPEN: [Change; 7] = [
     Change {
         number: 7,

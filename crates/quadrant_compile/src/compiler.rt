@@ -13,9 +13,9 @@ use table_text::{NamedTable, ShortText, kind_name, label_name};
 use tile_system::{NoMemory, System};
 use tile_table::{Table, build_system};
 
-/// The system whose assembly shows the recurrence of the rules: a cell's tile names the symbols that come out of the cell
-/// to the west and out of the cell below. It has a type for each column, each row and each rule, so it takes time that
-/// grows with the number of these.
+/// The system whose assembly shows the recurrence of the rules: a cell's tile names the symbols
+/// that come out of the cell to the west and out of the cell below. It has a type for each column,
+/// each row and each rule, so it takes time that grows with the number of these.
 pub fn compile_quadrant(alloc: Global, quadrant: &Quadrant) -> Result<System, NoMemory>
     ensures { IfOk result (λ system. system ≡ woven quadrant.now) }
 {

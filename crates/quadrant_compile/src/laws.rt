@@ -1,4 +1,5 @@
-// Laws of quadrant texts and of the tiles of a quadrant, each as the contract of a function that does nothing.
+// Laws of quadrant texts and of the tiles of a quadrant, each as the contract of a function that
+// does nothing.
 ghost use Rattle.std.specs.Prelude.{◌≡◌, ◌⊎◌, ℕ, List};
 ghost use Rattle.tile_io.specs.declared.mark.Mark.{Mark};
 ghost use Rattle.tile_io.specs.declared.fault.Cause.{Cause};
@@ -28,8 +29,9 @@ pub fn law_recurrence()
     ensures one { TheRecurrenceIsOne }
 {}
 
-/// Whatever is placed, in whatever order, lies in the box and has the tile that belongs there; what nothing extends in the
-/// box shows the recurrence cell by cell, and is empty where it has none; and nothing else grows.
+/// Whatever is placed, in whatever order, lies in the box and has the tile that belongs there; what
+/// nothing extends in the box shows the recurrence cell by cell, and is empty where it has none;
+/// and nothing else grows.
 pub fn law_quadrant()
     ensures places { PlacesAreOfTheWeave }
     ensures in_box { PlacesAreInTheBox }
@@ -38,7 +40,8 @@ pub fn law_quadrant()
     ensures deterministic { WeavesAreDeterministic }
 {}
 
-/// An example: exclusive or over two columns and two rows, and the same without the rule for two ones.
+/// An example: exclusive or over two columns and two rows, and the same without the rule for two
+/// ones.
 pub fn law_example()
     ensures shown { ExclusiveOrIsShown }
     ensures stops { OnesStopAtOnce }

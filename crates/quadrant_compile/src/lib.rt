@@ -1,4 +1,5 @@
-//! Rules from two symbols to two, woven over columns and rows: their text, and the tile system that shows their recurrence.
+//! Rules from two symbols to two, woven over columns and rows: their text, and the tile system that
+//! shows their recurrence.
 #![tactic(auto)]
 
 mod border;

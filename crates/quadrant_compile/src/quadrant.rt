@@ -11,8 +11,8 @@ use std::alloc::Global;
 use std::marker::Model;
 use tile_system::NoMemory;
 
-/// Rules from two symbols to two over columns and rows, which are counted from 1, with symbols at the borders. Symbols
-/// go by their numbers, from 0 in the order in which the text declares them.
+/// Rules from two symbols to two over columns and rows, which are counted from 1, with symbols at
+/// the borders. Symbols go by their numbers, from 0 in the order in which the text declares them.
 pub struct Quadrant {
     symbols: NameList,
     rules: RuleList,
@@ -142,7 +142,8 @@ impl Quadrant {
         self.left.get(row as usize - 1).copied().unwrap_or(0)
     }
 
-    /// The pairs of symbols that have a rule, by the one from the west and then by the one from the south.
+    /// The pairs of symbols that have a rule, by the one from the west and then by the one from the
+    /// south.
     pub(crate) fn ruled(&self) -> &[(u32, u32)]
         ensures { result.now ≡ ruled_pairs self.now }
     {

@@ -17,7 +17,8 @@ use tile_io::{
     LONGEST_LINE, LineReader, LineStop, LineWords, MOST_INPUT, Mark, TextStop, read_text,
 };
 
-/// Reads a quadrant text, up to its end line, in time that grows with its length and the number of its symbols.
+/// Reads a quadrant text, up to its end line, in time that grows with its length and the number of
+/// its symbols.
 pub fn read_quadrant(alloc: Global, text: &[u8], from: Mark) -> Result<(Quadrant, Mark), TextStop>
     requires short { length text.now ≤ MOST_INPUT }
     requires mark { IsMark text.now from }
@@ -99,8 +100,8 @@ impl LineReader for QuadrantReader {
         Ok(kind.is_last())
     }
 
-    // A line of a border, which may have many words. Each other line is left, and so is one that the checks before its
-    // fields refuse.
+    // A line of a border, which may have many words. Each other line is left, and so is one that
+    // the checks before its fields refuse.
     fn take_plain(&mut self, line: &[u8]) -> Option<Result<bool, LineStop>> {
         if !may_be_of_border(line) {
             return None;

@@ -1,7 +1,7 @@
 // What a rule says.
 
-/// The symbols that a cell gives to the east and to the north. Symbols are numbered from 0 in the order in which they
-/// are declared.
+/// The symbols that a cell gives to the east and to the north. Symbols are numbered from 0 in the
+/// order in which they are declared.
 #[derive(Clone, Copy, Debug, PartialEq, Eq)]
 pub struct Answer {
     pub east: u32,

@@ -45,7 +45,8 @@ impl Model for QuadrantTiles {
 }
 
 impl QuadrantTiles {
-    /// Lists the tiles of a quadrant, in time that grows with the number of its columns, rows and rules.
+    /// Lists the tiles of a quadrant, in time that grows with the number of its columns, rows and
+    /// rules.
     pub fn new(alloc: Global, quadrant: Quadrant) -> Result<QuadrantTiles, NoMemory>
         ensures { IfOk result (λ tiles. tiles ≡ woven quadrant) }
     {

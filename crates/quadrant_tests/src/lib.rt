@@ -1,4 +1,5 @@
-//! Tests of two-input rules: their texts, their tiles, and what grows from these, by library calls and by the program.
+//! Tests of two-input rules: their texts, their tiles, and what grows from these, by library calls
+//! and by the program.
 #![tactic(auto)]
 
 #[cfg(test)]

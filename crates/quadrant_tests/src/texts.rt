@@ -33,7 +33,8 @@ fn refusal(alloc: Global, text: &str) -> Option<TextStop> {
     quadrant(alloc, text).err()
 }
 
-// A line of exclusive or, counted from 1, what stands there instead, and the line and the cause of what refuses it.
+// A line of exclusive or, counted from 1, what stands there instead, and the line and the cause of
+// what refuses it.
 const CHANGED: [(usize, &str, u32, Cause); 30] = [
     (1, "quadrant 2", 1, Cause::NoHeader),
     (1, "machine 1", 1, Cause::NoHeader),

@@ -61,8 +61,8 @@ fn fill(
     Ok(())
 }
 
-// How many sites a scout of the seat has seen before and after a look at the edges of its bands, and
-// whether it has sites of its own then.
+// How many sites a scout of the seat has seen before and after a look at the edges of its bands,
+// and whether it has sites of its own then.
 fn looked(
     alloc: Global,
     sys: &System,
@@ -91,8 +91,8 @@ fn edges(alloc: Global, sys: &System) -> Result<(u32, u32, bool), NoMemory> {
     looked(alloc, sys, &table, second, copy)
 }
 
-// The second of two workers has the rows from 32 to 63 and from 96 to 127: beside them are three rows
-// of 128 sites.
+// The second of two workers has the rows from 32 to 63 and from 96 to 127: beside them are three
+// rows of 128 sites.
 #[test]
 fn a_scout_sees_what_another_placed_at_its_edges(rt: HostRuntime) -> Result<(), Fail> {
     let sys = system(rt.alloc(), WIDE)?;

@@ -6,7 +6,8 @@ ghost use Rattle.table_text.specs.declared.short_text.TheConstants.{SHORT_ROOM};
 use crate::ShortText;
 use atam::Side;
 
-/// A tile set as a table, of kinds `K` of tiles and labels `G`, that tells all that its text says. It takes no memory.
+/// A tile set as a table, of kinds `K` of tiles and labels `G`, that tells all that its text says.
+/// It takes no memory.
 pub trait NamedTable<K, G> {
     /// The kinds and the labels, and what the methods answer of them.
     ghost tiles: { Self → TileSet K G };

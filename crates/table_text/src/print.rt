@@ -14,8 +14,8 @@ use atam::{BoxArea, Side};
 use itoa::Buffer;
 use tile_io::{Chunk, Failed, Sink};
 
-/// Prints the text of a table's system, which is not made. It takes no memory, and time that grows with the number of
-/// kinds and of labels.
+/// Prints the text of a table's system, which is not made. It takes no memory, and time that grows
+/// with the number of kinds and of labels.
 pub fn print_table<K: Copy, G: Copy, T: NamedTable<K, G>, S: Sink>(
     table: &T,
     labels: &[G],

@@ -56,8 +56,8 @@ const LONG_REMARK: &str = "#####################################################
     ################################################################\
     #################################################################";
 
-// A line of the chain, counted from 1, what stands there instead, and the line and the cause of what
-// refuses it.
+// A line of the chain, counted from 1, what stands there instead, and the line and the cause of
+// what refuses it.
 const CHANGED: [(usize, &str, u32, Cause); 25] = [
     (1, "tiles 2", 1, Cause::NoHeader),
     (1, "tiles 1\r", 1, Cause::NoHeader),

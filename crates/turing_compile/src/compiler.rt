@@ -16,9 +16,9 @@ use table_text::{NamedTable, ShortText, kind_name, label_name};
 use tile_system::{NoMemory, System};
 use tile_table::{Table, build_system};
 
-/// The system whose rows show the machine's run: row y of a complete assembly shows the configuration after y steps.
-/// It has a type for each cell, each rule, and each pair of a state and a symbol twice, so it takes time that grows with
-/// the number of these.
+/// The system whose rows show the machine's run: row y of a complete assembly shows the
+/// configuration after y steps. It has a type for each cell, each rule, and each pair of a state
+/// and a symbol twice, so it takes time that grows with the number of these.
 pub fn compile(alloc: Global, machine: &Machine) -> Result<System, NoMemory>
     ensures { IfOk result (λ system. system ≡ compiled machine.now) }
 {

@@ -12,7 +12,8 @@ use machine_text::Machine;
 use std::alloc::Global;
 use tile_system::NoMemory;
 
-/// Counts of the pairs of a state and a symbol that have a rule: of those before each pair, and of all.
+/// Counts of the pairs of a state and a symbol that have a rule: of those before each pair, and of
+/// all.
 #[derive(Drop)]
 pub struct RuleCounts {
     pub before: Vec<u32>,

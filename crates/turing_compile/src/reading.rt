@@ -18,8 +18,9 @@ use machine_text::{Config, Head, Machine};
 use std::alloc::Global;
 use tile_system::{NoMemory, Placed};
 
-/// The configuration that row y of an assembly of the machine's tiles shows; none where a cell of the row is empty, or
-/// two of its tiles show a head. It lists the kinds of tiles, and looks at each cell of the row once.
+/// The configuration that row y of an assembly of the machine's tiles shows; none where a cell of
+/// the row is empty, or two of its tiles show a head. It lists the kinds of tiles, and looks at
+/// each cell of the row once.
 pub fn row_config(
     alloc: Global,
     machine: &Machine,

@@ -45,8 +45,8 @@ impl Model for MachineTiles {
 }
 
 impl MachineTiles {
-    /// Lists the tiles of a machine, in time that grows with the number of its cells, its rules, and its pairs of a state
-    /// and a symbol.
+    /// Lists the tiles of a machine, in time that grows with the number of its cells, its rules,
+    /// and its pairs of a state and a symbol.
     pub fn new(alloc: Global, machine: Machine) -> Result<MachineTiles, NoMemory>
         ensures { IfOk result (λ tiles. tiles ≡ compiled machine) }
     {

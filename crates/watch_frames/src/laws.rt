@@ -1,8 +1,9 @@
-// Laws of how a sequence goes on over tiles, and of frames, each as the contract of a function that does nothing.
+// Laws of how a sequence goes on over tiles, and of frames, each as the contract of a function that
+// does nothing.
 ghost use Rattle.watch_frames.specs.Laws.{FramesAreLegal, FramesNeverShrink, LastFrameHasAll, HasExtension, HasOneExtension, SharesExtension, ExtendsLegally, ExtendsSeedsCanonically, ExtendsOverItself, ExtendsToGreatest, ExtendsToCanonical, GoesOnOverMore};
 
-/// A sequence goes on over tiles that it lists some of in exactly one way; from the seeds on that is
-/// the canonical order.
+/// A sequence goes on over tiles that it lists some of in exactly one way; from the seeds on that
+/// is the canonical order.
 pub fn law_extension()
     ensures exists { HasExtension }
     ensures unique { HasOneExtension }

@@ -58,8 +58,8 @@ impl Model for Watcher {
 }
 
 impl Watcher {
-    /// A watcher that has taken no frame, with the seeds listed. The grid is what the seat has seen.
-    /// All memory is taken here; where it is wanting both come back.
+    /// A watcher that has taken no frame, with the seeds listed. The grid is what the seat has
+    /// seen. All memory is taken here; where it is wanting both come back.
     pub fn make(
         alloc: Global,
         sys: &System,
@@ -94,9 +94,9 @@ impl Watcher {
         })
     }
 
-    /// Looks at each site of the box where it has seen no tile, since a tile that is there stays, and
-    /// takes a frame of what is seen then: the list goes on over it. It takes no memory, and waits
-    /// for nobody. It costs two passes over the box, and what is new to it.
+    /// Looks at each site of the box where it has seen no tile, since a tile that is there stays,
+    /// and takes a frame of what is seen then: the list goes on over it. It takes no memory, and
+    /// waits for nobody. It costs two passes over the box, and what is new to it.
     pub fn frame(&mut self, sys: &System, table: &SiteTable)
         requires seat { IsSeatOf table.now self.old.seat }
         requires system { table.now.sys ≡ sys.now }

@@ -9,8 +9,8 @@ pub(crate) fn parts(out: &[u8]) -> Option<(&str, &str)> {
     str::from_utf8(out).ok()?.split_once("grown\n")
 }
 
-// How many frames these are, where the line of each tells its number and how many places are told of
-// by then, which `check` finds legal behind their system.
+// How many frames these are, where the line of each tells its number and how many places are told
+// of by then, which `check` finds legal behind their system.
 pub(crate) fn count_of_frames<R: Threads + Wait + Sync>(
     rt: &R,
     alloc: Global,

@@ -94,8 +94,8 @@ fn count_of(grown: &Option<Grown>) -> Option<u32> {
     }
 }
 
-// How many legal frames stand before what `grow` prints of the system with the same status, where as
-// many tiles are handed out.
+// How many legal frames stand before what `grow` prints of the system with the same status, where
+// as many tiles are handed out.
 fn frames_before_growth<R: Threads + Wait + Sync>(
     rt: &R,
     alloc: Global,

@@ -39,7 +39,8 @@ fn split(table: &SiteTable, seat: SiteSeat, seeds: &Grid) -> (SiteSeat, SiteSeat
     table.split(seat)
 }
 
-// Takes three frames: before the scout claims a tile, behind its first claim, and behind its second.
+// Takes three frames: before the scout claims a tile, behind its first claim, and behind its
+// second.
 fn take_counted<L: Ledger>(
     sys: &System,
     table: &SiteTable,

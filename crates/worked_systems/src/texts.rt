@@ -43,8 +43,8 @@ fn push_row(
     Ok(())
 }
 
-/// One type that binds on all sides, in a box of 128 by 128 sites, with so many seeds at every second
-/// site of every second row, 64 in a row.
+/// One type that binds on all sides, in a box of 128 by 128 sites, with so many seeds at every
+/// second site of every second row, 64 in a row.
 pub fn scattered_seeds(alloc: Global, count: u32) -> Result<String, AllocError> {
     let mut text = String::from_str(
         alloc,
