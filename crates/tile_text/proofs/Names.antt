@@ -1,5 +1,5 @@
 -- The elements of a list differ: their names, the glues of pairs and the sites of seeds.
-use Rattle.std.proofs.Common.{◌≡◌, ◌≢◌, ℕ, ◌+◌, ◌≤◌, ◌<◌, Bool, true, false, List, [], ◌∷◌, ◌++◌, length, map, get_or, slice_get, Some, None, All, inl, inr, refl, sym, ap, subst, ◌∙◌, arith, length-append}
+use Rattle.std.proofs.Common.{◌≡◌, ◌≢◌, ℕ, pos, ◌+◌, ◌≤◌, ◌<◌, Bool, true, false, List, [], ◌∷◌, ◌++◌, length, map, get_or, slice_get, Some, None, All, inl, inr, refl, sym, ap, subst, ◌∙◌, arith, length-append}
 use Rattle.std.specs.Prelude.{bytes_eq, position, find, option_map, is_some, AllPairs, cond, ◌==◌, ◌&&◌, ◌||◌}
 use Rattle.std.specs.List.{list_any, position_or_len}
 use Rattle.std.specs.Option.{option_map_or}
@@ -15,10 +15,12 @@ use Rattle.std.proofs.lemmas.Slice.Eq.{bytes_eq-Decides}
 use Rattle.atam.specs.declared.place.GlueId.{GlueId}
 use Rattle.atam.specs.declared.place.GluePair.{GluePair}
 use Rattle.atam.specs.declared.place.Place.{Place}
+use Rattle.atam.specs.declared.place.TypeId.{TypeId}
 use Rattle.atam.specs.declared.site.Site.{Site}
 use Rattle.atam.specs.Sites.{same_site}
 use Rattle.atam.specs.TileSystem.{TileSystem, Glue, TileType, IsName, IsType, glue_name, type_name, is_name, is_pair_of}
 use Rattle.atam.proofs.Boxes.{same_site_tells}
+use Rattle.tile_system.specs.Names.{type_named}
 use Rattle.tile_system.specs.Pairs.{paired_strength}
 use Rattle.tile_system.specs.Seeds.{is_seeded}
 use Rattle.tile_system.proofs.NamedLemmas.{bytes_tell}
@@ -122,3 +124,11 @@ named_seed sys seed named distinct below =
     let Named : List ℕ → Type 0 = λ n. is_name n ≡ true in
     let Placed : List ℕ → Type 0 = λ n. position (bytes_eq n) (map (λ t. t.name) sys.types) ≡ Some seed.tile.0 in
     record { named = subst Named called (named seed.tile.0 d below); placed = subst Placed called (place_of (λ t. t.name) sys.types seed.tile.0 d distinct below) }
+
+-- a type is the one that is found by its name
+pub type_of_name : (sys : TileSystem) (t : TypeId) (name : List ℕ) → All (λ t. IsName t.name) sys.types → AllPairs (λ t u. t.name ≢ u.name) sys.types → IsType sys t → type_name sys t ≡ name → type_named sys.types name ≡ Some t.0
+type_of_name sys t name named distinct known same =
+    let p : Place = record { site = record { x = pos 0; y = pos 0 }; tile = t } in
+    let Named : List ℕ → Type 0 = λ n. type_named sys.types n ≡ Some t.0 in
+    let placed = (named_seed sys p named distinct known).placed in
+    subst Named same (sym (position_map (λ t. t.name) (bytes_eq (type_name sys t)) sys.types) ∙ placed)

@@ -1,0 +1,64 @@
+// Types that were found by their names.
+ghost use Rattle.std.specs.Prelude.{◌≡◌, ◌≢◌, ◌<◌, IsTrue, IfSome, IfNone, option_map, All};
+ghost use Rattle.atam.specs.TileSystem.{IsType, type_name};
+ghost use Rattle.tile_system.specs.Names.{type_named};
+
+use tile_system::{System, TypeId};
+
+/// The types that were last found, for a text whose lines name few types. A type has a place by the
+/// last two bytes of its name, and is found there by one comparison of names.
+#[derive(Drop)]
+pub struct FoundTypes {
+    kept: [TypeId; 256],
+}
+
+impl FoundTypes {
+    pub fn new() -> FoundTypes {
+        FoundTypes {
+            kept: [TypeId(0); 256],
+        }
+    }
+
+    /// The type with this name, as `System::find_type` gives it, which is asked where the name is
+    /// not that of the type at its place. What was found in another system does no harm.
+    pub fn find(&mut self, sys: &System, name: &[u8]) -> Option<TypeId>
+        ensures index { option_map (λ tile. tile.0) result ≡ type_named sys.now.types name.now }
+        ensures in_range { IfSome result (IsType sys.now) }
+        ensures named { IfSome result (λ tile. type_name sys.now tile ≡ name.now) }
+        ensures absent { IfNone result (All (λ tile. tile.name ≢ name.now) sys.now.types) }
+    {
+        // names of types are distinct
+        sys.recall_valid();
+        let place = place_of(name);
+        let kept = self.kept[place];
+        if has_name(sys, kept, name) {
+            return Some(kept);
+        }
+        let found = sys.find_type(name);
+        if let Some(tile) = found {
+            self.kept[place] = tile;
+        }
+        found
+    }
+}
+
+// By the last two bytes: the names that programs give differ most there.
+#[inline(always)]
+fn place_of(name: &[u8]) -> usize
+    ensures { result < 256 }
+{
+    match name {
+        [.., before, last] => usize::from(before.wrapping_mul(27).wrapping_add(*last)),
+        [last] => usize::from(*last),
+        [] => 0,
+    }
+}
+
+// Whether this is a type of the system, and has this name.
+#[inline(always)]
+fn has_name(sys: &System, tile: TypeId, name: &[u8]) -> bool
+    ensures known { IsTrue result → IsType sys.now tile }
+    ensures named { IsTrue result → type_name sys.now tile ≡ name.now }
+{
+    tile.0 < sys.type_count() && sys.type_name(tile) == name
+}
