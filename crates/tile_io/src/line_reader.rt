@@ -15,8 +15,8 @@ pub enum LineStop {
     NoMemory,
 }
 
-/// What was taken from the front of a text: the bytes of a line, with its newline, and whether it is the text's own end
-/// line.
+/// What was taken from the front of a text: the bytes of a line, with its newline, and whether it
+/// is the text's own end line.
 #[derive(Clone, Copy, Debug, PartialEq, Eq)]
 pub struct Front {
     pub length: usize,
@@ -34,8 +34,9 @@ impl From<Cause> for LineStop {
     }
 }
 
-/// What reads the lines of a kind of text: a table of its keywords, and what the fields of each make of the reader. The
-/// table may depend on a context, as on the system that a growth text follows; a line never changes the context.
+/// What reads the lines of a kind of text: a table of its keywords, and what the fields of each
+/// make of the reader. The table may depend on a context, as on the system that a growth text
+/// follows; a line never changes the context.
 pub trait LineReader {
     /// The keywords of the text.
     type Kind: Copy;
@@ -102,8 +103,9 @@ pub trait LineReader {
         None
     }
 
-    /// Takes the line at the front of what is left of a text in a form that the reader knows, without a search for its
-    /// newline. `None` leaves it to `take_bytes`, as each line where the reader knows no such form.
+    /// Takes the line at the front of what is left of a text in a form that the reader knows,
+    /// without a search for its newline. `None` leaves it to `take_bytes`, as each line where the
+    /// reader knows no such form.
     fn take_front(&mut self, rest: &[u8]) -> Option<Front>
         requires { (items : List Item) × holds self.old items }
         ensures taken { IfSome result (TakesFront (table (context self.old)) (holds self.old)

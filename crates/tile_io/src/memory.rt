@@ -1,4 +1,5 @@
-// Sources and sinks over memory. They tell their bytes, and fail at the calls that they are told to fail at.
+// Sources and sinks over memory. They tell their bytes, and fail at the calls that they are told to
+// fail at.
 ghost use Rattle.std.specs.Prelude.{◌≡◌, ◌↔◌, ◌⊎◌, ◌<◌, ◌≤◌, ◌+◌, ◌-◌, ◌++◌, [], Some, List, ℕ, min, take, drop, length, vec_capacity, IfOk, IfErr, OnErr, IsErr, IsTrue};
 ghost use Rattle.std.specs.Io.{ReadsAtMost, WritesAtMost};
 ghost use Rattle.std.specs.Io.KnownBytes.{ReadConsumes, WriteAppends};
@@ -48,7 +49,8 @@ impl Model for MemorySource {
 }
 
 impl MemorySource {
-    /// Each call gives at most `most` bytes, and the calls whose numbers (from 0) stand in `fails` fail.
+    /// Each call gives at most `most` bytes, and the calls whose numbers (from 0) stand in `fails`
+    /// fail.
     pub fn make(bytes: Vec<u8>, most: usize, fails: Vec<u32>) -> MemorySource
         requires { 1 ≤ most }
         ensures { result ≡ record {
@@ -171,8 +173,8 @@ impl Model for MemorySink {
 }
 
 impl MemorySink {
-    /// Each call takes at most `most` bytes. A call whose number (from 0) stands in `fails` fails, and so does
-    /// one that finds no room for any of its piece.
+    /// Each call takes at most `most` bytes. A call whose number (from 0) stands in `fails` fails,
+    /// and so does one that finds no room for any of its piece.
     pub fn make(
         alloc: Global,
         room: usize,

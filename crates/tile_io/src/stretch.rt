@@ -88,7 +88,8 @@ pub(crate) fn read_lines<R: LineReader>(
     }
 }
 
-// Takes the next line that is neither empty nor a remark: from the front of what is left, or by its bytes.
+// Takes the next line that is neither empty nor a remark: from the front of what is left, or by its
+// bytes.
 #[inline(always)]
 fn take_next<R: LineReader>(
     reader: &mut R,
@@ -148,7 +149,8 @@ fn stop_at(line: u32, has_header: bool, missing: Cause, stop: LineStop) -> TextS
     }
 }
 
-// The cause that a line has which fails a check: the first one of a text with a header is a missing header.
+// The cause that a line has which fails a check: the first one of a text with a header is a missing
+// header.
 fn first_cause(has_header: bool, missing: Cause, cause: Cause) -> Cause
     ensures { result ≡ first_cause has_header missing cause }
 {
