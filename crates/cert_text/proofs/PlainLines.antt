@@ -25,7 +25,7 @@ use Rattle.cert_check.specs.declared.entry.Entry.{Entry}
 use Rattle.cert_check.specs.Certificates.{places_of}
 use Rattle.cert_text.specs.CertificateLines.{side_words, sides_word}
 use Rattle.cert_text.specs.CertificateText.{sides_field, rank_field, entry_fields, mark_fields, mark_row, certificate_table}
-use Rattle.cert_text.specs.Inner.Plain.{IsPlainMark, IsMarkLine, BeginsPlain, BeginsWithMark}
+use Rattle.cert_text.specs.Inner.Plain.{IsPlainMark, BeginsPlain}
 use Rattle.cert_text.proofs.SidesWords.{sides_told}
 
 found_by : (o : Option ℕ) (n : ℕ) → ok_or o BadName ≡ Ok n → o ≡ Some n
@@ -88,6 +88,19 @@ module _ (line : List ℕ) (m : Site) (name sides rank : List ℕ) (plain : IsPl
   plain_site : site_field plain.column plain.row ≡ Ok m
   unfolding site_field
   plain_site = rw (plain.x, plain.y) refl
+
+-- the words of a `mark` line that passes its checks, with this entry
+pub record IsMarkLine (sys : TileSystem) (earlier : List Entry) (words : List (List ℕ)) (e : Entry) : Type 0 where
+  pub count : length words ≡ 6
+  pub keyword : field words 0 ≡ codes "mark"
+  pub reads : mark_fields sys earlier words ≡ Ok e
+
+-- a text begins with a `mark` line that passes its checks, and it has so many bytes with its newline
+pub record BeginsWithMark (sys : TileSystem) (earlier : List Entry) (text : List ℕ) (e : Entry) (count : ℕ) : Type 0 where
+  pub line : List ℕ
+  pub begins : BeginsWithLine text line
+  pub count_is : count ≡ length line + 1
+  pub mark : IsMarkLine sys earlier (words_of line) e
 
 -- the checks of a `mark` line in its plain form
 module _ (sys : TileSystem) (earlier : List Entry) (m : Site) (name sides rank : List ℕ) (t : TypeId) (s r : ℕ) (named : is_name name ≡ true) (found : type_named sys.types name ≡ Some t.0) (of_sides : sides_field sides ≡ Ok s)

@@ -1,5 +1,5 @@
 // A certificate is read from its text.
-ghost use Rattle.std.specs.Prelude.{◌≡◌, ◌≤◌, ◌<◌, ◌++◌, ◌∷◌, [], IfOk, IfSome, IsTrue, OnOk, OnErr, length, is_none};
+ghost use Rattle.std.specs.Prelude.{◌≡◌, ◌≤◌, ◌<◌, ◌++◌, ◌∷◌, [], Ok, IfOk, IfSome, IsTrue, OnOk, OnErr, length, is_none, true};
 ghost use Rattle.atam.specs.declared.limits.TheConstants.{MOST_TYPES};
 ghost use Rattle.atam.specs.Sites.{InBox};
 ghost use Rattle.atam.specs.Assembly.{Fits};
@@ -8,12 +8,12 @@ ghost use Rattle.atam.specs.TileSystem.{IsType};
 ghost use Rattle.tile_io.specs.NextLine.{IsMark};
 ghost use Rattle.tile_io.specs.Formats.{ReadsOrStops};
 ghost use Rattle.cert_check.specs.Certificates.{places_of};
-ghost use Rattle.cert_text.specs.CertificateText.{ReadsCertificate, certificate_format, entry_fields, mark_fields, rank_field};
-ghost use Rattle.cert_text.specs.Inner.Plain.{BeginsWithMark};
+ghost use Rattle.cert_text.specs.CertificateText.{ReadsCertificate, certificate_format, entry_fields, mark_fields, rank_field, sides_field};
+ghost use Rattle.cert_text.specs.Inner.Plain.{BeginsPlain};
 ghost use Rattle.cert_text.specs.Inner.SoFar.{AreKept};
 
 use crate::keyword::LineKind;
-use crate::plain::plain_mark;
+use crate::plain::{PlainMark, plain_mark};
 use crate::sides::read_sides;
 use assembly::Grid;
 use cert_check::{Certificate, Entry};
@@ -23,10 +23,10 @@ use tile_io::{
     read_text,
 };
 use tile_system::{NoMemory, Place, Placed, Site, System};
-use tile_text::read_place;
+use tile_text::{FoundTypes, read_place};
 
 /// Reads a certificate text to the end of the input, in time that grows with its length, where
-/// types are found by a few comparisons of names each (`System::find_type`). It takes twenty bytes
+/// types are found by a few comparisons of names each (`FoundTypes::find`). It takes twenty bytes
 /// an entry, and two a site of the box until the end.
 pub fn read_certificate(
     alloc: Global,
@@ -45,10 +45,12 @@ pub fn read_certificate(
     Ok(Certificate::of(reader.entries))
 }
 
-// The entries that were read so far, and their tiles.
+// The entries that were read so far, and their tiles. Beside them the types that the lines named
+// last.
 #[derive(Drop)]
 struct CertificateReader<'a> {
     system: &'a System,
+    found: FoundTypes,
     entries: Vec<Entry>,
     grid: Grid,
 }
@@ -113,14 +115,22 @@ impl<'a> LineReader for CertificateReader<'a> {
     // A `mark` line in its plain form that passes its checks. Each other line is left.
     #[inline(always)]
     fn take_front(&mut self, rest: &[u8]) -> Option<Front> {
-        let (entry, length) = self.read_front(rest)?;
-        match self.hold(entry) {
+        // a system is valid
+        self.system.recall_valid();
+        let mark = self.read_front(rest)?;
+        let tile = self.found.find(self.system, mark.name)?;
+        let (sides, rank) = sides_and_rank(&mark)?;
+        let place = Place {
+            site: mark.site,
+            tile,
+        };
+        match self.hold(Entry { place, sides, rank }) {
             Ok(()) => Some(Front {
-                length,
+                length: mark.length,
                 done: Ok(false),
             }),
             Err(NoMemory) => Some(Front {
-                length,
+                length: mark.length,
                 done: Err(LineStop::NoMemory),
             }),
         }
@@ -145,6 +155,7 @@ impl<'a> CertificateReader<'a> {
         };
         Ok(CertificateReader {
             system,
+            found: FoundTypes::new(),
             entries: Vec::new(alloc),
             grid,
         })
@@ -171,39 +182,25 @@ impl<'a> CertificateReader<'a> {
         Ok(entry)
     }
 
-    // The entry of the `mark` line at the front, where it is in its plain form and passes its
-    // checks, and how many bytes the line has with its newline.
+    // The `mark` line at the front, where it is in its plain form and no entry has its site.
     #[inline(always)]
-    fn read_front(&self, text: &[u8]) -> Option<(Entry, usize)>
+    fn read_front<'t>(&self, text: &'t [u8]) -> Option<PlainMark<'t>>
         requires { AreKept self.now.system.now self.now.entries.items self.now.grid }
-        ensures entry { IfSome result (λ found. BeginsWithMark
-            self.now.system.now self.now.entries.items text.now found.0 found.1) }
-        ensures inside { IfSome result (λ found.
-            InBox self.now.system.now.area found.0.place.site) }
-        ensures known { IfSome result (λ found. IsType self.now.system.now found.0.place.tile) }
-        ensures sides { IfSome result (λ found. found.0.sides < 16) }
-        ensures free { IfSome result (λ found.
-            tile_at self.now.grid.tiles found.0.place.site ≡ None) }
+        ensures plain { IfSome result (λ mark. BeginsPlain text.now mark.site mark.name.now
+            mark.sides.now mark.rank.now mark.length) }
+        ensures inside { IfSome result (λ mark. InBox self.now.system.now.area mark.site) }
+        ensures entries { IfSome result (λ mark.
+            is_none (tile_at (places_of self.now.entries.items) mark.site) ≡ true) }
+        ensures free { IfSome result (λ mark. tile_at self.now.grid.tiles mark.site ≡ None) }
     {
         let mark = plain_mark(text)?;
-        let tile = self.system.find_type(mark.name)?;
-        let Ok(sides) = read_sides(mark.sides) else {
-            return None;
-        };
-        let Ok(rank) = read_rank(mark.rank) else {
-            return None;
-        };
         if !self.system.area().holds(mark.site) {
             return None;
         }
         if !self.is_free(mark.site) {
             return None;
         }
-        let place = Place {
-            site: mark.site,
-            tile,
-        };
-        Some((Entry { place, sides, rank }, mark.length))
+        Some(mark)
     }
 
     // Whether no entry has the site.
@@ -250,6 +247,22 @@ fn read_entry(sys: &System, words: &LineWords) -> Result<Entry, Cause>
     let sides = read_sides(words.word(4))?;
     let rank = read_rank(words.word(5))?;
     Ok(Entry { place, sides, rank })
+}
+
+// The sides and the rank of a `mark` line in its plain form.
+#[inline(always)]
+fn sides_and_rank(mark: &PlainMark) -> Option<(u8, u32)>
+    ensures sides { IfSome result (λ found. sides_field mark.now.sides.now ≡ Ok found.0) }
+    ensures small { IfSome result (λ found. found.0 < 16) }
+    ensures rank { IfSome result (λ found. rank_field mark.now.rank.now ≡ Ok found.1) }
+{
+    let Ok(sides) = read_sides(mark.sides) else {
+        return None;
+    };
+    let Ok(rank) = read_rank(mark.rank) else {
+        return None;
+    };
+    Some((sides, rank))
 }
 
 // The rank of an entry.

@@ -37,7 +37,7 @@ use Rattle.seq_text.proofs.Fields.{place_of_found}
 use Rattle.seq_text.proofs.Growths.{row_named}
 use Rattle.tile_text.proofs.PlainWords.{keyword_word, name_word, name_short}
 use Rattle.seq_text.specs.PlainCoordinates.{StartsWithCoordinate}
-use Rattle.seq_text.specs.Inner.Plain.{StartsWithDigits, HasNoDigits, IsPlainPlace, IsPlaceLine, BeginsPlain, BeginsWithPlace}
+use Rattle.seq_text.specs.Inner.Plain.{StartsWithDigits, HasNoDigits, IsPlainPlace, BeginsPlain}
 
 -- what a digit is
 pub digit_bounds : (b : ℕ) → is_digit b ≡ true → (48 ≤ b) × (b ≤ 57)
@@ -256,6 +256,19 @@ module _ (line : List ℕ) (m : Site) (name : List ℕ) (plain : IsPlainPlace li
   pub plain_site : site_field plain.column plain.row ≡ Ok m
   unfolding site_field
   plain_site = rw (plain.x, plain.y) refl
+
+-- the words of a `place` line that passes its checks, with this place
+pub record IsPlaceLine (distinct : Bool) (sys : TileSystem) (earlier : List Place) (words : List (List ℕ)) (p : Place) : Type 0 where
+  pub count : length words ≡ 4
+  pub keyword : field words 0 ≡ codes "place"
+  pub reads : place_in distinct sys earlier words ≡ Ok p
+
+-- a text begins with a `place` line that passes its checks, and it has so many bytes with its newline
+pub record BeginsWithPlace (distinct : Bool) (sys : TileSystem) (earlier : List Place) (text : List ℕ) (p : Place) (count : ℕ) : Type 0 where
+  pub line : List ℕ
+  pub begins : BeginsWithLine text line
+  pub count_is : count ≡ length line + 1
+  pub place : IsPlaceLine distinct sys earlier (words_of line) p
 
 -- the checks of a `place` line in its plain form
 pub plain_line : (distinct : Bool) (sys : TileSystem) (earlier : List Place) (line : List ℕ) (m : Site) (name : List ℕ) (t : TypeId) → IsPlainPlace line m name → is_name name ≡ true → type_named sys.types name ≡ Some t.0 →

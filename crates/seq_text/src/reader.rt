@@ -10,7 +10,7 @@ ghost use Rattle.atam.specs.TileSystem.{IsType};
 ghost use Rattle.tile_text.specs.Fields.{place_field};
 ghost use Rattle.seq_text.specs.GrowthText.{GrowthItem, sequence_format, grid_format, ReadsSequence, ReadsGrid, names_of, place_fields, place_in, may_stand};
 ghost use Rattle.seq_text.specs.Inner.Kinds.{may_stand_after};
-ghost use Rattle.seq_text.specs.Inner.Plain.{BeginsWithPlace};
+ghost use Rattle.seq_text.specs.Inner.Plain.{BeginsPlain};
 ghost use Rattle.seq_text.specs.Inner.SoFar.{HasScratch};
 
 use crate::kind::LineKind;
@@ -23,10 +23,10 @@ use tile_io::{
     read_text_once,
 };
 use tile_system::{NoMemory, Place, Placed, Site, System};
-use tile_text::{read_place, read_site};
+use tile_text::{FoundTypes, read_place, read_site};
 
 /// Reads a growth text to the end of the input, as the sequence of its places, in time that grows
-/// with its length, where types are found by a few comparisons of names each (`System::find_type`).
+/// with its length, where types are found by a few comparisons of names each (`FoundTypes::find`).
 pub fn read_sequence(
     alloc: Global,
     sys: &System,
@@ -103,10 +103,11 @@ pub fn read_grid_once(
 }
 
 // What was read so far: the places, the keyword of the last line, and where sites have to differ a
-// grid of the same places.
+// grid of the same places. Beside it the types that the lines named last.
 #[derive(Drop)]
 struct GrowthReader<'a> {
     system: &'a System,
+    found: FoundTypes,
     places: Sequence,
     scratch: Option<Grid>,
     last: Option<LineKind>,
@@ -169,8 +170,11 @@ impl<'a> LineReader for GrowthReader<'a> {
     // A `place` line in its plain form that passes its checks. Each other line is left.
     #[inline(always)]
     fn take_front(&mut self, rest: &[u8]) -> Option<Front> {
-        let (place, length) = self.read_front(rest)?;
-        match self.hold(place) {
+        // a system is valid
+        self.system.recall_valid();
+        let PlainPlace { site, name, length } = self.read_front(rest)?;
+        let tile = self.found.find(self.system, name)?;
+        match self.hold(Place { site, tile }) {
             Ok(()) => Some(Front {
                 length,
                 done: Ok(false),
@@ -199,6 +203,7 @@ impl<'a> GrowthReader<'a> {
     {
         GrowthReader {
             system,
+            found: FoundTypes::new(),
             places: Sequence::make(alloc),
             scratch: None,
             last: None,
@@ -218,6 +223,7 @@ impl<'a> GrowthReader<'a> {
         };
         Ok(GrowthReader {
             system,
+            found: FoundTypes::new(),
             places: Sequence::make(alloc),
             scratch: Some(grid),
             last: None,
@@ -266,32 +272,31 @@ impl<'a> GrowthReader<'a> {
         Ok(place)
     }
 
-    // The place of the `place` line at the front, where it is in its plain form and passes its
-    // checks, and how many bytes the line has with its newline.
+    // The `place` line at the front, where it is in its plain form, may stand here, and has a site
+    // where a tile may be placed.
     #[inline(always)]
-    fn read_front(&self, text: &[u8]) -> Option<(Place, usize)>
+    fn read_front<'t>(&self, text: &'t [u8]) -> Option<PlainPlace<'t>>
         requires { HasScratch self.now.system.now self.now.places self.now.scratch }
         ensures follows { IfSome result (λ _.
             may_stand_after LineKind.Place self.now.last ≡ true) }
-        ensures place { IfSome result (λ found. BeginsWithPlace (is_some self.now.scratch)
-            self.now.system.now self.now.places text.now found.0 found.1) }
-        ensures inside { IfSome result (λ found. InBox self.now.system.now.area found.0.site) }
-        ensures small { IfSome result (λ found. found.0.tile.0 < MOST_TYPES) }
-        ensures free { IfSome result (λ found.
-            may_stand (is_some self.now.scratch) self.now.places found.0.site ≡ true) }
+        ensures plain { IfSome result (λ place.
+            BeginsPlain text.now place.site place.name.now place.length) }
+        ensures inside { IfSome result (λ place. InBox self.now.system.now.area place.site) }
+        ensures free { IfSome result (λ place.
+            may_stand (is_some self.now.scratch) self.now.places place.site ≡ true) }
     {
         if !LineKind::Place.may_stand(self.last) {
             return None;
         }
-        let PlainPlace { site, name, length } = plain_place(text)?;
-        let tile = self.system.find_type(name)?;
+        let place = plain_place(text)?;
+        let site = place.site;
         if !self.system.area().holds(site) {
             return None;
         }
         if !self.is_free(site) {
             return None;
         }
-        Some((Place { site, tile }, length))
+        Some(place)
     }
 
     // Whether a tile may be placed at a site after those that were read.
