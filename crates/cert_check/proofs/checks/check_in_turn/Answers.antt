@@ -4,7 +4,7 @@ use Rattle.type_index.specs.HeldTypes.{FirstHeldBut}
 use Rattle.cert_check.specs.Certificates.{IsHeldExactly, places_of}
 use Rattle.cert_check.proofs.Beside.{entry_near, entry_kind, stand_beside}
 use Rattle.cert_check.proofs.EntryChecks.{held_throughout, not_held, sum_is, first_loose_is, none_loose, least_rival_is, no_rival_is}
-use Rattle.cert_check.proofs.checks.check_attached.Goals as goal
+use Rattle.cert_check.proofs.checks.check_in_turn.Goals as goal
 
 pub glues_beside-glues-requires-clause-near : goal.glues_beside-glues-requires-clause-near
 glues_beside-glues-requires-clause-near c = entry_near c.args.sys.now c.args.listing.now.entries c.args.entry.now c.requires.fits c.requires.listed c.requires.valid
@@ -72,12 +72,6 @@ returns-in-Some-clause-verdict c =
 
 pub returns-in-Some-clause-known : goal.returns-in-Some-clause-known
 returns-in-Some-clause-known c = c.requires.known
-
-pub found-requires-clause-known : goal.found-requires-clause-known
-found-requires-clause-known c = c.requires.known
-
-pub found-requires-clause-index : goal.found-requires-clause-index
-found-requires-clause-index c = c.requires.index
 
 pub returns-in-Some-other_than-clause-verdict : goal.returns-in-Some-other_than-clause-verdict
 returns-in-Some-other_than-clause-verdict c =
