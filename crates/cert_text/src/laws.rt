@@ -13,8 +13,8 @@ ghost use Rattle.cert_text.specs.PrintedCertificates.{MayBePrinted, ReadsBack};
 /// text, whatever stands before them. Behind the system's one text, or behind that of the newest
 /// version, the input reads, from its start, as this system and then as these entries.
 pub fn law_certificate_reads_printed()
-    ensures lines { (sys : TileSystem) (c : List Entry) (text : List ℕ) (from : Mark) → IsValid sys →
-        MayBePrinted sys c → drop from.at text ≡ mark_lines sys c →
+    ensures lines { (sys : TileSystem) (c : List Entry) (text : List ℕ) (from : Mark) →
+        IsValid sys → MayBePrinted sys c → drop from.at text ≡ mark_lines sys c →
         ReadsCertificate sys text from c }
     ensures input { (sys : TileSystem) (c : List Entry) → IsValid sys → MayBePrinted sys c →
         ReadsBack (version_of sys) sys c }

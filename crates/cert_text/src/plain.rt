@@ -1,4 +1,5 @@
-// A `mark` line in its plain form, which is read from the front of a text without being cut into words.
+// A `mark` line in its plain form, which is read from the front of a text without being cut into
+// words.
 ghost use Rattle.std.specs.Prelude.{◌≡◌, ◌++◌, ◌∷◌, IfSome};
 ghost use Rattle.cert_text.specs.Inner.Plain.{BeginsPlain, IsPlainMark};
 
@@ -6,7 +7,8 @@ use atam::LONGEST_NAME;
 use seq_text::{plain_coordinate, plain_end};
 use tile_system::Site;
 
-/// The site of a line in its plain form, the words behind it, and how many bytes the line has with its newline.
+/// The site of a line in its plain form, the words behind it, and how many bytes the line has with
+/// its newline.
 #[derive(Drop)]
 pub(crate) struct PlainMark<'a> {
     pub(crate) site: Site,
@@ -16,7 +18,8 @@ pub(crate) struct PlainMark<'a> {
     pub(crate) length: usize,
 }
 
-/// What a text has at its front, if it begins with a `mark` line and the words are those of an entry.
+/// What a text has at its front, if it begins with a `mark` line and the words are those of an
+/// entry.
 #[inline(always)]
 pub(crate) fn plain_mark(text: &[u8]) -> Option<PlainMark<'_>>
     ensures { IfSome result (λ mark. BeginsPlain text.now mark.site mark.name.now mark.sides.now

@@ -25,9 +25,9 @@ use tile_io::{
 use tile_system::{NoMemory, Place, Placed, Site, System};
 use tile_text::read_place;
 
-/// Reads a certificate text to the end of the input, in time that grows with its length, where types
-/// are found by a few comparisons of names each (`System::find_type`). It takes twenty bytes an
-/// entry, and two a site of the box until the end.
+/// Reads a certificate text to the end of the input, in time that grows with its length, where
+/// types are found by a few comparisons of names each (`System::find_type`). It takes twenty bytes
+/// an entry, and two a site of the box until the end.
 pub fn read_certificate(
     alloc: Global,
     sys: &System,
@@ -171,14 +171,15 @@ impl<'a> CertificateReader<'a> {
         Ok(entry)
     }
 
-    // The entry of the `mark` line at the front, where it is in its plain form and passes its checks, and how many bytes the
-    // line has with its newline.
+    // The entry of the `mark` line at the front, where it is in its plain form and passes its
+    // checks, and how many bytes the line has with its newline.
     #[inline(always)]
     fn read_front(&self, text: &[u8]) -> Option<(Entry, usize)>
         requires { AreKept self.now.system.now self.now.entries.items self.now.grid }
         ensures entry { IfSome result (λ found. BeginsWithMark
             self.now.system.now self.now.entries.items text.now found.0 found.1) }
-        ensures inside { IfSome result (λ found. InBox self.now.system.now.area found.0.place.site) }
+        ensures inside { IfSome result (λ found.
+            InBox self.now.system.now.area found.0.place.site) }
         ensures known { IfSome result (λ found. IsType self.now.system.now found.0.place.tile) }
         ensures sides { IfSome result (λ found. found.0.sides < 16) }
         ensures free { IfSome result (λ found.
@@ -221,7 +222,8 @@ impl<'a> CertificateReader<'a> {
         requires known { IsType self.old.system.now entry.place.tile }
         requires sides { entry.sides < 16 }
         requires free { tile_at self.old.grid.tiles entry.place.site ≡ None }
-        ensures added { OnOk result (self.new.entries.items ≡ self.old.entries.items ++ entry ∷ []) }
+        ensures added { OnOk result
+            (self.new.entries.items ≡ self.old.entries.items ++ entry ∷ []) }
         ensures left { OnErr result (self.new.entries.items ≡ self.old.entries.items) }
         ensures kept { AreKept self.new.system.now self.new.entries.items self.new.grid }
         ensures system { self.new.system.now ≡ self.old.system.now }

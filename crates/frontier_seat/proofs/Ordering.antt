@@ -1,7 +1,8 @@
 -- Tiles at the least open site, in their order.
-use Rattle.std.proofs.Common.{◌≡◌, ◌<◌, ◌≤◌, ◌+◌, ◌-◌, ◌^◌, ◌++◌, ℕ, length, length-append, List, [], ◌∷◌, map, All, Contains, append-nil, append_assoc, sym, ◌∙◌, ap, subst, arith}
+use Rattle.std.proofs.Common.{◌≡◌, ◌<◌, ◌≤◌, ◌+◌, ◌-◌, ◌^◌, ◌++◌, ℕ, true, length, length-append, List, [], ◌∷◌, map, take, All, Contains, append-nil, append_assoc, sym, ◌∙◌, ap, subst, inl, inr, arith}
 use Rattle.std.proofs.lemmas.Int.{ints}
 use Rattle.std.proofs.lemmas.List.{length-map, map_push}
+use Rattle.std.proofs.lemmas.Option.{slice_get_within}
 use Rattle.std.proofs.lemmas.List.Elements.{All-nil, All-push, Contains-append_right}
 use Rattle.atam.specs.declared.site.Site.{Site}
 use Rattle.atam.specs.declared.place.TypeId.{TypeId}
@@ -9,13 +10,14 @@ use Rattle.atam.specs.declared.place.Place.{Place}
 use Rattle.atam.specs.Sites.{InBox, IsBefore, IsBox, width_of}
 use Rattle.atam.specs.Placements.{SamePlacements, HasDistinctSites}
 use Rattle.atam.specs.TileSystem.{TileSystem, IsValid}
-use Rattle.atam.specs.Assembly.{Fits}
+use Rattle.atam.specs.Assembly.{Fits, pull}
 use Rattle.atam.specs.Canonical.{IsCanonical}
 use Rattle.atam.specs.Growth.{IsCandidate, IsClosedInBox, IsFullGrowth}
 use Rattle.atam.specs.LeastFirst.{FillsLeast}
 use Rattle.atam.specs.Growth.{IsLegal}
-use Rattle.atam.proofs.Canon.{canonical_too}
+use Rattle.atam.proofs.Canon.{canonical_too, canonical_unique}
 use Rattle.atam.proofs.Count.{count_in_box}
+use Rattle.atam.proofs.Lists.{push_cases}
 use Rattle.atam.proofs.LeastFirst.{FillsLeast-push, FillsLeast-seeds, canonical_of}
 use Rattle.atam.proofs.Opening.{Fits-part, IsCandidate-same}
 use Rattle.atam.proofs.Sequences.{IsLegal-distinct, IsLegal-seeds, IsLegal-push}
@@ -25,13 +27,15 @@ use Rattle.assembly.specs.Grids.{TileGrid}
 use Rattle.assembly.proofs.Cells.{index_of, not_before}
 use Rattle.grow_core.specs.Steps.{place}
 use Rattle.number_set.specs.Numbers.{Numbers, IsIn, IsLeastOf}
+use Rattle.type_index.specs.Clean.{CameExact, ComesClean, ComesExact, GrewExact}
+use Rattle.type_index.proofs.Settling.{exact_same}
 use Rattle.frontier_seat.specs.declared.growing.Growing.{Growing}
 use Rattle.frontier_seat.specs.declared.work_list.Spot.{Spot}
 use Rattle.frontier_seat.specs.Growths.{IsGrowing}
-use Rattle.frontier_seat.specs.Orders.{AreCanonicalClaims}
-use Rattle.frontier_seat.specs.Inner.Fillings.{Fills, GrewByNumbers, GrewInOrder, IsFilling}
+use Rattle.frontier_seat.specs.Orders.{AreCanonicalClaims, LoggedClaims}
+use Rattle.frontier_seat.specs.Inner.Fillings.{Fills, GrewByLog, GrewInOrder, IsFilling}
 use Rattle.frontier_seat.specs.Inner.Listings.{IsSpot}
-use Rattle.frontier_seat.specs.Inner.Looks.{ClaimsAt, IsClosedBut}
+use Rattle.frontier_seat.specs.Inner.Looks.{IsClosedBut, LogsClaim}
 
 -- the seeds alone
 pub order_start : (sys : TileSystem) (tiles order : List Place) → IsValid sys → SamePlacements sys.seeds tiles → order ≡ sys.seeds → GrewInOrder sys tiles order
@@ -74,20 +78,45 @@ pub order_stays : (sys : TileSystem) (tiles after old new : List Place) → afte
 order_stays sys tiles after old new same_tiles same order =
     subst (λ (l : List Place). GrewInOrder sys l new) (sym same_tiles) (subst (λ (l : List Place). GrewInOrder sys tiles l) (sym same) order)
 
+-- the seeds alone came clean
+came_seeds : (sys : TileSystem) (s : List Place) → s ≡ sys.seeds → CameExact sys s
+came_seeds sys s alone = subst (CameExact sys) (sym alone) (record {
+  clean = λ i p later there. let within = slice_get_within sys.seeds i p there in absurd (omega (arith, later, within));
+  exact = λ i p later there. let within = slice_get_within sys.seeds i p there in absurd (omega (arith, later, within));
+})
+
+-- one place more that comes clean
+came_more : (sys : TileSystem) (s : List Place) (p : Place) → CameExact sys s → ComesExact sys s p.site p.tile → CameExact sys (s ++ p ∷ [])
+came_more sys s p came comes = record {
+  clean = λ i q later there. elim (push_cases s p i q there) [
+    | inl h ↦ subst (λ (l : List Place). ComesClean sys l q.site q.tile) (sym h.1) (came.clean i q later h.0)
+    | inr h ↦
+        subst (λ (r : Place). ComesClean sys (take i (s ++ p ∷ [])) r.site r.tile) h.0 (subst (λ (l : List Place). ComesClean sys l p.site p.tile) (sym h.1) comes.clean)
+  ];
+  exact = λ i q later there. elim (push_cases s p i q there) [
+    | inl h ↦ subst (λ (l : List Place). pull sys l q.site q.tile ≡ sys.tau) (sym h.1) (came.exact i q later h.0)
+    | inr h ↦
+        subst (λ (r : Place). pull sys (take i (s ++ p ∷ [])) r.site r.tile ≡ sys.tau) h.0 (subst (λ (l : List Place). pull sys l p.site p.tile ≡ sys.tau) (sym h.1) comes.exact)
+  ];
+}
+
 -- no claim yet
-pub numbers_start : (sys : TileSystem) (tiles : List Place) (numbers : List ℕ) → IsValid sys → SamePlacements sys.seeds tiles → numbers ≡ [] → GrewByNumbers sys tiles numbers
-numbers_start sys tiles numbers valid same none = record {
+pub claims_start : (sys : TileSystem) (tiles : List Place) (log : LoggedClaims) → IsValid sys → SamePlacements sys.seeds tiles → log.numbers ≡ [] → GrewByLog sys tiles log
+claims_start sys tiles log valid same none = record {
   claims = [];
   sites = ap (map (site_at sys.area)) (sym none);
   within = subst (All (λ n. n < cell_count sys.area)) (sym none) (All-nil (λ n. n < cell_count sys.area));
   grew = order_start sys tiles (sys.seeds ++ []) valid same (append-nil sys.seeds);
+  clean = λ said. came_seeds sys (sys.seeds ++ []) (append-nil sys.seeds);
 }
 
 -- one claim more of who owns all numbers
-pub numbers_more : (sys : TileSystem) (before after : Growing) (spot : Spot) (old new : List ℕ) → IsGrowing sys before → IsSpot sys.area spot → before.seat.scout.owned ≡ 2 ^ 64 - 1 →
+pub claims_more : (sys : TileSystem) (before after : Growing) (spot : Spot) (old new : LoggedClaims) → IsGrowing sys before → IsSpot sys.area spot → before.seat.scout.owned ≡ 2 ^ 64 - 1 →
     ((n : Site) (u : TypeId) → InBox sys.area n → IsCandidate sys before.grid.tiles n u → ¬ IsBefore n spot.site) →
-    ClaimsAt sys spot.site before after → new ≡ old ++ spot.number ∷ [] → GrewByNumbers sys before.grid.tiles old → GrewByNumbers sys after.grid.tiles new
-numbers_more sys before after spot old new growing is all least claim longer order =
+    LogsClaim sys spot before after old new → GrewByLog sys before.grid.tiles old → GrewByLog sys after.grid.tiles new
+claims_more sys before after spot old new growing is all least logs order =
+    let claim = logs.claim in
+    let longer = logs.numbers in
     let p : Place = place spot.site claim.tile in
     let claims = order.claims in
     let fills : Fills sys spot.site before.grid.tiles after.grid.tiles (sys.seeds ++ claims) (sys.seeds ++ (claims ++ p ∷ [])) =
@@ -95,15 +124,22 @@ numbers_more sys before after spot old new growing is all least claim longer ord
     record {
       claims = claims ++ p ∷ [];
       sites = map_push (λ (q : Place). q.site) claims p ∙ ap (λ (l : List Site). l ++ spot.site ∷ []) order.sites
-          ∙ ap (λ (m : Site). map (site_at sys.area) old ++ m ∷ []) (sym is.site) ∙ sym (map_push (site_at sys.area) old spot.number) ∙ ap (map (site_at sys.area)) (sym longer);
-      within = subst (All (λ n. n < cell_count sys.area)) (sym longer) (All-push (λ n. n < cell_count sys.area) old spot.number order.within is.within);
+          ∙ ap (λ (m : Site). map (site_at sys.area) old.numbers ++ m ∷ []) (sym is.site) ∙ sym (map_push (site_at sys.area) old.numbers spot.number) ∙ ap (map (site_at sys.area)) (sym longer);
+      within = subst (All (λ n. n < cell_count sys.area)) (sym longer) (All-push (λ n. n < cell_count sys.area) old.numbers spot.number order.within is.within);
       grew = order_more sys before.grid.tiles after.grid.tiles spot.site (sys.seeds ++ claims) (sys.seeds ++ (claims ++ p ∷ [])) growing.distinct least fills order.grew;
+      clean = λ said.
+          let clear = logs.clean said in
+          let tiles = before.grid.tiles in
+          let listed = sys.seeds ++ claims in
+          let same : SameTiles tiles listed = SameTiles-from tiles listed growing.distinct (same_back listed tiles order.grew.same) in
+          let comes = exact_same sys tiles listed spot.site claim.tile same (clear.1 claim.tile (claim.sole all)) in
+          subst (CameExact sys) (append_assoc sys.seeds claims (p ∷ [])) (came_more sys listed p (order.clean clear.0) comes);
     }
 
 -- or none
-pub numbers_stay : (sys : TileSystem) (before after : Growing) (old new : List ℕ) → after ≡ before → new ≡ old → GrewByNumbers sys before.grid.tiles old → GrewByNumbers sys after.grid.tiles new
-numbers_stay sys before after old new same_growing same order =
-    subst (λ (g : Growing). GrewByNumbers sys g.grid.tiles new) (sym same_growing) (subst (λ (l : List ℕ). GrewByNumbers sys before.grid.tiles l) (sym same) order)
+pub claims_stay : (sys : TileSystem) (before after : Growing) (old new : LoggedClaims) → after ≡ before → new ≡ old → GrewByLog sys before.grid.tiles old → GrewByLog sys after.grid.tiles new
+claims_stay sys before after old new same_growing same order =
+    subst (λ (g : Growing). GrewByLog sys g.grid.tiles new) (sym same_growing) (subst (λ (l : LoggedClaims). GrewByLog sys before.grid.tiles l) (sym same) order)
 
 -- at most as many tiles as the box has sites
 pub few_logged : (sys : TileSystem) (tiles order : List Place) → IsValid sys → Fits sys tiles → GrewInOrder sys tiles order → length order ≤ cell_count sys.area
@@ -111,11 +147,11 @@ few_logged sys tiles order valid fits grew =
     count_in_box sys.area order (IsLegal-distinct sys order valid.distinct_seeds grew.legal) (Fits-part sys order tiles grew.same.part fits).sites
 
 -- and as many claims, beside the seeds
-pub few_claims : (sys : TileSystem) (tiles : List Place) (numbers : List ℕ) → IsValid sys → Fits sys tiles → GrewByNumbers sys tiles numbers → length numbers + length sys.seeds ≤ cell_count sys.area
-few_claims sys tiles numbers valid fits order =
+pub few_claims : (sys : TileSystem) (tiles : List Place) (log : LoggedClaims) → IsValid sys → Fits sys tiles → GrewByLog sys tiles log → length log.numbers + length sys.seeds ≤ cell_count sys.area
+few_claims sys tiles log valid fits order =
     let few = few_logged sys tiles (sys.seeds ++ order.claims) valid fits order.grew in
     let both = length-append sys.seeds order.claims in
-    let many : length order.claims ≡ length numbers = sym (length-map order.claims (λ (p : Place). p.site)) ∙ (ap length order.sites ∙ length-map numbers (site_at sys.area)) in
+    let many : length order.claims ≡ length log.numbers = sym (length-map order.claims (λ (p : Place). p.site)) ∙ (ap length order.sites ∙ length-map log.numbers (site_at sys.area)) in
     omega (arith, few, both, many)
 
 -- growth in order has its canonical sequence
@@ -125,9 +161,9 @@ canonical_order sys tiles order valid fits grew =
     canonical_too sys order tiles grew.same order (canonical_of sys order valid.distinct_seeds order_fits grew.legal grew.least)
 
 -- by the numbers of its sites, too
-pub canonical_claims : (sys : TileSystem) (tiles : List Place) (numbers : List ℕ) → IsValid sys → Fits sys tiles → GrewByNumbers sys tiles numbers → AreCanonicalClaims sys tiles numbers
-canonical_claims sys tiles numbers valid fits order =
-    let few = few_claims sys tiles numbers valid fits order in
+pub canonical_claims : (sys : TileSystem) (tiles : List Place) (log : LoggedClaims) → IsValid sys → Fits sys tiles → GrewByLog sys tiles log → AreCanonicalClaims sys tiles log.numbers
+canonical_claims sys tiles log valid fits order =
+    let few = few_claims sys tiles log valid fits order in
     let stand = λ (p : Place) (c : Contains order.claims p). order.grew.same.part p (Contains-append_right sys.seeds order.claims p c) in
     record {
       claims = order.claims;
@@ -139,7 +175,13 @@ canonical_claims sys tiles numbers valid fits order =
       canonical = canonical_order sys tiles (sys.seeds ++ order.claims) valid fits order.grew;
     }
 
--- and is a full one once the box is closed
+-- each place of which came clean, if it is said so
+pub grew_exact : (sys : TileSystem) (tiles : List Place) (log : LoggedClaims) → IsValid sys → HasDistinctSites tiles → Fits sys tiles → GrewByLog sys tiles log → log.clean ≡ true → GrewExact sys tiles
+grew_exact sys tiles log valid distinct fits order said s canonical =
+    let own = canonical_order sys tiles (sys.seeds ++ order.claims) valid fits order.grew in
+    subst (CameExact sys) (canonical_unique sys tiles distinct (sys.seeds ++ order.claims) s own canonical) (order.clean said)
+
+-- growth in order is a full one once the box is closed
 pub full_growth : (sys : TileSystem) (grid : TileGrid) (order : List Place) → IsFilling sys grid → IsClosedInBox sys grid.tiles → GrewInOrder sys grid.tiles order → IsFullGrowth sys grid.tiles
 full_growth sys grid order filling closed grew = record {
   distinct = filling.distinct;

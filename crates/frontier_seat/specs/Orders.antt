@@ -1,5 +1,5 @@
 -- The order in which a scout claims, where it always claims the least open site.
-use Rattle.std.specs.Prelude.{◌≡◌, ℕ, ◌≤◌, ◌<◌, List, ◌++◌, All, length, map}
+use Rattle.std.specs.Prelude.{◌≡◌, ℕ, ◌≤◌, ◌<◌, Bool, List, ◌++◌, All, length, map}
 use Rattle.atam.specs.declared.place.Place.{Place}
 use Rattle.atam.specs.TileSystem.{TileSystem}
 use Rattle.atam.specs.Placements.{IsPartOf}
@@ -7,10 +7,11 @@ use Rattle.atam.specs.Assembly.{Fits}
 use Rattle.atam.specs.Canonical.{IsCanonical}
 use Rattle.assembly.specs.Cells.{cell_count, site_at}
 
--- numbers, and how many there is room for without more memory
-pub record RoomyNumbers : Type 0 where
+-- the numbers of the sites of claims, how many there is room for without more memory, and whether it is clear that each claim came clean, held by exactly the temperature
+pub record LoggedClaims : Type 0 where
   pub numbers : List ℕ
   pub room : ℕ
+  pub clean : Bool
 
 -- Behind the seeds, the tiles at the sites of the box with these numbers are the canonical sequence.
 pub record AreCanonicalClaims (sys : TileSystem) (tiles : List Place) (numbers : List ℕ) : Type 0 where

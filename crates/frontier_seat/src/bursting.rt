@@ -66,7 +66,8 @@ pub(crate) fn spend<C: Chooser, L: Ledger>(
         let Some(spot) = work.take(chooser.start(count)) else {
             return;
         };
-        if look(sys, table, growing, chooser, picker, spot, work, steps) {
+        let seen = look(sys, table, growing, chooser, picker, spot, work, steps);
+        if seen.claims {
             left -= 1;
         }
     }
@@ -120,7 +121,7 @@ fn attaches<C: Chooser>(
     sys.recall_valid();
     let beside = growing.grid.beside_at(spot.site, spot.number);
     let found = picker.pick(sys, &growing.grid, spot.site, &beside, chooser);
-    if let Some(_tile) = found {
+    if let Some(_tile) = found.tile {
         return true;
     }
     false

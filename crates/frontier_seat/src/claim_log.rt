@@ -1,5 +1,5 @@
 // The sites of claims, in their order.
-ghost use Rattle.std.specs.Prelude.{◌≡◌, ◌<◌, ◌≤◌, [], ◌∷◌, ◌++◌, length, IfOk};
+ghost use Rattle.std.specs.Prelude.{◌≡◌, ◌<◌, ◌≤◌, [], ◌∷◌, ◌++◌, true, length, IfOk, IsTrue};
 ghost use Rattle.atam.specs.Sites.{IsBox};
 ghost use Rattle.atam.specs.Canonical.{IsCanonical};
 ghost use Rattle.assembly.specs.Cells.{cell_count};
@@ -11,19 +11,25 @@ use std::marker::Model;
 use tile_system::{BoxArea, NoMemory, Place, System};
 
 /// The numbers of the sites that were claimed, in their order: four bytes a site of the box. The
-/// types that stand there are a grid's.
+/// types that stand there are a grid's. It is kept too whether each claim came clean, as far as that
+/// was clear when it was made.
 #[derive(Drop)]
 pub struct ClaimLog {
     numbers: Vec<u32>,
+    clean: bool,
 }
 
 impl Model for ClaimLog {
     ghost use Rattle.std.specs.Prelude.{vec_capacity};
-    ghost use Rattle.frontier_seat.specs.Orders.{RoomyNumbers};
+    ghost use Rattle.frontier_seat.specs.Orders.{LoggedClaims};
 
-    ghost Value = { RoomyNumbers };
+    ghost Value = { LoggedClaims };
 
-    ghost view = { λ l. record { numbers = l.numbers.items; room = vec_capacity l.numbers } };
+    ghost view = { λ l. record {
+      numbers = l.numbers.items;
+      room = vec_capacity l.numbers;
+      clean = l.clean;
+    } };
 }
 
 impl ClaimLog {
@@ -36,17 +42,27 @@ impl ClaimLog {
         let count = area.width() as usize * area.height() as usize;
         Ok(ClaimLog {
             numbers: Vec::with_capacity(alloc, count)?,
+            clean: true,
         })
     }
 
-    // One claim more.
+    // One claim more, and whether it is clear that it came clean.
     #[inline(always)]
-    pub(crate) fn push(&mut self, number: u32)
+    pub(crate) fn push(&mut self, number: u32, clean: bool)
         requires { length self.old.numbers < self.old.room }
         ensures numbers { self.new.numbers ≡ self.old.numbers ++ number ∷ [] }
         ensures room { self.new.room ≡ self.old.room }
+        ensures clean { IsTrue self.new.clean → (self.old.clean ≡ true) × (clean ≡ true) }
     {
         self.numbers.push_reserved(number);
+        self.clean = self.clean && clean;
+    }
+
+    /// Whether it is clear that each claim came clean, held by exactly the temperature.
+    pub fn is_clean(&self) -> bool
+        ensures { result ≡ self.now.clean }
+    {
+        self.clean
     }
 
     /// The canonical sequence of a grid whose tiles were claimed in this order.

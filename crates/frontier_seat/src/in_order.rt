@@ -55,7 +55,7 @@ fn fill<C: Chooser>(
     sys.recall_valid();
     let Spot { site, number } = spot;
     let beside = grid.beside_at(site, number);
-    let Some(tile) = picker.pick(sys, grid, site, &beside, chooser) else {
+    let Some(tile) = picker.pick(sys, grid, site, &beside, chooser).tile else {
         return;
     };
     let place = Place { site, tile };

@@ -1,9 +1,11 @@
 // Which of the types that attach at a site is claimed.
-ghost use Rattle.std.specs.Prelude.{◌≡◌, None, IfOk};
+ghost use Rattle.std.specs.Prelude.{◌≡◌, None, IfOk, IsTrue};
 ghost use Rattle.atam.specs.Sites.{IsNearSite};
 ghost use Rattle.atam.specs.Placements.{tile_at};
 ghost use Rattle.atam.specs.Assembly.{Fits};
 ghost use Rattle.tile_system.specs.Neighbors.{StandBeside};
+ghost use Rattle.type_index.specs.Clean.{OpensExact};
+ghost use Rattle.type_index.specs.Findings.{SumsUpCandidates};
 ghost use Rattle.type_index.specs.Indexes.{IsIndexOf};
 ghost use Rattle.frontier_seat.specs.Inner.Looks.{IsOpenType};
 ghost use Rattle.frontier_seat.specs.Inner.Pickers.{IsPickerOf};
@@ -13,7 +15,15 @@ use crate::types::Types;
 use assembly::Grid;
 use std::alloc::Global;
 use tile_system::{Beside, NoMemory, Site, System, TypeId};
-use type_index::{FacingCache, HeldList};
+use type_index::{FacingCache, Found, HeldList};
+
+// One of the types that attach at a site, if any does, and whether it is clear that whichever
+// attaches comes clean, held by exactly the temperature.
+#[derive(Clone, Copy)]
+pub(crate) struct Pick {
+    pub(crate) tile: Option<TypeId>,
+    pub(crate) clean: bool,
+}
 
 // An index of types, what was found by it before, and the types that were listed last.
 pub(crate) struct Picker<'i> {
@@ -59,18 +69,45 @@ impl<'i> Picker<'i> {
         site: Site,
         beside: &Beside,
         chooser: &mut C,
+    ) -> Pick
+        requires picker { IsPickerOf sys.now self.old }
+        requires near { IsNearSite site }
+        requires empty { tile_at grid.now.tiles site ≡ None }
+        requires beside { StandBeside grid.now.tiles site beside.now }
+        requires fits { Fits sys.now grid.now.tiles }
+        ensures open { IsOpenType sys.now grid.now.tiles site result.tile }
+        ensures clean { IsTrue result.clean → OpensExact sys.now grid.now.tiles site }
+        ensures picker { IsPickerOf sys.now self.new }
+    {
+        let sighting = self
+            .cache
+            .sight_beside(sys, self.types.index(), grid, site, beside);
+        Pick {
+            tile: self.pick_found(sys, grid, site, beside, sighting.found, chooser),
+            clean: sighting.clean,
+        }
+    }
+
+    // One of the types that were found at the site.
+    #[inline(always)]
+    fn pick_found<C: Chooser>(
+        &mut self,
+        sys: &System,
+        grid: &Grid,
+        site: Site,
+        beside: &Beside,
+        found: Found,
+        chooser: &mut C,
     ) -> Option<TypeId>
         requires picker { IsPickerOf sys.now self.old }
         requires near { IsNearSite site }
         requires empty { tile_at grid.now.tiles site ≡ None }
         requires beside { StandBeside grid.now.tiles site beside.now }
         requires fits { Fits sys.now grid.now.tiles }
+        requires found { SumsUpCandidates sys.now grid.now.tiles site found }
         ensures open { IsOpenType sys.now grid.now.tiles site result }
         ensures picker { IsPickerOf sys.now self.new }
     {
-        let found = self
-            .cache
-            .found_beside(sys, self.types.index(), grid, site, beside);
         if found.count > 2 {
             return self.pick_listed(sys, grid, site, beside, chooser);
         }

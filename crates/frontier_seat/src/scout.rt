@@ -1,5 +1,5 @@
 // A scout that claims until nothing attaches to what it has seen.
-ghost use Rattle.std.specs.Prelude.{◌≡◌, ◌⊎◌, ◌<◌, ◌≤◌, ◌+◌, ◌-◌, ◌^◌, [], ℕ, None, length, MatchBool, IfOk, IfErr};
+ghost use Rattle.std.specs.Prelude.{◌≡◌, ◌⊎◌, ◌<◌, ◌≤◌, ◌+◌, ◌-◌, ◌^◌, [], ℕ, None, length, MatchBool, IfOk, IfErr, IsTrue};
 ghost use Rattle.atam.specs.TileSystem.{IsValid};
 ghost use Rattle.atam.specs.Placements.{SamePlacements, tile_at};
 ghost use Rattle.atam.specs.Growth.{IsClosedInBox};
@@ -8,6 +8,7 @@ ghost use Rattle.site_table.specs.Seats.{IsSeatOf};
 ghost use Rattle.site_table.specs.Laws.{IsFinal};
 ghost use Rattle.frontier_seat.specs.Growths.{EndsBurst, IsGrowing, GrowsOn};
 ghost use Rattle.frontier_seat.specs.Orders.{AreCanonicalClaims};
+ghost use Rattle.type_index.specs.Clean.{GrewExact, OpensExact};
 ghost use Rattle.type_index.specs.Indexes.{IsIndexOf};
 ghost use Rattle.number_set.specs.Numbers.{IsIn};
 ghost use Rattle.frontier_seat.specs.Inner.Listings.{AreEmptySites, IsSpot};
@@ -17,7 +18,7 @@ ghost use Rattle.frontier_seat.specs.Inner.Pickers.{IsPickerOf};
 use crate::beside_seeds::list_beside_seeds;
 use crate::bursting::{is_open, spend};
 use crate::catching::see_edges;
-use crate::picking::Picker;
+use crate::picking::{Pick, Picker};
 use crate::sweeping::look_in_order;
 use crate::types::Types;
 use crate::work_list::{Spot, WorkList};
@@ -72,6 +73,14 @@ impl<'i> Model for Scout<'i> {
         × MayList s.growing.seat.sys s.growing.grid.tiles s.listed s.work.numbers };
 }
 
+// What a look at a site was: whether a type attached, and whether it is clear that whichever
+// attached comes clean, held by exactly the temperature.
+#[derive(Clone, Copy)]
+pub(crate) struct Look {
+    pub(crate) claims: bool,
+    pub(crate) clean: bool,
+}
+
 // Looks at one empty site that is listed no longer, and claims it for a type that attaches. It
 // tells whether there is one.
 #[inline(always)]
@@ -84,7 +93,7 @@ pub(crate) fn look<C: Chooser, L: Ledger>(
     spot: Spot,
     work: &mut WorkList,
     steps: &mut Steps<L>,
-) -> bool
+) -> Look
     requires seat { IsSeatOf table.now growing.old.seat }
     requires system { table.now.sys ≡ sys.now }
     requires growing { IsGrowing sys.now growing.old }
@@ -97,8 +106,9 @@ pub(crate) fn look<C: Chooser, L: Ledger>(
     requires closed { IsClosedBut sys.now growing.old.grid.tiles
         (λ n. IsIn work.old.numbers n ⊎ (n ≡ spot.number)) }
     ensures looks { LooksAt sys.now growing.old growing.new work.old.numbers work.new.numbers }
-    ensures claims { MatchBool result (ClaimsAt sys.now spot.site growing.old growing.new)
+    ensures claims { MatchBool result.claims (ClaimsAt sys.now spot.site growing.old growing.new)
         (growing.new ≡ growing.old) }
+    ensures clean { IsTrue result.clean → OpensExact sys.now growing.old.grid.tiles spot.site }
     ensures picker { IsPickerOf sys.now picker.new }
     ensures area { work.new.area ≡ work.old.area }
     ensures cost { steps.new + length growing.old.grid.tiles
@@ -106,12 +116,19 @@ pub(crate) fn look<C: Chooser, L: Ledger>(
 {
     sys.recall_valid();
     let beside = growing.grid.beside_at(spot.site, spot.number);
-    let Some(tile) = picker.pick(sys, &growing.grid, spot.site, &beside, chooser) else {
-        return false;
+    let Pick { tile, clean } = picker.pick(sys, &growing.grid, spot.site, &beside, chooser);
+    let Some(tile) = tile else {
+        return Look {
+            claims: false,
+            clean,
+        };
     };
     growing.claim(sys, table, spot, tile, steps);
     work.list_around(&growing.grid, spot, &beside);
-    true
+    Look {
+        claims: true,
+        clean,
+    }
 }
 
 // Lists the empty sites beside what was seen, if that wasn't done before.
@@ -262,7 +279,8 @@ impl<'i> Scout<'i> {
 
     /// The same for who owns all numbers and has seen the seeds alone: it always claims the least
     /// open site, and logs it. With the seeds before them, the claims are then the canonical sequence
-    /// of what has grown (`law_least_first`).
+    /// of what has grown (`law_least_first`), and the log says whether it is clear that each of them
+    /// came clean.
     pub fn sweep_in_order<C: Chooser, L: Ledger>(
         &mut self,
         sys: &System,
@@ -282,6 +300,7 @@ impl<'i> Scout<'i> {
         ensures seen { SamePlacements self.new.seat.scout.seen self.new.grid.tiles }
         ensures last { IsFinal sys.now self.new.seat.scout }
         ensures order { AreCanonicalClaims sys.now self.new.grid.tiles log.new.numbers }
+        ensures clean { IsTrue log.new.clean → GrewExact sys.now self.new.grid.tiles }
         ensures cost { steps.new + length self.old.grid.tiles
             ≡ steps.old + length self.new.grid.tiles }
         ensures few { steps.new < steps.old + cell_count sys.now.area }

@@ -7,9 +7,9 @@ ghost use Rattle.assembly.specs.Cells.{cell_count};
 ghost use Rattle.site_table.specs.Seats.{IsSeatOf};
 ghost use Rattle.number_set.specs.Numbers.{IsIn};
 ghost use Rattle.frontier_seat.specs.Growths.{IsGrowing, GrowsOn};
-ghost use Rattle.frontier_seat.specs.Inner.Fillings.{GrewByNumbers};
+ghost use Rattle.frontier_seat.specs.Inner.Fillings.{GrewByLog};
 ghost use Rattle.frontier_seat.specs.Inner.Listings.{AreEmptySites, IsSpot};
-ghost use Rattle.frontier_seat.specs.Inner.Looks.{IsClosedBut, ListsOpen, LogsClaim, LooksAt};
+ghost use Rattle.frontier_seat.specs.Inner.Looks.{IsClosedBut, ListsOpen, LooksAt, MayLogClaim};
 ghost use Rattle.frontier_seat.specs.Inner.Pickers.{IsPickerOf};
 
 use crate::picking::Picker;
@@ -48,7 +48,7 @@ pub(crate) fn look_in_order<C: Chooser, L: Ledger>(
     ensures growing { IsGrowing sys.now growing.new }
     ensures goes { GrowsOn growing.old growing.new }
     ensures closed { IsClosedInBox sys.now growing.new.grid.tiles }
-    ensures order { GrewByNumbers sys.now growing.new.grid.tiles log.new.numbers }
+    ensures order { GrewByLog sys.now growing.new.grid.tiles log.new }
     ensures picker { IsPickerOf sys.now picker.new }
     ensures area { work.new.area ≡ work.old.area }
     ensures lists { ListsOpen sys.now growing.new.grid.tiles work.new.numbers }
@@ -91,8 +91,7 @@ fn look_logged<C: Chooser, L: Ledger>(
         (λ n. IsIn work.old.numbers n ⊎ (n ≡ spot.number)) }
     requires room { length log.old.numbers < log.old.room }
     ensures looks { LooksAt sys.now growing.old growing.new work.old.numbers work.new.numbers }
-    ensures logs { LogsClaim sys.now spot growing.old growing.new
-        log.old.numbers log.new.numbers }
+    ensures logs { MayLogClaim sys.now spot growing.old growing.new log.old log.new }
     ensures picker { IsPickerOf sys.now picker.new }
     ensures area { work.new.area ≡ work.old.area }
     ensures room { log.new.room ≡ log.old.room }
@@ -100,8 +99,9 @@ fn look_logged<C: Chooser, L: Ledger>(
         ≡ steps.old + length growing.new.grid.tiles }
 {
     sys.recall_valid();
-    if !look(sys, table, growing, chooser, picker, spot, work, steps) {
+    let seen = look(sys, table, growing, chooser, picker, spot, work, steps);
+    if !seen.claims {
         return;
     }
-    log.push(spot.number as u32);
+    log.push(spot.number as u32, seen.clean);
 }

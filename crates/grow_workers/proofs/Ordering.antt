@@ -3,9 +3,12 @@ use Rattle.std.proofs.Common.{◌≡◌, ◌-◌, ◌^◌, ◌++◌, ℕ, List, 
 use Rattle.atam.specs.declared.place.Place.{Place}
 use Rattle.atam.specs.TileSystem.{TileSystem}
 use Rattle.atam.specs.Placements.{SamePlacements}
-use Rattle.atam.proofs.Canon.{canonical_too}
+use Rattle.atam.specs.Canonical.{IsCanonical}
 use Rattle.atam.specs.Growth.{IsClosedInBox}
+use Rattle.atam.proofs.Canon.{canonical_too}
+use Rattle.atam.proofs.Tiles.{same_back}
 use Rattle.assembly.specs.Grids.{TileGrid}
+use Rattle.type_index.specs.Clean.{CameExact, GrewExact}
 use Rattle.site_table.specs.Seats.{SeatValue}
 use Rattle.frontier_seat.specs.Orders.{AreCanonicalClaims}
 use Rattle.grow_workers.specs.Inner.Wins.{PartedGrowth}
@@ -35,3 +38,7 @@ claims_left sys tiles left numbers same order = record {
   stand = λ p c. same.part p (order.stand p c);
   canonical = canonical_too sys tiles left same (sys.seeds ++ order.claims) order.canonical;
 }
+
+-- where what grew came clean, so did the canonical sequence of what is left
+pub exact_left : (sys : TileSystem) (tiles left order : List Place) → SamePlacements tiles left → GrewExact sys tiles → IsCanonical sys left order → CameExact sys order
+exact_left sys tiles left order same grew canonical = grew order (canonical_too sys left tiles (same_back tiles left same) order canonical)

@@ -1,9 +1,10 @@
 // Growth by one worker in canonical order.
-ghost use Rattle.std.specs.Prelude.{◌≡◌, ◌<◌, ◌≤◌, ◌-◌, ◌^◌, [], IfOk};
+ghost use Rattle.std.specs.Prelude.{◌≡◌, ◌<◌, ◌≤◌, ◌-◌, ◌^◌, [], true, IfOk};
 ghost use Rattle.atam.specs.Placements.{SamePlacements};
 ghost use Rattle.atam.specs.Canonical.{IsCanonical};
 ghost use Rattle.atam.specs.Growth.{IsClosedInBox};
 ghost use Rattle.assembly.specs.Cells.{cell_count};
+ghost use Rattle.type_index.specs.Clean.{CameExact, GrewExact};
 ghost use Rattle.type_index.specs.Indexes.{IsIndexOf};
 ghost use Rattle.frontier_seat.specs.Orders.{AreCanonicalClaims};
 ghost use Rattle.grow_workers.specs.Workers.{IsGrownBy};
@@ -26,6 +27,15 @@ use tile_io::{Gate, Steps};
 use tile_system::{NoMemory, System};
 use type_index::TypeIndex;
 
+/// What has grown in canonical order, that order, and whether it is clear that each tile but the
+/// seeds came clean, held by exactly the temperature.
+#[derive(Drop)]
+pub struct GrownInOrder {
+    pub grown: Grown,
+    pub order: Sequence,
+    pub clean: bool,
+}
+
 /// What `grow` leaves with one worker and the choice 0, and its canonical sequence, which is the
 /// order of its claims: no pass has to find it. An index of the system's types is lent to it. It
 /// calls the gate once, before its first claim.
@@ -38,6 +48,26 @@ pub fn grow_in_order_by_index<G: Gate>(
     requires { IsIndexOf sys.now types.now }
     ensures growth { IfOk result (λ r. IsGrownBy sys.now 1 r.0) }
     ensures order { IfOk result (λ r. IsCanonical sys.now r.0.grid.tiles r.1) }
+{
+    let GrownInOrder {
+        grown,
+        order,
+        clean: _clean,
+    } = grow_in_order_seeing(alloc, sys, types, gate)?;
+    Ok((grown, order))
+}
+
+/// The same, and whether it is clear that each tile came clean, which was seen as it was claimed.
+pub fn grow_in_order_seeing<G: Gate>(
+    alloc: Global,
+    sys: &System,
+    types: &TypeIndex,
+    gate: &G,
+) -> Result<GrownInOrder, NoMemory>
+    requires { IsIndexOf sys.now types.now }
+    ensures growth { IfOk result (λ r. IsGrownBy sys.now 1 r.grown) }
+    ensures order { IfOk result (λ r. IsCanonical sys.now r.grown.grid.tiles r.order) }
+    ensures clean { IfOk result (λ r. r.clean ≡ true → CameExact sys.now r.order) }
 {
     sys.recall_valid();
     let Prepared { table, seat, seen } = prepare(alloc, sys)?;
@@ -58,7 +88,12 @@ pub fn grow_in_order_by_index<G: Gate>(
     grid.clear();
     let grown = table.close(part.seat, grid);
     let order = log.sequence_of(alloc, sys, grown.grid())?;
-    Ok((grown, order))
+    let clean = log.is_clean();
+    Ok(GrownInOrder {
+        grown,
+        order,
+        clean,
+    })
 }
 
 // One sweep of who owns all numbers, from the seeds on, always at the least open site, with a log
@@ -78,6 +113,8 @@ fn sweep_logged<G: Gate>(
     ensures closed { IfOk result (λ r. IsClosedInBox shared.now.sys.now r.0.grid.tiles) }
     ensures order { IfOk result
         (λ r. AreCanonicalClaims shared.now.sys.now r.0.grid.tiles r.1.numbers) }
+    ensures clean { IfOk result
+        (λ r. r.1.clean ≡ true → GrewExact shared.now.sys.now r.0.grid.tiles) }
 {
     let mut log = ClaimLog::make(alloc, shared.sys.area())?;
     shared.gate.arrive(0);
@@ -105,6 +142,8 @@ fn sweep_counted<L: Ledger, G: Gate>(
     ensures closed { IfOk result (λ r. IsClosedInBox shared.now.sys.now r.grid.tiles) }
     ensures order { IfOk result
         (λ r. AreCanonicalClaims shared.now.sys.now r.grid.tiles log.new.numbers) }
+    ensures clean { IfOk result
+        (λ r. log.new.clean ≡ true → GrewExact shared.now.sys.now r.grid.tiles) }
 {
     let mut scout = scout_of(alloc, shared, seat, seen)?;
     let mut chooser = RngChooser::make(Lcg64Xsh32::new(0, 0));

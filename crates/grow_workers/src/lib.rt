@@ -15,5 +15,5 @@ mod starts;
 mod team;
 
 pub use growth::{grow, grow_by_index, grow_on};
-pub use in_order::grow_in_order_by_index;
+pub use in_order::{GrownInOrder, grow_in_order_by_index, grow_in_order_seeing};
 pub use numbers::worker_number;

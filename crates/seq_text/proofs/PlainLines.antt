@@ -1,12 +1,12 @@
 -- A `place` line in its plain form reads as its place.
-use Rattle.std.proofs.Common.{◌≡◌, ℕ, zero, suc, ◌+◌, ◌-◌, ◌*◌, ◌^◌, ◌≤◌, ◌<◌, ◌==◌, Bool, true, false, cond, List, [], ◌∷◌, ◌++◌, length, take, drop, get_or, codes, pos, Option, Some, None, Ok, inl, inr, refl, sym, ap, subst, ◌∙◌, append_assoc, length-append, arith, length-take-le, length-drop}
+use Rattle.std.proofs.Common.{◌≡◌, ◌≢◌, All, min, ℕ, zero, suc, ◌+◌, ◌-◌, ◌*◌, ◌^◌, ◌≤◌, ◌<◌, ◌==◌, Bool, true, false, cond, List, [], ◌∷◌, ◌++◌, length, take, drop, get_or, codes, pos, Option, Some, None, Ok, inl, inr, refl, sym, ap, subst, ◌∙◌, append_assoc, length-append, arith, length-take-le, length-drop}
 use Rattle.std.specs.Prelude.{ℤ, neg_ℤ, int_le, nat_le, find, bytes_eq, option_map}
 use Rattle.std.proofs.Math.ListN.{get_or-append}
 use Rattle.std.proofs.Math.Nat.{pow-le-pow_right}
 use Rattle.std.proofs.Math.Seq.{get_or-append_seam}
 use Rattle.std.proofs.lemmas.Bool.{cases_order, eqb-true, ne_eqb, le-leb, leb-true, and_parts}
-use Rattle.std.proofs.lemmas.List.{take-append-drop, drop_more, take_all, get_or-take}
-use Rattle.std.proofs.lemmas.List.Elements.{All-cons, All-from_recursion}
+use Rattle.std.proofs.lemmas.List.{take-append-drop, drop_more, take_all, get_or-take, length-take}
+use Rattle.std.proofs.lemmas.List.Elements.{All-cons, All-from_get_or, All-from_recursion}
 use Rattle.std.proofs.lemmas.List.Sums.{fold_more}
 use Rattle.tile_io.specs.declared.fault.Cause.TheVariants.{BadNumber}
 use Rattle.tile_io.specs.Lines.{words_of, BeginsWithLine}
@@ -63,6 +63,15 @@ byte_at bytes byte i within is =
     let back : drop i bytes ≡ byte ∷ rest = drop_more bytes i 0 within ∙ ap (λ b. b ∷ rest) is in
     let whole : take (length bytes - (i + 1)) rest ≡ rest = take_all (length bytes - (i + 1)) rest (omega (arith, length-drop (i + 1) bytes)) in
     sym (take-append-drop i bytes) ∙ ap (λ l. take i bytes ++ l) (back ∙ ap (λ l. byte ∷ l) (sym whole))
+
+-- no such byte among the first ones, where none up to an index is one
+pub none_before : (bytes : List ℕ) (byte n i : ℕ) → ((k : ℕ) → k < n → k < length bytes → k < i) → ((k : ℕ) → k < i → get_or bytes k 0 ≡ byte → ⊥) → All (λ b. b ≢ byte) (take n bytes)
+none_before bytes byte n i up_to before =
+    All-from_get_or (λ b. b ≢ byte) (take n bytes) 0 (λ k less.
+    let size : length (take n bytes) ≡ min n (length bytes) = length-take n bytes in
+    let first : k < n = omega (arith, less, size) in
+    let inside : k < length bytes = omega (arith, less, size) in
+    λ same. before k (up_to k first inside) (sym (get_or-take n bytes k 0 first) ∙ same))
 
 -- the digits in front of a space
 pub digits_before : (bytes : List ℕ) (i size : ℕ) → 0 < i → i ≤ 6 → i < length bytes → get_or bytes i 0 ≡ 32 → ((k : ℕ) → k < i → is_digit (get_or bytes k 0) ≡ true) →

@@ -19,7 +19,8 @@ ghost use Rattle.grow_core.specs.declared.event.Event.{Event};
 ghost use Rattle.seq_text.specs.GrowthText.{growth_format, ReadsPlaces, ReadsSequence, ReadsPlacements};
 ghost use Rattle.seq_text.specs.ScheduleText.{schedule_format, ReadsEvents};
 
-/// Each text, from each start, as a sequence or as a grid, either reads as one list of places or has one fault.
+/// Each text, from each start, as a sequence or as a grid, either reads as one list of places or
+/// has one fault.
 pub fn law_growth_one_of_two()
     ensures one { (distinct : Bool) (sys : TileSystem) (text : List ℕ) (from : Mark) →
         IsRead (growth_format distinct sys) text from
@@ -38,8 +39,8 @@ pub fn law_growth_one_of_two()
         Fault (growth_format distinct sys) text from n b → (m ≡ n) × (a ≡ b) }
 {}
 
-/// What a growth text reads as is of types of the system, within its box, and no longer than the text. The sites differ
-/// where it is read as a grid.
+/// What a growth text reads as is of types of the system, within its box, and no longer than the
+/// text. The sites differ where it is read as a grid.
 pub fn law_growth_fits()
     ensures sequence { (sys : TileSystem) (text : List ℕ) (from : Mark) (places : List Place) →
         ReadsSequence sys text from places → Fits sys places }
@@ -50,8 +51,9 @@ pub fn law_growth_fits()
         ReadsPlaces (growth_format distinct sys) text from places → length places ≤ length text }
 {}
 
-/// The lines of places that fit a valid system, then maybe a `closed` line and then maybe the line on local determinism, read
-/// as these places, to the end of the text, whatever stands before them. As a grid they do where their sites differ.
+/// The lines of places that fit a valid system, then maybe a `closed` line and then maybe the line
+/// on local determinism, read as these places, to the end of the text, whatever stands before them.
+/// As a grid they do where their sites differ.
 pub fn law_growth_reads_printed()
     ensures sequence { (sys : TileSystem) (places : List Place)
         (closed : Option (Option (Site × TypeId))) (verdict : Option Verdict)

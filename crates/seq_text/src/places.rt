@@ -12,7 +12,8 @@ use std::marker::Model;
 use tile_io::{Chunk, Failed, Sink};
 use tile_system::{Place, System};
 
-// The most bytes that a line may have: a keyword, two numbers of 32 bits and a name, behind each a space or the newline.
+// The most bytes that a line may have: a keyword, two numbers of 32 bits and a name, behind each a
+// space or the newline.
 const LONGEST_PLACE_LINE: usize = 5 + 1 + 11 + 1 + 11 + 1 + 40 + 1;
 
 /// The pieces of `place` lines: the names of a system's first types, and numbers as they were last

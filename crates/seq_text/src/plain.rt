@@ -1,5 +1,6 @@
-// A `place` line in its plain form, which is read from the front of a text without being cut into words.
-ghost use Rattle.std.specs.Prelude.{◌≡◌, ◌∷◌, ◌++◌, ℕ, ℤ, List, false, IfNone, IfSome};
+// A `place` line in its plain form, which is read from the front of a text without being cut into
+// words.
+ghost use Rattle.std.specs.Prelude.{◌≡◌, ◌≢◌, ◌≤◌, ◌+◌, ◌∷◌, ◌++◌, ℕ, ℤ, List, All, false, length, take, IfNone, IfSome};
 ghost use Rattle.tile_io.specs.Checks.{is_digit, starts_with_minus};
 ghost use Rattle.seq_text.specs.PlainCoordinates.{StartsWithCoordinate};
 ghost use Rattle.seq_text.specs.Inner.Plain.{BeginsPlain, HasNoDigits, IsPlainPlace, StartsWithDigits};
@@ -43,11 +44,14 @@ fn plain_site(text: &[u8]) -> Option<(Site, &[u8])>
     Some((Site { x, y }, fields))
 }
 
-/// The last word of a line in its plain form, and what stands behind the newline after it, if no more bytes are in front of
-/// the newline than a name has.
+/// What stands in front of the first newline, and what stands behind it, if no more bytes are in
+/// front of it than a name has.
 #[inline(always)]
 pub fn plain_end(bytes: &[u8]) -> Option<(&[u8], &[u8])>
-    ensures { IfSome result (λ found. bytes.now ≡ found.0.now ++ 10 ∷ found.1.now) }
+    ensures cut { IfSome result (λ found. bytes.now ≡ found.0.now ++ 10 ∷ found.1.now) }
+    ensures first { IfSome result (λ found. All (λ byte. byte ≢ 10) found.0.now) }
+    ensures few { IfSome result (λ found. length found.0.now ≤ LONGEST_NAME) }
+    ensures none { IfNone result (All (λ byte. byte ≢ 10) (take (LONGEST_NAME + 1) bytes.now)) }
 {
     for index in 0..bytes.len().min(LONGEST_NAME + 1) {
         let byte = bytes[index];

@@ -266,8 +266,8 @@ impl<'a> GrowthReader<'a> {
         Ok(place)
     }
 
-    // The place of the `place` line at the front, where it is in its plain form and passes its checks, and how many bytes
-    // the line has with its newline.
+    // The place of the `place` line at the front, where it is in its plain form and passes its
+    // checks, and how many bytes the line has with its newline.
     #[inline(always)]
     fn read_front(&self, text: &[u8]) -> Option<(Place, usize)>
         requires { HasScratch self.now.system.now self.now.places self.now.scratch }

@@ -16,7 +16,8 @@ pub fn print_stuck<K: Sink>(left: u32, least: Site, sink: &mut K) -> Result<(), 
     print_site(left, least, sink)
 }
 
-/// Writes the `stuck` line of an assembly that lacks a seed, the one of this site. It takes no memory.
+/// Writes the `stuck` line of an assembly that lacks a seed, the one of this site. It takes no
+/// memory.
 pub fn print_stuck_seed<K: Sink>(site: Site, sink: &mut K) -> Result<(), Failed>
     ensures { Prints K.written K.faults sink.old sink.new result (stuck_seed_line site) }
 {

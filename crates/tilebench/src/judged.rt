@@ -1,19 +1,19 @@
 // The verdict on an assembly.
-ghost use Rattle.std.specs.Prelude.{◌≡◌, IfOk, IfSome};
-ghost use Rattle.atam.specs.Canonical.{IsCanonical};
+ghost use Rattle.std.specs.Prelude.{◌≡◌, true, IfOk, IfSome};
 ghost use Rattle.atam.specs.Growth.{IsClosedInBox, IsLeastOpenOutside, IsProducible};
+ghost use Rattle.type_index.specs.Clean.{CameExact};
 ghost use Rattle.type_index.specs.Indexes.{IsIndexOf};
 ghost use Rattle.replay_order.specs.ReplayAnswers.{IsWholeOrder};
 ghost use Rattle.local_check.specs.Judgement.{IsVerdict};
 ghost use Rattle.grow_workers.specs.Workers.{IsGrownBy};
 ghost use Rattle.tilebench.specs.Growths.{is_unique};
-ghost use Rattle.tilebench.specs.Inner.Rooms.{IsJudgedGrowth};
+ghost use Rattle.tilebench.specs.Inner.Rooms.{IsJudgedGrowth, IsSeenOrder};
 
-use crate::order::{grow_ordered, order_of};
+use crate::order::{SeenOrder, grow_ordered, order_of};
 use crate::resources::{Crew, Resources};
 use assembly::{Grid, Sequence};
 use fan_out::WorkerCount;
-use local_check::{Verdict, inputs_by_index, judge_closed, judge_grown};
+use local_check::{Verdict, inputs_by_index, judge_clean, judge_closed, judge_grown};
 use site_table::Grown;
 use std::thread::Threads;
 use tile_io::Gate;
@@ -57,12 +57,12 @@ fn judge_growth<R: Threads + Sync, G: Gate>(
     sys: &System,
     types: &TypeIndex,
     grown: &Grown,
-    known: Option<Sequence>,
+    known: Option<SeenOrder>,
     workers: WorkerCount,
 ) -> Result<JudgedGrowth, NoMemory>
     requires index { IsIndexOf sys.now types.now }
     requires grew { IsGrownBy sys.now workers.count grown.now }
-    requires known { IfSome known (IsCanonical sys.now grown.now.grid.tiles) }
+    requires known { IfSome known (IsSeenOrder sys.now grown.now.grid.tiles) }
     ensures { IfOk result (IsJudgedGrowth sys.now grown.now.grid.tiles) }
 {
     judge_grid(resources, sys, types, grown.grid(), known, workers)
@@ -74,20 +74,20 @@ pub fn judge_grid<R: Threads + Sync, G: Gate>(
     sys: &System,
     types: &TypeIndex,
     grid: &Grid,
-    known: Option<Sequence>,
+    known: Option<SeenOrder>,
     workers: WorkerCount,
 ) -> Result<JudgedGrowth, NoMemory>
     requires index { IsIndexOf sys.now types.now }
     requires area { grid.now.area ≡ sys.now.area }
     requires producible { IsProducible sys.now grid.now.tiles }
     requires closed { IsClosedInBox sys.now grid.now.tiles }
-    requires known { IfSome known (IsCanonical sys.now grid.now.tiles) }
+    requires known { IfSome known (IsSeenOrder sys.now grid.now.tiles) }
     ensures { IfOk result (IsJudgedGrowth sys.now grid.now.tiles) }
 {
     grid.recall_sites();
-    let order = order_of(resources, sys, grid, known, workers)?;
+    let SeenOrder { order, clean } = order_of(resources, sys, grid, known, workers)?;
     let outside = types.least_open_outside(sys, grid);
-    let verdict = verdict_on(resources, sys, types, grid, &order, outside, workers)?;
+    let verdict = verdict_on(resources, sys, types, grid, &order, clean, outside, workers)?;
     Ok(JudgedGrowth {
         order,
         verdict,
@@ -96,24 +96,30 @@ pub fn judge_grid<R: Threads + Sync, G: Gate>(
 }
 
 // The verdict on a full growth in its order, by the least open site outside the box. One worker
-// looks at each place as it comes, several look at ranges of them.
+// looks at each place as it comes, several look at ranges of them, and none where it is known that
+// each came clean.
 fn verdict_on<R: Threads + Sync, G: Gate>(
     resources: &Resources<'_, R, G>,
     sys: &System,
     types: &TypeIndex,
     grid: &Grid,
     order: &Sequence,
+    clean: bool,
     outside: Option<(Site, TypeId)>,
     workers: WorkerCount,
 ) -> Result<Verdict, NoMemory>
     requires index { IsIndexOf sys.now types.now }
     requires area { grid.now.area ≡ sys.now.area }
     requires order { IsWholeOrder sys.now grid.now.tiles order.now }
+    requires clean { clean ≡ true → CameExact sys.now order.now }
     requires closed { IsClosedInBox sys.now order.now }
     requires outside { IsLeastOpenOutside sys.now order.now outside }
     ensures { IfOk result (IsVerdict sys.now order.now) }
 {
     let alloc = resources.alloc;
+    if clean {
+        return Ok(judge_clean(sys, order, outside));
+    }
     if workers.get() == 1 {
         return judge_grown(alloc, sys, order, types, outside);
     }

@@ -1,16 +1,17 @@
 // The canonical order of a producible assembly, and growth that goes in it.
-ghost use Rattle.std.specs.Prelude.{◌≡◌, Ok, IfOk, IfErr, IfSome, IsErr};
+ghost use Rattle.std.specs.Prelude.{◌≡◌, true, Ok, IfOk, IfErr, IfSome, IsErr};
 ghost use Rattle.atam.specs.Assembly.{Fits};
-ghost use Rattle.atam.specs.Canonical.{IsCanonical};
 ghost use Rattle.atam.specs.Growth.{IsProducible};
+ghost use Rattle.type_index.specs.Clean.{CameExact};
 ghost use Rattle.type_index.specs.Indexes.{IsIndexOf};
 ghost use Rattle.grow_workers.specs.Workers.{IsGrownBy};
 ghost use Rattle.replay_order.specs.ReplayAnswers.{IsWholeOrder};
+ghost use Rattle.tilebench.specs.Inner.Rooms.{IsSeenOrder};
 
 use crate::resources::{Crew, Resources};
 use assembly::{Grid, Sequence};
 use fan_out::WorkerCount;
-use grow_workers::{grow_by_index, grow_in_order_by_index};
+use grow_workers::{GrownInOrder, grow_by_index, grow_in_order_seeing};
 use replay_order::{ReplayStop, replay, replay_by};
 use site_table::Grown;
 use std::alloc::Global;
@@ -19,6 +20,14 @@ use tile_io::Gate;
 use tile_system::{NoMemory, System};
 use type_index::TypeIndex;
 
+/// The canonical order of what has grown, and whether it is clear that each tile but the seeds came
+/// clean, held by exactly the temperature.
+#[derive(Drop)]
+pub struct SeenOrder {
+    pub order: Sequence,
+    pub clean: bool,
+}
+
 /// Grows a system, and tells its canonical order too where growth went in it, as by one worker
 /// with the choice 0. The index of the types is lent.
 pub fn grow_ordered<R: Threads + Sync, G: Gate>(
@@ -26,10 +35,10 @@ pub fn grow_ordered<R: Threads + Sync, G: Gate>(
     sys: &System,
     types: &TypeIndex,
     crew: Crew,
-) -> Result<(Grown, Option<Sequence>), NoMemory>
+) -> Result<(Grown, Option<SeenOrder>), NoMemory>
     requires { IsIndexOf sys.now types.now }
     ensures grew { IfOk result (λ r. IsGrownBy sys.now crew.workers.count r.0) }
-    ensures order { IfOk result (λ r. IfSome r.1 (IsCanonical sys.now r.0.grid.tiles)) }
+    ensures order { IfOk result (λ r. IfSome r.1 (IsSeenOrder sys.now r.0.grid.tiles)) }
 {
     let alloc = resources.alloc;
     let gate = resources.gate;
@@ -48,14 +57,18 @@ fn grow_alone<G: Gate>(
     types: &TypeIndex,
     workers: WorkerCount,
     gate: &G,
-) -> Result<(Grown, Option<Sequence>), NoMemory>
+) -> Result<(Grown, Option<SeenOrder>), NoMemory>
     requires index { IsIndexOf sys.now types.now }
     requires one { workers.count ≡ 1 }
     ensures grew { IfOk result (λ r. IsGrownBy sys.now workers.count r.0) }
-    ensures order { IfOk result (λ r. IfSome r.1 (IsCanonical sys.now r.0.grid.tiles)) }
+    ensures order { IfOk result (λ r. IfSome r.1 (IsSeenOrder sys.now r.0.grid.tiles)) }
 {
-    let (grown, order) = grow_in_order_by_index(alloc, sys, types, gate)?;
-    Ok((grown, Some(order)))
+    let GrownInOrder {
+        grown,
+        order,
+        clean,
+    } = grow_in_order_seeing(alloc, sys, types, gate)?;
+    Ok((grown, Some(SeenOrder { order, clean })))
 }
 
 /// Grows a system, with an index of the types of its own.
@@ -78,20 +91,27 @@ pub fn order_of<R: Threads + Sync, G: Gate>(
     resources: &Resources<'_, R, G>,
     sys: &System,
     grid: &Grid,
-    known: Option<Sequence>,
+    known: Option<SeenOrder>,
     workers: WorkerCount,
-) -> Result<Sequence, NoMemory>
+) -> Result<SeenOrder, NoMemory>
     requires area { grid.now.area ≡ sys.now.area }
     requires fits { Fits sys.now grid.now.tiles }
     requires producible { IsProducible sys.now grid.now.tiles }
-    requires known { IfSome known (IsCanonical sys.now grid.now.tiles) }
-    ensures { IfOk result (IsWholeOrder sys.now grid.now.tiles) }
+    requires known { IfSome known (IsSeenOrder sys.now grid.now.tiles) }
+    ensures order { IfOk result (λ seen. IsWholeOrder sys.now grid.now.tiles seen.order) }
+    ensures clean { IfOk result (λ seen. seen.clean ≡ true → CameExact sys.now seen.order) }
 {
     sys.recall_valid();
     grid.recall_sites();
     match known {
-        Some(order) => Ok(order),
-        None => whole_order(replay_by(resources.rt, resources.alloc, sys, grid, workers)),
+        Some(seen) => Ok(seen),
+        None => {
+            let replayed = replay_by(resources.rt, resources.alloc, sys, grid, workers);
+            Ok(SeenOrder {
+                order: whole_order(replayed)?,
+                clean: false,
+            })
+        }
     }
 }
 

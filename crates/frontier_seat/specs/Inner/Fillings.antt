@@ -1,5 +1,5 @@
 -- Growth on a grid alone, at the least open site.
-use Rattle.std.specs.Prelude.{◌≡◌, ℕ, ◌+◌, ◌*◌, ◌≤◌, ◌<◌, ◌⊎◌, None, List, [], ◌∷◌, ◌++◌, All, map, length, Contains}
+use Rattle.std.specs.Prelude.{◌≡◌, ℕ, ◌+◌, ◌*◌, ◌≤◌, ◌<◌, ◌⊎◌, true, None, List, [], ◌∷◌, ◌++◌, All, map, length, Contains}
 use Rattle.atam.specs.declared.site.Side.{Side}
 use Rattle.atam.specs.declared.site.Site.{Site}
 use Rattle.atam.specs.declared.place.TypeId.{TypeId}
@@ -15,6 +15,8 @@ use Rattle.assembly.specs.Cells.{cell_count, site_at}
 use Rattle.assembly.specs.Grids.{TileGrid}
 use Rattle.grow_core.specs.Steps.{place}
 use Rattle.number_set.specs.Numbers.{Numbers, IsIn, count_below}
+use Rattle.type_index.specs.Clean.{CameExact}
+use Rattle.frontier_seat.specs.Orders.{LoggedClaims}
 use Rattle.frontier_seat.specs.Inner.Looks.{ListsOpen}
 
 -- the grid is over the box, and its tiles are the system's
@@ -49,9 +51,10 @@ pub record GrewInOrder (sys : TileSystem) (tiles order : List Place) : Type 0 wh
   pub least : FillsLeast sys order
   pub same : SamePlacements order tiles
 
--- The same where the tiles behind the seeds were claimed at the sites of the box with these numbers.
-pub record GrewByNumbers (sys : TileSystem) (tiles : List Place) (numbers : List ℕ) : Type 0 where
+-- The same where the tiles behind the seeds are the logged claims. If it is said so, each came clean, held by exactly the temperature.
+pub record GrewByLog (sys : TileSystem) (tiles : List Place) (log : LoggedClaims) : Type 0 where
   pub claims : List Place
-  pub sites : map (λ p. p.site) claims ≡ map (site_at sys.area) numbers
-  pub within : All (λ n. n < cell_count sys.area) numbers
+  pub sites : map (λ p. p.site) claims ≡ map (site_at sys.area) log.numbers
+  pub within : All (λ n. n < cell_count sys.area) log.numbers
   pub grew : GrewInOrder sys tiles (sys.seeds ++ claims)
+  pub clean : log.clean ≡ true → CameExact sys (sys.seeds ++ claims)

@@ -1,5 +1,5 @@
 -- One look at a site, and the claim there.
-use Rattle.std.specs.Prelude.{◌≡◌, ℕ, ◌+◌, ◌-◌, ◌*◌, ◌^◌, ◌≤◌, ◌<◌, ◌⊎◌, List, [], ◌∷◌, ◌++◌, length, Bool, MatchBool, Option, MatchOption}
+use Rattle.std.specs.Prelude.{◌≡◌, ℕ, ◌+◌, ◌-◌, ◌*◌, ◌^◌, ◌≤◌, ◌<◌, ◌⊎◌, List, [], ◌∷◌, ◌++◌, length, Bool, true, MatchBool, Option, MatchOption}
 use Rattle.atam.specs.declared.site.Site.{Site}
 use Rattle.atam.specs.declared.place.TypeId.{TypeId}
 use Rattle.atam.specs.declared.place.Place.{Place}
@@ -9,9 +9,11 @@ use Rattle.atam.specs.Growth.{IsCandidate}
 use Rattle.assembly.specs.Cells.{cell_count, site_at}
 use Rattle.grow_core.specs.Steps.{place}
 use Rattle.number_set.specs.Numbers.{Numbers, IsIn, count_below}
+use Rattle.type_index.specs.Clean.{OpensExact}
 use Rattle.frontier_seat.specs.declared.growing.Growing.{Growing}
 use Rattle.frontier_seat.specs.declared.work_list.Spot.{Spot}
 use Rattle.frontier_seat.specs.Growths.{IsGrowing, GrowsOn}
+use Rattle.frontier_seat.specs.Orders.{LoggedClaims}
 use Rattle.frontier_seat.specs.Inner.Listings.{AreEmptySites}
 
 -- a tile more in the grid
@@ -35,9 +37,15 @@ pub record ClaimsAt (sys : TileSystem) (site : Site) (old new : Growing) : Type 
   -- who owns all numbers wins it
   pub sole : old.seat.scout.owned ≡ 2 ^ 64 - 1 → IsCandidate sys old.grid.tiles site tile
 
--- a claim whose site's number is logged, or nothing
-abbrev pub LogsClaim : TileSystem → Spot → Growing → Growing → List ℕ → List ℕ → Type 0
-LogsClaim sys spot before after old new = (ClaimsAt sys spot.site before after × (new ≡ old ++ spot.number ∷ [])) ⊎ ((after ≡ before) × (new ≡ old))
+-- A claim whose site's number is logged. If the log says that each claim came clean, it said so before, and whatever attached at the site comes clean.
+pub record LogsClaim (sys : TileSystem) (spot : Spot) (before after : Growing) (old new : LoggedClaims) : Type 0 where
+  pub claim : ClaimsAt sys spot.site before after
+  pub numbers : new.numbers ≡ old.numbers ++ spot.number ∷ []
+  pub clean : new.clean ≡ true → (old.clean ≡ true) × OpensExact sys before.grid.tiles spot.site
+
+-- or nothing
+abbrev pub MayLogClaim : TileSystem → Spot → Growing → Growing → LoggedClaims → LoggedClaims → Type 0
+MayLogClaim sys spot before after old new = LogsClaim sys spot before after old new ⊎ ((after ≡ before) × (new ≡ old))
 
 -- no type attaches at a site of the box but those with these numbers
 abbrev pub IsClosedBut : TileSystem → List Place → (ℕ → Type 0) → Type 0

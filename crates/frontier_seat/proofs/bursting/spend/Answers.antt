@@ -19,14 +19,14 @@ loop-left-init g c = record {
   cost = omega arith;
 }
 
-pub loop-left-smaller-then-look : goal.loop-left-smaller-then-look
-loop-left-smaller-then-look g c =
+pub loop-left-smaller-then-seen : goal.loop-left-smaller-then-seen
+loop-left-smaller-then-seen g c =
     let sys = c.args.sys.now in
     let n = cell_count sys.area in
-    let looks = c.look.ensures.looks in
+    let looks = c.look-seen.ensures.looks in
     let takes = subst (λ (a : BoxArea). TakesSpot a c.loop-left.work.numbers c.take.new.self.numbers c.in-Some.spot) (c.loop-left.invariant.area ∙ c.requires.area) c.in-Some.ensures.takes in
-    less_work n (length c.loop-left.growing.grid.tiles) (length c.look.new.growing.grid.tiles) _ _ _
-    (few_tiles sys c.look.new.growing looks.growing)
+    less_work n (length c.loop-left.growing.grid.tiles) (length c.look-seen.new.growing.grid.tiles) _ _ _
+    (few_tiles sys c.look-seen.new.growing looks.growing)
     (count_below-removes c.loop-left.work.numbers c.take.new.self.numbers c.in-Some.spot.number n takes.removed takes.listed takes.spot.within)
     (looks.work n)
 
@@ -34,28 +34,28 @@ pub loop-left-smaller : goal.loop-left-smaller
 loop-left-smaller g c =
     let sys = c.args.sys.now in
     let n = cell_count sys.area in
-    let looks = c.look.ensures.looks in
+    let looks = c.look-seen.ensures.looks in
     let takes = subst (λ (a : BoxArea). TakesSpot a c.loop-left.work.numbers c.take.new.self.numbers c.in-Some.spot) (c.loop-left.invariant.area ∙ c.requires.area) c.in-Some.ensures.takes in
-    less_work n (length c.loop-left.growing.grid.tiles) (length c.look.new.growing.grid.tiles) _ _ _
-    (few_tiles sys c.look.new.growing looks.growing)
+    less_work n (length c.loop-left.growing.grid.tiles) (length c.look-seen.new.growing.grid.tiles) _ _ _
+    (few_tiles sys c.look-seen.new.growing looks.growing)
     (count_below-removes c.loop-left.work.numbers c.take.new.self.numbers c.in-Some.spot.number n takes.removed takes.listed takes.spot.within)
     (looks.work n)
 
-pub loop-left-preserved-then-look : goal.loop-left-preserved-then-look
-loop-left-preserved-then-look g c =
+pub loop-left-preserved-then-seen : goal.loop-left-preserved-then-seen
+loop-left-preserved-then-seen g c =
     let inv = c.loop-left.invariant in
-    let looks = c.look.ensures.looks in
-    let cost = c.look.ensures.cost in
+    let looks = c.look-seen.ensures.looks in
+    let cost = c.look-seen.ensures.cost in
     let before = inv.cost in
     let made = inv.made in
     let some = c.loop-left-test.true in
-    let claim = subst (λ (b : Bool). MatchBool b (ClaimsAt c.args.sys.now c.in-Some.spot.site c.loop-left.growing c.look.new.growing) (c.look.new.growing ≡ c.loop-left.growing)) c.if-look.true c.look.ensures.claims in
+    let claim = subst (λ (b : Bool). MatchBool b (ClaimsAt c.args.sys.now c.in-Some.spot.site c.loop-left.growing c.look-seen.new.growing) (c.look-seen.new.growing ≡ c.loop-left.growing)) c.if-seen.true c.look-seen.ensures.claims in
     let count = claim.count in
     record {
       growing = looks.growing;
-      goes = goes_further c.args.growing.now c.loop-left.growing c.look.new.growing inv.goes looks.goes;
-      picker = c.look.ensures.picker;
-      area = c.look.ensures.area ∙ (c.take.ensures.area ∙ inv.area);
+      goes = goes_further c.args.growing.now c.loop-left.growing c.look-seen.new.growing inv.goes looks.goes;
+      picker = c.look-seen.ensures.picker;
+      area = c.look-seen.ensures.area ∙ (c.take.ensures.area ∙ inv.area);
       lists = record { empty = looks.listed; all = looks.closed };
       made = omega (arith, made, count, some);
       cost = omega (arith, cost, before);
@@ -64,17 +64,17 @@ loop-left-preserved-then-look g c =
 pub loop-left-preserved : goal.loop-left-preserved
 loop-left-preserved g c =
     let inv = c.loop-left.invariant in
-    let looks = c.look.ensures.looks in
-    let cost = c.look.ensures.cost in
+    let looks = c.look-seen.ensures.looks in
+    let cost = c.look-seen.ensures.cost in
     let before = inv.cost in
     let made = inv.made in
-    let same : c.look.new.growing ≡ c.loop-left.growing = subst (λ (b : Bool). MatchBool b (ClaimsAt c.args.sys.now c.in-Some.spot.site c.loop-left.growing c.look.new.growing) (c.look.new.growing ≡ c.loop-left.growing)) c.if-look.false c.look.ensures.claims in
+    let same : c.look-seen.new.growing ≡ c.loop-left.growing = subst (λ (b : Bool). MatchBool b (ClaimsAt c.args.sys.now c.in-Some.spot.site c.loop-left.growing c.look-seen.new.growing) (c.look-seen.new.growing ≡ c.loop-left.growing)) c.if-seen.false c.look-seen.ensures.claims in
     let count = ap (λ (h : Growing). length h.grid.tiles) same in
     record {
       growing = looks.growing;
-      goes = goes_further c.args.growing.now c.loop-left.growing c.look.new.growing inv.goes looks.goes;
-      picker = c.look.ensures.picker;
-      area = c.look.ensures.area ∙ (c.take.ensures.area ∙ inv.area);
+      goes = goes_further c.args.growing.now c.loop-left.growing c.look-seen.new.growing inv.goes looks.goes;
+      picker = c.look-seen.ensures.picker;
+      area = c.look-seen.ensures.area ∙ (c.take.ensures.area ∙ inv.area);
       lists = record { empty = looks.listed; all = looks.closed };
       made = omega (arith, made, count);
       cost = omega (arith, cost, before);

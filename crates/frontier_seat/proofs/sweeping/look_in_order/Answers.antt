@@ -7,7 +7,7 @@ use Rattle.frontier_seat.specs.Inner.Listings.{IsSpot, ListedSites}
 use Rattle.frontier_seat.specs.Inner.Looks.{ListsOpen}
 use Rattle.frontier_seat.proofs.Listing.{closed_none, closed_taken, spot_here}
 use Rattle.frontier_seat.proofs.Looked.{few_tiles, goes_further, goes_nowhere, less_work}
-use Rattle.frontier_seat.proofs.Ordering.{few_claims, least_listed, numbers_more, numbers_start, numbers_stay}
+use Rattle.frontier_seat.proofs.Ordering.{claims_more, claims_start, claims_stay, few_claims, least_listed}
 use Rattle.frontier_seat.proofs.sweeping.look_in_order.Goals as goal
 
 pub loop-number-init : goal.loop-number-init
@@ -18,7 +18,7 @@ loop-number-init g c = record {
   area = λ _. c.args.work.now.area;
   row = c.least-row.ensures;
   lists = c.requires.lists;
-  order = numbers_start c.args.sys.now c.args.growing.now.grid.tiles c.args.log.now.numbers c.area-area.ensures.valid c.requires.start c.requires.none;
+  order = claims_start c.args.sys.now c.args.growing.now.grid.tiles c.args.log.now c.area-area.ensures.valid c.requires.start c.requires.none;
   room = λ _. c.args.log.now.room;
   cost = omega arith;
 }
@@ -28,7 +28,7 @@ look_logged-requires-clause-room g c =
     let sys = c.args.sys.now in
     let inv = c.loop-number.invariant in
     let valid = c.area-area.ensures.valid in
-    let few = few_claims sys c.loop-number.growing.grid.tiles c.loop-number.log.numbers valid inv.growing.fits inv.order in
+    let few = few_claims sys c.loop-number.growing.grid.tiles c.loop-number.log valid inv.growing.fits inv.order in
     let some = valid.some_seed in
     let room = inv.room in
     let enough = c.requires.room in
@@ -55,8 +55,8 @@ loop-number-preserved g c =
     let inv = c.loop-number.invariant in
     let before = c.loop-number.growing in
     let after = c.look_logged.new.growing in
-    let old = c.loop-number.log.numbers in
-    let new = c.look_logged.new.log.numbers in
+    let old = c.loop-number.log in
+    let new = c.look_logged.new.log in
     let numbers = c.loop-number.work.numbers in
     let looks = c.look_logged.ensures.looks in
     let site = c.site-site.result in
@@ -75,9 +75,9 @@ loop-number-preserved g c =
       row = c.site-site.ensures.row;
       lists = record { empty = looks.listed; all = looks.closed };
       order = elim c.look_logged.ensures.logs [
-        | inl logged ↦ numbers_more sys before after spot old new inv.growing is_own (inv.goes.seat.owned ∙ c.requires.sole)
-            (least_listed sys before.grid.tiles numbers spot c.area-area.ensures.valid.box is_own inv.lists.all c.in-Some.ensures.least) logged.0 logged.1 inv.order
-        | inr same ↦ numbers_stay sys before after old new same.0 same.1 inv.order
+        | inl logged ↦ claims_more sys before after spot old new inv.growing is_own (inv.goes.seat.owned ∙ c.requires.sole)
+            (least_listed sys before.grid.tiles numbers spot c.area-area.ensures.valid.box is_own inv.lists.all c.in-Some.ensures.least) logged inv.order
+        | inr same ↦ claims_stay sys before after old new same.0 same.1 inv.order
       ];
       room = c.look_logged.ensures.room ∙ inv.room;
       cost = omega (arith, cost, was);

@@ -3,7 +3,7 @@ use Rattle.assembly.specs.Cells.{cell_count}
 use Rattle.assembly.specs.Rows.{IsRow}
 use Rattle.number_set.specs.Numbers.{count_below}
 use Rattle.frontier_seat.specs.Growths.{IsGrowing, GrowsOn}
-use Rattle.frontier_seat.specs.Inner.Fillings.{GrewByNumbers}
+use Rattle.frontier_seat.specs.Inner.Fillings.{GrewByLog}
 use Rattle.frontier_seat.specs.Inner.Looks.{ListsOpen}
 use Rattle.frontier_seat.specs.Inner.Pickers.{IsPickerOf}
 use Rattle.frontier_seat.proofs.sweeping.look_in_order.Given as goal
@@ -17,7 +17,7 @@ invariant-loop-number g l = record {
   area : l.work.area ≡ l.fn.work.area;
   row : IsRow l.area l.row;
   lists : ListsOpen l.sys l.growing.grid.tiles l.work.numbers;
-  order : GrewByNumbers l.sys l.growing.grid.tiles l.log.numbers;
+  order : GrewByLog l.sys l.growing.grid.tiles l.log;
   room : l.log.room ≡ l.fn.log.room;
   cost : l.steps + length l.fn.growing.grid.tiles ≡ l.fn.steps + length l.growing.grid.tiles;
 }

@@ -4,7 +4,7 @@ use Rattle.frontier_seat.specs.Growths.{GrowsOn}
 use Rattle.site_table.specs.Rule.{IsPossible}
 use Rattle.site_table.proofs.Closing.{finally}
 use Rattle.frontier_seat.proofs.Looked.{few_tiles, closed_seen}
-use Rattle.frontier_seat.proofs.Ordering.{canonical_claims}
+use Rattle.frontier_seat.proofs.Ordering.{canonical_claims, grew_exact}
 use Rattle.frontier_seat.proofs.scout.Scout.sweep_in_order.Goals as goal
 
 pub returns-clause-goes : goal.returns-clause-goes
@@ -21,7 +21,13 @@ returns-clause-last g c =
 pub returns-clause-order : goal.returns-clause-order
 returns-clause-order g c =
     let new = c.look_in_order.new.growing in
-    canonical_claims c.args.sys.now new.grid.tiles c.look_in_order.new.log.numbers c.recall_valid.ensures.valid c.look_in_order.ensures.growing.fits c.look_in_order.ensures.order
+    canonical_claims c.args.sys.now new.grid.tiles c.look_in_order.new.log c.recall_valid.ensures.valid c.look_in_order.ensures.growing.fits c.look_in_order.ensures.order
+
+pub returns-clause-clean : goal.returns-clause-clean
+returns-clause-clean g c said =
+    let new = c.look_in_order.new.growing in
+    let growing = c.look_in_order.ensures.growing in
+    grew_exact c.args.sys.now new.grid.tiles c.look_in_order.new.log c.recall_valid.ensures.valid growing.distinct growing.fits c.look_in_order.ensures.order said
 
 pub returns-clause-few : goal.returns-clause-few
 returns-clause-few g c =

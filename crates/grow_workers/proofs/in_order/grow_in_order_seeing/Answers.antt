@@ -3,9 +3,9 @@ use Rattle.atam.specs.Canonical.{IsCanonical}
 use Rattle.assembly.specs.Grids.{TileGrid}
 use Rattle.site_table.specs.Seats.{Closes}
 use Rattle.frontier_seat.specs.Orders.{AreCanonicalClaims}
-use Rattle.grow_workers.proofs.Ordering.{claims_left, grew_alone}
+use Rattle.grow_workers.proofs.Ordering.{claims_left, exact_left, grew_alone}
 use Rattle.grow_workers.proofs.Winning.{grid_left, whole_growth}
-use Rattle.grow_workers.proofs.in_order.grow_in_order_by_index.Goals as goal
+use Rattle.grow_workers.proofs.in_order.grow_in_order_seeing.Goals as goal
 
 pub returns-clause-growth : goal.returns-clause-growth
 returns-clause-growth g c =
@@ -32,6 +32,16 @@ sequence_of-requires-clause-order g c =
     let closes : Closes sys part.seat.scout c.close-grown.result = subst (λ z. Closes z part.seat.scout c.close-grown.result) c.in_ok-table.ensures.system c.close-grown.ensures in
     subst (λ (g : TileGrid). AreCanonicalClaims sys g.tiles c.in_ok-part.log.numbers) (sym c.grid.ensures)
     (claims_left sys part.grid.tiles c.close-grown.result.grid.tiles c.in_ok-part.log.numbers (grid_left sys part.seat part.grid c.close-grown.result c.recall_sites.ensures.distinct grew.seen c.in_ok-part.ensures.closed closes) c.in_ok-part.ensures.order)
+
+pub returns-clause-clean : goal.returns-clause-clean
+returns-clause-clean g c said =
+    let sys = c.args.sys.now in
+    let part = c.in_ok-part.part in
+    let grew = c.in_ok-part.ensures.grew in
+    let closes : Closes sys part.seat.scout c.close-grown.result = subst (λ z. Closes z part.seat.scout c.close-grown.result) c.in_ok-table.ensures.system c.close-grown.ensures in
+    let left = grid_left sys part.seat part.grid c.close-grown.result c.recall_sites.ensures.distinct grew.seen c.in_ok-part.ensures.closed closes in
+    let order = subst (λ (g : TileGrid). IsCanonical sys g.tiles c.in_ok-order.order) c.grid.ensures c.in_ok-order.ensures in
+    exact_left sys part.grid.tiles c.close-grown.result.grid.tiles c.in_ok-order.order left (c.in_ok-part.ensures.clean (sym c.is_clean-clean.ensures ∙ said)) order
 
 pub returns-clause-order : goal.returns-clause-order
 returns-clause-order g c = subst (λ (g : TileGrid). IsCanonical c.args.sys.now g.tiles c.in_ok-order.order) c.grid.ensures c.in_ok-order.ensures
