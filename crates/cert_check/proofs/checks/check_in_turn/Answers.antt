@@ -73,8 +73,8 @@ returns-in-Some-clause-verdict c =
 pub returns-in-Some-clause-known : goal.returns-in-Some-clause-known
 returns-in-Some-clause-known c = c.requires.known
 
-pub returns-in-Some-other_than-clause-verdict : goal.returns-in-Some-other_than-clause-verdict
-returns-in-Some-other_than-clause-verdict c =
+pub returns-in-Some-other_held-clause-verdict : goal.returns-in-Some-other_held-clause-verdict
+returns-in-Some-other_held-clause-verdict c =
     let sys = c.args.sys.now in
     let entries = c.args.listing.now.entries in
     let entry = c.args.entry.now in
@@ -86,13 +86,13 @@ returns-in-Some-other_than-clause-verdict c =
     sym (sum_is sys entries entry beside c.requires.beside bonds are) ∙ sym c.stated_sum-sum.ensures ∙ c.if-sum-tau.false ∙ c.tau.ensures.tau
     in
     let no_loose = none_loose sys entries entry beside c.requires.beside bonds are (sym c.first_loose.ensures ∙ c.in_default.is) in
-    let First : FacingGlues → Type 0 = λ glues. FirstHeldBut sys glues entry.place.tile (Some c.in-Some-other_than.rival) in
-    let first = subst First c.kept_glues-kept.ensures (c.in-Some-other_than.ensures.held sys c.kept_glues-kept.result c.found.ensures.found) in
-    let rival = least_rival_is sys entries entry beside c.requires.beside c.glues_beside-glues.result c.glues_beside-glues.ensures.faces c.in-Some-other_than.rival first in
+    let First : FacingGlues → Type 0 = λ glues. FirstHeldBut sys glues entry.place.tile (Some c.in-Some-other_held.rival) in
+    let first = subst First c.kept_glues-kept.ensures c.in-Some-other_held.ensures.held in
+    let rival = least_rival_is sys entries entry beside c.requires.beside c.glues_beside-glues.result c.glues_beside-glues.ensures.faces c.in-Some-other_held.rival first in
     inr (refl, c.requires.attached, held, exact, no_loose, rival)
 
-pub returns-in-Some-other_than-clause-known : goal.returns-in-Some-other_than-clause-known
-returns-in-Some-other_than-clause-known c = c.found.ensures.known
+pub returns-in-Some-other_held-clause-known : goal.returns-in-Some-other_held-clause-known
+returns-in-Some-other_held-clause-known c = c.other_held.ensures.known
 
 pub returns-in-None-clause-verdict : goal.returns-in-None-clause-verdict
 returns-in-None-clause-verdict c =
@@ -108,9 +108,9 @@ returns-in-None-clause-verdict c =
     in
     let no_loose = none_loose sys entries entry beside c.requires.beside bonds are (sym c.first_loose.ensures ∙ c.in_default.is) in
     let First : FacingGlues → Type 0 = λ glues. FirstHeldBut sys glues entry.place.tile (None) in
-    let first = subst First c.kept_glues-kept.ensures (c.in-None.ensures.held sys c.kept_glues-kept.result c.found.ensures.found) in
+    let first = subst First c.kept_glues-kept.ensures c.in-None.ensures.held in
     let no_rival = no_rival_is sys entries entry beside c.requires.beside c.glues_beside-glues.result c.glues_beside-glues.ensures.faces first in
     inl (refl, (held, exact, no_loose, no_rival))
 
 pub returns-in-None-clause-known : goal.returns-in-None-clause-known
-returns-in-None-clause-known c = c.found.ensures.known
+returns-in-None-clause-known c = c.other_held.ensures.known
