@@ -1,13 +1,12 @@
 -- What entries that look the same have in common.
-use Rattle.std.proofs.Common.{◌≡◌, ◌<◌, ◌≤◌, ◌+◌, ◌∙◌, ℕ, Bool, true, false, not, ◌&&◌, ◌||◌, ◌==◌, bit_and, nat_lt, if◌then◌else◌, true≢false, List, Option, Some, None, IfSome, MatchOption, option_map, length, set, replicate, slice_get, refl, sym, ap, subst, inl, inr, arith}
+use Rattle.std.proofs.Common.{◌≡◌, ◌<◌, ◌≤◌, ◌+◌, ◌∙◌, ℕ, Bool, true, false, not, ◌||◌, ◌==◌, bit_and, nat_lt, if◌then◌else◌, true≢false, List, Option, Some, None, IfSome, option_map, length, set, slice_get, refl, sym, ap, subst, inl, inr}
 use Rattle.std.specs.Prelude.{option_and_then}
 use Rattle.std.specs.Option.{option_map_or}
 use Rattle.std.proofs.lemmas.Bool.{cases_eq}
-use Rattle.std.proofs.lemmas.Option.{same_Some, none-some}
+use Rattle.std.proofs.lemmas.Option.{same_Some}
 use Rattle.atam.specs.declared.site.Side.{Side}
 use Rattle.atam.specs.declared.site.Side.TheVariants.{North, East, South, West}
 use Rattle.atam.specs.declared.site.Site.{Site}
-use Rattle.atam.specs.declared.place.GlueId.{GlueId}
 use Rattle.atam.specs.declared.place.TypeId.{TypeId}
 use Rattle.atam.specs.declared.place.Place.{Place}
 use Rattle.atam.specs.Sites.{neighbor}
@@ -15,8 +14,7 @@ use Rattle.atam.specs.TileSystem.{TileSystem, IsType, side_glue}
 use Rattle.atam.specs.Assembly.{Fits, interaction, glue_at, bond, pull}
 use Rattle.attach_rule.specs.declared.facing.FacingGlues.{FacingGlues}
 use Rattle.attach_rule.specs.Facing.{FacesSite}
-use Rattle.type_index.specs.SideSets.{SideSet, has, complement}
-use Rattle.type_index.specs.Findings.{IsKeyOf}
+use Rattle.type_index.specs.SideSets.{has, complement}
 use Rattle.type_index.proofs.Keys.{faced, faced_faces, faces_key}
 use Rattle.local_check.proofs.Keeping.{pull_facing}
 use Rattle.local_check.proofs.Sites.{slice_get-set, slice_get-apart}

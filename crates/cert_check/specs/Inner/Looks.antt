@@ -1,5 +1,5 @@
 -- What an entry looks like, and what is kept of the entries that passed.
-use Rattle.std.specs.Prelude.{◌≡◌, ◌<◌, ℕ, true, List, length, Option, Some, slice_get}
+use Rattle.std.specs.Prelude.{◌≡◌, ◌<◌, true, List, length, Option, Some, slice_get}
 use Rattle.atam.specs.declared.site.Side.{Side}
 use Rattle.atam.specs.declared.place.TypeId.{TypeId}
 use Rattle.atam.specs.TileSystem.{TileSystem}

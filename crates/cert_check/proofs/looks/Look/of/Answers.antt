@@ -1,10 +1,8 @@
-use Rattle.std.proofs.Common.{◌≡◌, ◌∙◌, refl, sym, ap, subst}
-use Rattle.atam.specs.declared.site.Side.{Side}
+use Rattle.std.proofs.Common.{◌∙◌, refl, sym, ap}
 use Rattle.atam.specs.declared.site.Side.TheVariants.{North, East, South, West}
 use Rattle.atam.specs.Sites.{neighbor}
 use Rattle.type_index.specs.SideSets.{SideSet, has}
 use Rattle.type_index.specs.Codes.{code_of}
-use Rattle.cert_check.specs.Certificates.{is_waiting}
 use Rattle.cert_check.proofs.Looking.{kind_beside, glue_beside, waits_is}
 use Rattle.cert_check.proofs.looks.Look.of.Goals as goal
 

@@ -1,6 +1,5 @@
 use Rattle.std.proofs.Common.{◌∙◌, Some, length, refl, sym, ap, subst, arith}
 use Rattle.std.proofs.lemmas.Option.{slice_get_read}
-use Rattle.atam.specs.declared.place.TypeId.{TypeId}
 use Rattle.cert_check.specs.declared.looks.Look.{Look}
 use Rattle.cert_check.specs.Inner.Looks.{LookTable, PassesLooking, AreLooks}
 use Rattle.cert_check.proofs.looks.Looks.has.Goals as goal
