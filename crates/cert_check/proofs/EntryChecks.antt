@@ -45,7 +45,7 @@ loose_parts false false y h = absurd (true≢false (sym h))
 loose_parts false true true h = absurd (true≢false (sym h))
 loose_parts false true false h = (refl, refl, refl)
 
-four_parts : (n e s w : Bool) → (n && (e && (s && w))) ≡ true → (n ≡ true) × (e ≡ true) × (s ≡ true) × (w ≡ true)
+pub four_parts : (n e s w : Bool) → (n && (e && (s && w))) ≡ true → (n ≡ true) × (e ≡ true) × (s ≡ true) × (w ≡ true)
 four_parts false e s w h = absurd (true≢false (sym h))
 four_parts true false s w h = absurd (true≢false (sym h))
 four_parts true true false w h = absurd (true≢false (sym h))
@@ -62,7 +62,7 @@ less_from a b test = grind (arith, nat_tests, test)
 less_test : (a b : ℕ) → a < b → nat_lt a b ≡ true
 less_test a b less = grind (arith, nat_tests, less)
 
-before_parts : (o : Option Entry) (n : ℕ) → option_map_or (λ (f : Entry). nat_lt f.rank n) o false ≡ true → (f : Entry) × (o ≡ Some f) × (f.rank < n)
+pub before_parts : (o : Option Entry) (n : ℕ) → option_map_or (λ (f : Entry). nat_lt f.rank n) o false ≡ true → (f : Entry) × (o ≡ Some f) × (f.rank < n)
 before_parts None n h = absurd (true≢false (sym h))
 before_parts (Some f) n h = (f, refl, less_from f.rank n h)
 

@@ -11,3 +11,4 @@ pub mod Beside
 pub mod EntryChecks
 pub mod EntryVerdicts
 pub mod Certifying
+pub mod Looking

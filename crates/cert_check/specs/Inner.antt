@@ -1,3 +1,4 @@
 pub mod Bits
 pub mod Listings
 pub mod Checks
+pub mod Looks

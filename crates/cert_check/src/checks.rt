@@ -10,18 +10,19 @@ ghost use Rattle.atam.specs.Growth.{IsLeastOpenAmong};
 ghost use Rattle.attach_rule.specs.Bonds.{AreStrengths};
 ghost use Rattle.attach_rule.specs.Searches.{IsFirstType};
 ghost use Rattle.type_index.specs.Indexes.{IsIndexOf};
-ghost use Rattle.type_index.specs.Findings.{AreFindings};
 ghost use Rattle.cert_check.specs.Certificates.{places_of, entry_at, IsSeed, StatesNone};
 ghost use Rattle.cert_check.specs.Judgement.{IsBeside};
 ghost use Rattle.cert_check.specs.Inner.Listings.{AreBeside};
-ghost use Rattle.cert_check.specs.Inner.Checks.{CanCheck, IsAttachedVerdict, IsOwnVerdict, IsEntryVerdict, waits, is_held_on, is_held, is_loose_on, first_loose, bond_on, stated_sum, kept_glue, kept_glues};
+ghost use Rattle.cert_check.specs.Inner.Checks.{CanCheck, IsAttachedVerdict, IsOwnVerdict, IsEntryVerdict, waits, is_held_on, is_held, is_ranked_on, is_ranked, is_loose_on, first_loose, bond_on, stated_sum, kept_glue, kept_glues};
+ghost use Rattle.cert_check.specs.Inner.Looks.{LooksLike, AreLooks};
 
-use crate::listing::{EntriesBeside, Listing};
+use crate::listing::{EntriesBeside, Listing, waits};
+use crate::looks::{Look, Looks};
 use crate::{CertVerdict, Entry};
 use assembly::Grid;
 use attach_rule::{FacingGlues, Strengths, TypeFinder, glues_beside};
 use tile_system::{GlueId, Place, Placed, Side, Site, System, TypeId};
-use type_index::{FacingCache, TypeIndex};
+use type_index::TypeIndex;
 
 // The first check that an entry fails. Each site beside it is looked at once, and its rivals are
 // looked up by the glues that face it.
@@ -30,18 +31,18 @@ pub(crate) fn check_entry(
     listing: &Listing<'_>,
     seeds: &Grid,
     types: &TypeIndex,
-    cache: &mut FacingCache,
+    looks: &mut Looks,
     entry: Entry,
 ) -> CertVerdict
     requires can { CanCheck sys.now listing.now seeds.now types.now }
     requires listed { Contains listing.now.entries entry }
-    requires known { AreFindings sys.now cache.old }
+    requires known { AreLooks sys.now looks.old }
     ensures verdict { IsEntryVerdict sys.now listing.now.entries entry result }
-    ensures known { AreFindings sys.now cache.new }
+    ensures known { AreLooks sys.now looks.new }
 {
     let site = entry.place.site;
     let beside = listing.entries_beside(site);
-    match check_own(sys, listing, seeds, types, cache, &entry, &beside) {
+    match check_own(sys, listing, seeds, types, looks, &entry, &beside) {
         CertVerdict::Yes => match open_beside(sys, listing, types, site, &beside) {
             Some((open, tile)) => CertVerdict::NotTerminal(open, tile),
             None => CertVerdict::Yes,
@@ -56,19 +57,19 @@ fn check_own(
     listing: &Listing<'_>,
     seeds: &Grid,
     types: &TypeIndex,
-    cache: &mut FacingCache,
+    looks: &mut Looks,
     entry: &Entry,
     beside: &EntriesBeside,
 ) -> CertVerdict
     requires can { CanCheck sys.now listing.now seeds.now types.now }
     requires listed { Contains listing.now.entries entry.now }
     requires beside { AreBeside listing.now.entries entry.now.place.site beside.now }
-    requires known { AreFindings sys.now cache.old }
+    requires known { AreLooks sys.now looks.old }
     ensures verdict { IsOwnVerdict sys.now listing.now.entries entry.now result }
-    ensures known { AreFindings sys.now cache.new }
+    ensures known { AreLooks sys.now looks.new }
 {
     if !is_seed(seeds, entry) {
-        return check_attached(sys, listing, types, cache, entry, beside);
+        return check_attached(sys, listing, types, looks, entry, beside);
     }
     if states_none(entry) {
         CertVerdict::Yes
@@ -95,12 +96,14 @@ fn states_none(entry: &Entry) -> bool
         && !entry.states(Side::West)
 }
 
-// The first of the checks of an entry that isn't a seed's, but that of the sites beside it.
+// The first of the checks of an entry that isn't a seed's, but that of the sites beside it. Where
+// one of its type that passed looked the same, only the ranks are compared.
+#[inline(always)]
 fn check_attached(
     sys: &System,
     listing: &Listing<'_>,
     types: &TypeIndex,
-    cache: &mut FacingCache,
+    looks: &mut Looks,
     entry: &Entry,
     beside: &EntriesBeside,
 ) -> CertVerdict
@@ -109,10 +112,67 @@ fn check_attached(
     requires index { IsIndexOf sys.now types.now }
     requires listed { Contains listing.now.entries entry.now }
     requires beside { AreBeside listing.now.entries entry.now.place.site beside.now }
-    requires known { AreFindings sys.now cache.old }
+    requires known { AreLooks sys.now looks.old }
     requires attached { ¬ IsSeed sys.now entry.now }
     ensures verdict { IsAttachedVerdict sys.now listing.now.entries entry.now result }
-    ensures known { AreFindings sys.now cache.new }
+    ensures known { AreLooks sys.now looks.new }
+{
+    let look = Look::of(sys, types, listing, entry, beside);
+    if looks.has(sys, entry.place.tile, &look) && is_ranked(entry, beside) {
+        return CertVerdict::Yes;
+    }
+    check_anew(sys, listing, types, looks, entry, beside, look)
+}
+
+// Makes each of these checks, and keeps the look of an entry that passes.
+#[inline(never)]
+fn check_anew(
+    sys: &System,
+    listing: &Listing<'_>,
+    types: &TypeIndex,
+    looks: &mut Looks,
+    entry: &Entry,
+    beside: &EntriesBeside,
+    look: Look,
+) -> CertVerdict
+    requires valid { IsValid sys.now }
+    requires fits { Fits sys.now (places_of listing.now.entries) }
+    requires index { IsIndexOf sys.now types.now }
+    requires listed { Contains listing.now.entries entry.now }
+    requires beside { AreBeside listing.now.entries entry.now.place.site beside.now }
+    requires known { AreLooks sys.now looks.old }
+    requires attached { ¬ IsSeed sys.now entry.now }
+    requires looks { LooksLike sys.now listing.now.entries entry.now look }
+    ensures verdict { IsAttachedVerdict sys.now listing.now.entries entry.now result }
+    ensures known { AreLooks sys.now looks.new }
+{
+    match check_in_turn(sys, listing, types, looks, entry, beside) {
+        CertVerdict::Yes => {
+            looks.keep(sys, entry.place.tile, look);
+            CertVerdict::Yes
+        }
+        fault => fault,
+    }
+}
+
+// The first of these checks that it fails.
+fn check_in_turn(
+    sys: &System,
+    listing: &Listing<'_>,
+    types: &TypeIndex,
+    looks: &mut Looks,
+    entry: &Entry,
+    beside: &EntriesBeside,
+) -> CertVerdict
+    requires valid { IsValid sys.now }
+    requires fits { Fits sys.now (places_of listing.now.entries) }
+    requires index { IsIndexOf sys.now types.now }
+    requires listed { Contains listing.now.entries entry.now }
+    requires beside { AreBeside listing.now.entries entry.now.place.site beside.now }
+    requires known { AreLooks sys.now looks.old }
+    requires attached { ¬ IsSeed sys.now entry.now }
+    ensures verdict { IsAttachedVerdict sys.now listing.now.entries entry.now result }
+    ensures known { AreLooks sys.now looks.new }
 {
     // no two entries have one site
     listing.recall_sites();
@@ -130,7 +190,7 @@ fn check_attached(
         return CertVerdict::LooseBond(site, side);
     }
     let kept = kept_glues(&glues, beside);
-    match cache.found(sys, types, &kept).other_than(tile) {
+    match looks.other_held(sys, types, &kept, tile) {
         Some(rival) => CertVerdict::Rival(site, rival),
         None => CertVerdict::Yes,
     }
@@ -153,6 +213,25 @@ fn is_held_on(entry: &Entry, side: Side, beside: &Option<Entry>, bond: u32) -> b
     ensures { result ≡ is_held_on entry.now side beside.now bond }
 {
     !entry.states(side) || bond > 0 && is_before(beside, entry.rank)
+}
+
+// Whether each stated side leads to an entry of lesser rank.
+#[inline(always)]
+fn is_ranked(entry: &Entry, beside: &EntriesBeside) -> bool
+    ensures { result ≡ is_ranked entry.now beside.now }
+{
+    is_ranked_on(entry, Side::North, &beside.north)
+        && is_ranked_on(entry, Side::East, &beside.east)
+        && is_ranked_on(entry, Side::South, &beside.south)
+        && is_ranked_on(entry, Side::West, &beside.west)
+}
+
+// Whether the side isn't stated, or leads to such an entry.
+#[inline(always)]
+fn is_ranked_on(entry: &Entry, side: Side, beside: &Option<Entry>) -> bool
+    ensures { result ≡ is_ranked_on entry.now side beside.now }
+{
+    !entry.states(side) || is_before(beside, entry.rank)
 }
 
 // Whether there is an entry, of a lesser rank.
@@ -214,17 +293,6 @@ fn is_loose_on(entry: &Entry, side: Side, beside: &Option<Entry>, bond: u32) -> 
     ensures { result ≡ is_loose_on entry.now side beside.now bond }
 {
     !entry.states(side) && bond > 0 && !waits(beside, side)
-}
-
-// Whether the entry beside another on this side, if there is one, states the side towards it.
-#[inline(always)]
-fn waits(beside: &Option<Entry>, side: Side) -> bool
-    ensures { result ≡ waits beside.now side }
-{
-    match beside {
-        Some(entry) => entry.states(side.opposite()),
-        None => false,
-    }
 }
 
 // The glues of the entries that don't wait.

@@ -8,6 +8,7 @@ mod checks;
 mod entry;
 mod laws;
 mod listing;
+mod looks;
 mod verdict;
 mod verifying;
 

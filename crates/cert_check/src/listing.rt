@@ -7,6 +7,7 @@ ghost use Rattle.assembly.specs.Cells.{cell_count, site_at};
 ghost use Rattle.tile_system.specs.Neighbors.{StandBeside};
 ghost use Rattle.cert_check.specs.Certificates.{places_of, entry_at};
 ghost use Rattle.cert_check.specs.Inner.Listings.{AreNumbersOf, AreBeside};
+ghost use Rattle.cert_check.specs.Inner.Checks.{waits};
 
 use crate::{Certificate, Entry};
 use assembly::{number_beside, site_index};
@@ -49,6 +50,17 @@ fn tile_of(entry: Option<Entry>) -> Option<TypeId>
     match entry {
         Some(entry) => Some(entry.place.tile),
         None => None,
+    }
+}
+
+// Whether the entry beside another on this side, if there is one, states the side towards it.
+#[inline(always)]
+pub(crate) fn waits(beside: &Option<Entry>, side: Side) -> bool
+    ensures { result ≡ waits beside.now side }
+{
+    match beside {
+        Some(entry) => entry.states(side.opposite()),
+        None => false,
     }
 }
 

@@ -11,6 +11,7 @@ ghost use Rattle.cert_check.specs.Inner.Checks.{CanCheck, ChecksPortion, IsCheck
 
 use crate::checks::check_entry;
 use crate::listing::Listing;
+use crate::looks::Looks;
 use crate::{CertVerdict, Certificate};
 use assembly::{Grid, put_seeds};
 use fan_out::{Portion, WorkerCount, share_numbers};
@@ -18,7 +19,7 @@ use std::alloc::Global;
 use std::thread::Threads;
 use tile_io::Gate;
 use tile_system::{NoMemory, Place, Placed, Site, System};
-use type_index::{FacingCache, TypeIndex};
+use type_index::TypeIndex;
 
 /// Checks a certificate that fits the system, by so many workers, each in a thread of its own but
 /// one. The answer is the same for any number of them. Each calls the gate once, and then looks
@@ -164,10 +165,10 @@ fn check_range(
     requires range { (start ≤ end) × (end ≤ length listing.now.entries) }
     ensures { IfOk result (IsChecked sys.now listing.now.entries start end) }
 {
-    let mut cache = FacingCache::make(alloc, sys)?;
+    let mut looks = Looks::make(alloc, sys)?;
     for index in start..end {
         let entry = listing.get(index);
-        let verdict = check_entry(sys, listing, seeds, types, &mut cache, entry);
+        let verdict = check_entry(sys, listing, seeds, types, &mut looks, entry);
         if verdict != CertVerdict::Yes {
             return Ok(verdict);
         }

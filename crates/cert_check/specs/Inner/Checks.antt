@@ -13,6 +13,7 @@ use Rattle.assembly.specs.Grids.{TileGrid}
 use Rattle.attach_rule.specs.declared.bonding.Strengths.{Strengths}
 use Rattle.attach_rule.specs.declared.facing.FacingGlues.{FacingGlues}
 use Rattle.type_index.specs.Indexes.{TypeLists, IsIndexOf}
+use Rattle.type_index.specs.SideSets.{SideSet}
 use Rattle.cert_check.specs.declared.entry.Entry.{Entry}
 use Rattle.cert_check.specs.declared.verdict.CertVerdict.{CertVerdict}
 use Rattle.cert_check.specs.declared.verdict.CertVerdict.TheVariants.{Yes}
@@ -36,6 +37,25 @@ waits beside d = option_map_or (λ f. states f (opposite d)) beside false
 -- whether a stated side has a positive bond with an entry of lesser rank
 abbrev pub is_held_on : Entry → Side → Option Entry → ℕ → Bool
 is_held_on e d beside bond = not (states e d) || (nat_lt 0 bond && option_map_or (λ f. nat_lt f.rank e.rank) beside false)
+
+-- the sides on which the entries beside another wait
+abbrev pub waiting_sides : EntriesBeside → SideSet
+waiting_sides beside = record {
+  north = waits beside.north North;
+  east = waits beside.east East;
+  south = waits beside.south South;
+  west = waits beside.west West;
+}
+
+-- whether a side, if it is stated, leads to an entry of lesser rank
+abbrev pub is_ranked_on : Entry → Side → Option Entry → Bool
+is_ranked_on e d beside = not (states e d) || option_map_or (λ f. nat_lt f.rank e.rank) beside false
+
+-- whether each side does
+abbrev pub is_ranked : Entry → EntriesBeside → Bool
+is_ranked e beside =
+    is_ranked_on e North beside.north && (is_ranked_on e East beside.east
+    && (is_ranked_on e South beside.south && is_ranked_on e West beside.west))
 
 -- whether an unstated side has a positive bond with an entry that doesn't wait
 abbrev pub is_loose_on : Entry → Side → Option Entry → ℕ → Bool

@@ -1,5 +1,5 @@
 use Rattle.std.proofs.Common.{◌≤◌}
-use Rattle.type_index.specs.Findings.{AreFindings}
+use Rattle.cert_check.specs.Inner.Looks.{AreLooks}
 use Rattle.cert_check.specs.Judgement.{AreSoundWithin}
 use Rattle.cert_check.proofs.verifying.check_range.Given as goal
 
@@ -8,5 +8,5 @@ abbrev pub invariant-loop-index : goal.invariant-loop-index
 invariant-loop-index l = record {
   within : l.index ≤ l.end;
   sound : AreSoundWithin l.sys l.listing.entries l.start l.index;
-  known : AreFindings l.sys l.cache;
+  known : AreLooks l.sys l.looks;
 }
