@@ -76,7 +76,7 @@ impl<'i> Model for Scout<'i> {
 // What a look at a site was: whether a type attached, and whether it is clear that whichever
 // attached comes clean, held by exactly the temperature.
 #[derive(Clone, Copy)]
-pub(crate) struct Look {
+pub(crate) struct Looked {
     pub(crate) claims: bool,
     pub(crate) clean: bool,
 }
@@ -93,7 +93,7 @@ pub(crate) fn look<C: Chooser, L: Ledger>(
     spot: Spot,
     work: &mut WorkList,
     steps: &mut Steps<L>,
-) -> Look
+) -> Looked
     requires seat { IsSeatOf table.now growing.old.seat }
     requires system { table.now.sys ≡ sys.now }
     requires growing { IsGrowing sys.now growing.old }
@@ -118,14 +118,14 @@ pub(crate) fn look<C: Chooser, L: Ledger>(
     let beside = growing.grid.beside_at(spot.site, spot.number);
     let Pick { tile, clean } = picker.pick(sys, &growing.grid, spot.site, &beside, chooser);
     let Some(tile) = tile else {
-        return Look {
+        return Looked {
             claims: false,
             clean,
         };
     };
     growing.claim(sys, table, spot, tile, steps);
     work.list_around(&growing.grid, spot, &beside);
-    Look {
+    Looked {
         claims: true,
         clean,
     }
