@@ -52,6 +52,7 @@ pub(crate) fn check_entry(
 }
 
 // The first of the checks of its own sides and site that an entry fails.
+#[inline(always)]
 fn check_own(
     sys: &System,
     listing: &Listing<'_>,
@@ -113,6 +114,7 @@ fn check_attached(
     requires listed { Contains listing.now.entries entry.now }
     requires beside { AreBeside listing.now.entries entry.now.place.site beside.now }
     requires known { AreLooks sys.now looks.old }
+    requires area { listing.now.area ≡ sys.now.area }
     requires attached { ¬ IsSeed sys.now entry.now }
     ensures verdict { IsAttachedVerdict sys.now listing.now.entries entry.now result }
     ensures known { AreLooks sys.now looks.new }
@@ -121,32 +123,33 @@ fn check_attached(
     if looks.has(sys, entry.place.tile, &look) && is_ranked(entry, beside) {
         return CertVerdict::Yes;
     }
-    check_anew(sys, listing, types, looks, entry, beside, look)
+    check_anew(sys, listing, types, looks, *entry, look)
 }
 
-// Makes each of these checks, and keeps the look of an entry that passes.
+// Makes each of these checks, and keeps the look of an entry that passes. It looks anew at what
+// stands beside the entry, so that the caller can let go of it.
 #[inline(never)]
 fn check_anew(
     sys: &System,
     listing: &Listing<'_>,
     types: &TypeIndex,
     looks: &mut Looks,
-    entry: &Entry,
-    beside: &EntriesBeside,
+    entry: Entry,
     look: Look,
 ) -> CertVerdict
     requires valid { IsValid sys.now }
     requires fits { Fits sys.now (places_of listing.now.entries) }
     requires index { IsIndexOf sys.now types.now }
-    requires listed { Contains listing.now.entries entry.now }
-    requires beside { AreBeside listing.now.entries entry.now.place.site beside.now }
+    requires listed { Contains listing.now.entries entry }
     requires known { AreLooks sys.now looks.old }
-    requires attached { ¬ IsSeed sys.now entry.now }
-    requires looks { LooksLike sys.now listing.now.entries entry.now look }
-    ensures verdict { IsAttachedVerdict sys.now listing.now.entries entry.now result }
+    requires area { listing.now.area ≡ sys.now.area }
+    requires attached { ¬ IsSeed sys.now entry }
+    requires looks { LooksLike sys.now listing.now.entries entry look }
+    ensures verdict { IsAttachedVerdict sys.now listing.now.entries entry result }
     ensures known { AreLooks sys.now looks.new }
 {
-    match check_in_turn(sys, listing, types, looks, entry, beside) {
+    let beside = listing.entries_beside(entry.place.site);
+    match check_in_turn(sys, listing, types, looks, &entry, &beside) {
         CertVerdict::Yes => {
             looks.keep(sys, entry.place.tile, look);
             CertVerdict::Yes
@@ -317,6 +320,7 @@ fn kept_glue(glue: Option<GlueId>, beside: &Option<Entry>, side: Side) -> Option
 }
 
 // The least site beside an entry where a type attaches, with the first such type.
+#[inline(always)]
 fn open_beside(
     sys: &System,
     listing: &Listing<'_>,

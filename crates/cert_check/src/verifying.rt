@@ -26,7 +26,8 @@ use type_index::TypeIndex;
 /// once at each entry of its portion and at the sites beside it; where a seed is no entry's place
 /// none is started. The time grows with the number of entries and with the number of sites of the
 /// box. It takes memory for the number of an entry and a tile at each site of the box, for an index
-/// of the types, and for what each worker has found before.
+/// of the types, and for each worker for what it has found before: a slot for each type, and those
+/// of a `FacingCache`.
 pub fn verify<R: Threads + Sync, G: Gate>(
     rt: &R,
     alloc: Global,

@@ -22,6 +22,9 @@ check_attached-requires-clause-beside c = c.requires.beside
 pub check_attached-requires-clause-known : goal.check_attached-requires-clause-known
 check_attached-requires-clause-known c = c.requires.known
 
+pub check_attached-requires-clause-area : goal.check_attached-requires-clause-area
+check_attached-requires-clause-area c = c.requires.can.area
+
 pub check_attached-requires-clause-attached : goal.check_attached-requires-clause-attached
 check_attached-requires-clause-attached c =
     let can = c.requires.can in
