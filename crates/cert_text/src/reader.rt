@@ -50,9 +50,9 @@ pub fn read_certificate(
 #[derive(Drop)]
 struct CertificateReader<'a> {
     system: &'a System,
-    found: FoundTypes,
     entries: Vec<Entry>,
     grid: Grid,
+    found: FoundTypes,
 }
 
 #[tactic(auto, unfolding(crate::specs::CertificateText::certificate_table))]
@@ -155,9 +155,9 @@ impl<'a> CertificateReader<'a> {
         };
         Ok(CertificateReader {
             system,
-            found: FoundTypes::new(),
             entries: Vec::new(alloc),
             grid,
+            found: FoundTypes::new(),
         })
     }
 
