@@ -106,13 +106,28 @@ pub fn order_of<R: Threads + Sync, G: Gate>(
     match known {
         Some(seen) => Ok(seen),
         None => {
-            let replayed = replay_by(resources.rt, resources.alloc, sys, grid, workers);
+            let order = replayed_order(resources, sys, grid, workers)?;
             Ok(SeenOrder {
-                order: whole_order(replayed)?,
+                order,
                 clean: false,
             })
         }
     }
+}
+
+// The same where it isn't known.
+fn replayed_order<R: Threads + Sync, G: Gate>(
+    resources: &Resources<'_, R, G>,
+    sys: &System,
+    grid: &Grid,
+    workers: WorkerCount,
+) -> Result<Sequence, NoMemory>
+    requires area { grid.now.area ≡ sys.now.area }
+    requires fits { Fits sys.now grid.now.tiles }
+    requires producible { IsProducible sys.now grid.now.tiles }
+    ensures { IfOk result (IsWholeOrder sys.now grid.now.tiles) }
+{
+    whole_order(replay_by(resources.rt, resources.alloc, sys, grid, workers))
 }
 
 /// The canonical sequence of a producible grid.
