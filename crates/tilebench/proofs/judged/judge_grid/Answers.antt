@@ -11,8 +11,8 @@ least_open_outside-outside-requires-clause-fits g c =
 
 pub verdict_on-requires-clause-closed : goal.verdict_on-requires-clause-closed
 verdict_on-requires-clause-closed g c κs within =
-    order_closed c.args.sys.now c.args.grid.now.tiles c.in_ok-order.order c.recall_sites.ensures.distinct c.in_ok-order.ensures.order c.requires.closed
+    order_closed c.args.sys.now c.args.grid.now.tiles c.in_ok-order.field-0.order c.recall_sites.ensures.distinct c.in_ok-order.ensures.order c.requires.closed
 
 pub verdict_on-requires-clause-outside : goal.verdict_on-requires-clause-outside
 verdict_on-requires-clause-outside g c κs within =
-    order_outside c.args.sys.now c.args.grid.now.tiles c.in_ok-order.order c.least_open_outside-outside.result c.recall_sites.ensures.distinct c.in_ok-order.ensures.order c.least_open_outside-outside.ensures
+    order_outside c.args.sys.now c.args.grid.now.tiles c.in_ok-order.field-0.order c.least_open_outside-outside.result c.recall_sites.ensures.distinct c.in_ok-order.ensures.order c.least_open_outside-outside.ensures

@@ -1,7 +1,7 @@
 use Rattle.std.proofs.Common.{subst, Option, IfSome}
 use Rattle.tilebench.specs.declared.order.SeenOrder.{SeenOrder}
 use Rattle.tilebench.specs.Inner.Rooms.{IsSeenOrder}
-use Rattle.tilebench.proofs.Orders.{canonical_whole, replayed_or_memory, replayed_whole}
+use Rattle.tilebench.proofs.Orders.{canonical_whole}
 use Rattle.tilebench.proofs.order.order_of.Goals as goal
 
 -- the order that was known
@@ -15,7 +15,3 @@ returns-in-Some-clause-order g c =
 pub returns-in-Some-clause-clean : goal.returns-in-Some-clause-clean
 returns-in-Some-clause-clean g c said =
     (subst (λ (o : Option SeenOrder). IfSome o (IsSeenOrder c.args.sys.now c.args.grid.now.tiles)) c.in-Some.is c.requires.known).clean said
-
--- and one that is replayed
-pub returns-in-None-clause-order : goal.returns-in-None-clause-order
-returns-in-None-clause-order g c = c.in_ok-order.ensures
