@@ -21,6 +21,7 @@ impl FoundTypes {
 
     /// The type with this name, as `System::find_type` gives it, which is asked where the name is
     /// not that of the type at its place. What was found in another system does no harm.
+    #[inline(always)]
     pub fn find(&mut self, sys: &System, name: &[u8]) -> Option<TypeId>
         ensures index { option_map (λ tile. tile.0) result ≡ type_named sys.now.types name.now }
         ensures in_range { IfSome result (IsType sys.now) }

@@ -12,7 +12,7 @@ use std::marker::Model;
 use tile_system::{GlueId, NoMemory, System};
 
 // What the lists of all glues may have in them, on all sides together.
-const MOST_MEETINGS: u32 = 1_048_576;
+const MOST_MEETINGS: u32 = 2_097_152;
 
 // Whether other glues interact with a glue, and it has lists of the types that interact with it.
 #[derive(Clone, Copy, Debug, PartialEq, Eq)]
