@@ -6,9 +6,10 @@ use Rattle.std.specs.Option.{option_map_or}
 use Rattle.std.proofs.Math.Seq.{get_or-append_seam}
 use Rattle.std.proofs.lemmas.Bool.{lt-ltb}
 use Rattle.std.proofs.lemmas.Bool.Decides.{nat_tests}
-use Rattle.std.proofs.lemmas.Option.{slice_get-get_or}
+use Rattle.std.proofs.lemmas.Option.{none-some, slice_get-get_or}
 use Rattle.std.proofs.lemmas.List.{get_or_append_left}
 use Rattle.std.proofs.lemmas.List.Elements.{All-head, All-tail}
+use Rattle.std.proofs.lemmas.List.Quantifiers.{position-Some}
 use Rattle.std.proofs.lemmas.List.Folds.{list_any_none}
 use Rattle.std.proofs.lemmas.List.Sums.{position_or_len_is}
 use Rattle.std.proofs.lemmas.Slice.Eq.{bytes_eq-Decides}
@@ -20,7 +21,7 @@ use Rattle.atam.specs.declared.site.Site.{Site}
 use Rattle.atam.specs.Sites.{same_site}
 use Rattle.atam.specs.TileSystem.{TileSystem, Glue, TileType, IsName, IsType, glue_name, type_name, is_name, is_pair_of}
 use Rattle.atam.proofs.Boxes.{same_site_tells}
-use Rattle.tile_system.specs.Names.{type_named}
+use Rattle.tile_system.specs.Names.{glue_named, type_named}
 use Rattle.tile_system.specs.Pairs.{paired_strength}
 use Rattle.tile_system.specs.Seeds.{is_seeded}
 use Rattle.tile_system.proofs.NamedLemmas.{bytes_tell}
@@ -29,6 +30,15 @@ use Rattle.tile_text.proofs.Built.{position_map}
 -- names that differ
 pub unlike : (xs ys : List ℕ) → xs ≢ ys → bytes_eq xs ys ≡ false
 unlike xs ys other = elim (bytes_tell xs ys) [ inl same ↦ absurd (other same.1) | inr apart ↦ apart.0 ]
+
+-- a name that a glue has is one
+pub name_of_glue : (glues : List Glue) (wanted : List ℕ) (i : ℕ) → glue_named glues wanted ≡ Some i → All (λ g. IsName g.name) glues → is_name wanted ≡ true
+name_of_glue [] wanted i is each = absurd (none-some i is)
+name_of_glue (g ∷ glues) wanted i is each =
+    let at = position-Some (λ y. bytes_eq wanted y.name) (g ∷ glues) i g is in
+    let same : wanted ≡ (get_or (g ∷ glues) i g).name = (bytes_eq-Decides wanted (get_or (g ∷ glues) i g).name).0 at.1 in
+    let Named : List ℕ → Type 0 = λ n. is_name n ≡ true in
+    subst Named (sym same) (each i g at.0)
 
 module _ {X : Type 0} where
   -- An element of a list, and those before it: what holds of all holds of it,
