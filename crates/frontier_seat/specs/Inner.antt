@@ -4,3 +4,4 @@ pub mod Looks
 pub mod Fillings
 pub mod Types
 pub mod Pickers
+pub mod Insides

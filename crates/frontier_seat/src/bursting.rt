@@ -60,13 +60,16 @@ pub(crate) fn spend<C: Chooser, L: Ledger>(
         ≡ steps.old + length growing.new.grid.tiles }
 {
     sys.recall_valid();
+    let area = sys.area();
     let count = work.count();
     let mut left = most;
     while left > 0 {
         let Some(spot) = work.take(chooser.start(count)) else {
             return;
         };
-        let seen = look(sys, table, growing, chooser, picker, spot, work, steps);
+        let seen = look(
+            sys, &area, table, growing, chooser, picker, spot, work, steps,
+        );
         if seen.claims {
             left -= 1;
         }

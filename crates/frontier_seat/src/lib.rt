@@ -9,6 +9,7 @@ mod chooser;
 mod claim_log;
 mod growing;
 mod in_order;
+mod inside;
 mod picking;
 mod scout;
 mod share;

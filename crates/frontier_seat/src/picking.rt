@@ -14,7 +14,7 @@ use crate::Chooser;
 use crate::types::Types;
 use assembly::Grid;
 use std::alloc::Global;
-use tile_system::{Beside, NoMemory, Site, System, TypeId};
+use tile_system::{Beside, NoMemory, Placed, Site, System, TypeId};
 use type_index::{FacingCache, Found, HeldList};
 
 // One of the types that attach at a site, if any does, and whether it is clear that whichever
@@ -83,7 +83,7 @@ impl<'i> Picker<'i> {
             .cache
             .sight_beside(sys, self.types.index(), grid, site, beside);
         Pick {
-            tile: self.pick_found(sys, grid, site, beside, sighting.found, chooser),
+            tile: self.pick_found(sys, grid, site, sighting.found, chooser),
             clean: sighting.clean,
         }
     }
@@ -95,21 +95,19 @@ impl<'i> Picker<'i> {
         sys: &System,
         grid: &Grid,
         site: Site,
-        beside: &Beside,
         found: Found,
         chooser: &mut C,
     ) -> Option<TypeId>
         requires picker { IsPickerOf sys.now self.old }
         requires near { IsNearSite site }
         requires empty { tile_at grid.now.tiles site ≡ None }
-        requires beside { StandBeside grid.now.tiles site beside.now }
         requires fits { Fits sys.now grid.now.tiles }
         requires found { SumsUpCandidates sys.now grid.now.tiles site found }
         ensures open { IsOpenType sys.now grid.now.tiles site result }
         ensures picker { IsPickerOf sys.now self.new }
     {
         if found.count > 2 {
-            return self.pick_listed(sys, grid, site, beside, chooser);
+            return self.pick_listed(sys, grid, site, chooser);
         }
         if found.count < 2 {
             return found.first;
@@ -121,24 +119,25 @@ impl<'i> Picker<'i> {
         }
     }
 
-    // The same, over the list of all that attach.
+    // The same, over the list of all that attach. It looks up itself what stands beside the site, so
+    // that the caller need not keep that in memory.
+    #[inline(never)]
     fn pick_listed<C: Chooser>(
         &mut self,
         sys: &System,
         grid: &Grid,
         site: Site,
-        beside: &Beside,
         chooser: &mut C,
     ) -> Option<TypeId>
         requires picker { IsPickerOf sys.now self.old }
         requires near { IsNearSite site }
         requires empty { tile_at grid.now.tiles site ≡ None }
-        requires beside { StandBeside grid.now.tiles site beside.now }
         requires fits { Fits sys.now grid.now.tiles }
         ensures open { IsOpenType sys.now grid.now.tiles site result }
         ensures picker { IsPickerOf sys.now self.new }
     {
-        self.list.list(sys, self.types.index(), grid, site, beside);
+        let beside = grid.beside(site);
+        self.list.list(sys, self.types.index(), grid, site, &beside);
         let listed = self.list.types();
         let count = listed.len();
         if count == 0 {

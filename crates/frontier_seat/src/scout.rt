@@ -11,6 +11,7 @@ ghost use Rattle.frontier_seat.specs.Orders.{AreCanonicalClaims};
 ghost use Rattle.type_index.specs.Clean.{GrewExact, OpensExact};
 ghost use Rattle.type_index.specs.Indexes.{IsIndexOf};
 ghost use Rattle.number_set.specs.Numbers.{IsIn};
+ghost use Rattle.frontier_seat.specs.Inner.Insides.{IsInner};
 ghost use Rattle.frontier_seat.specs.Inner.Listings.{AreEmptySites, IsSpot};
 ghost use Rattle.frontier_seat.specs.Inner.Looks.{ClaimsAt, IsClosedBut, ListsOpen, LooksAt, MayList};
 ghost use Rattle.frontier_seat.specs.Inner.Pickers.{IsPickerOf};
@@ -18,6 +19,7 @@ ghost use Rattle.frontier_seat.specs.Inner.Pickers.{IsPickerOf};
 use crate::beside_seeds::list_beside_seeds;
 use crate::bursting::{is_open, spend};
 use crate::catching::see_edges;
+use crate::inside::{beside_inner, is_inner};
 use crate::picking::{Pick, Picker};
 use crate::sweeping::look_in_order;
 use crate::types::Types;
@@ -29,7 +31,7 @@ use std::alloc::Global;
 use std::marker::Model;
 use std::sync::ledger::Ledger;
 use tile_io::Steps;
-use tile_system::System;
+use tile_system::{BoxArea, System};
 use type_index::TypeIndex;
 
 // More claims than a box has sites.
@@ -82,9 +84,104 @@ pub(crate) struct Looked {
 }
 
 // Looks at one empty site that is listed no longer, and claims it for a type that attaches. It
-// tells whether there is one.
+// tells whether there is one. The box is handed over, since what stands behind a reference is read
+// again after each store.
 #[inline(always)]
 pub(crate) fn look<C: Chooser, L: Ledger>(
+    sys: &System,
+    area: &BoxArea,
+    table: &SiteTable,
+    growing: &mut Growing,
+    chooser: &mut C,
+    picker: &mut Picker<'_>,
+    spot: Spot,
+    work: &mut WorkList,
+    steps: &mut Steps<L>,
+) -> Looked
+    requires boxed { area.now ≡ sys.now.area }
+    requires seat { IsSeatOf table.now growing.old.seat }
+    requires system { table.now.sys ≡ sys.now }
+    requires growing { IsGrowing sys.now growing.old }
+    requires picker { IsPickerOf sys.now picker.old }
+    requires area { work.old.area ≡ sys.now.area }
+    requires spot { IsSpot sys.now.area spot }
+    requires gone { ¬ IsIn work.old.numbers spot.number }
+    requires empty { tile_at growing.old.grid.tiles spot.site ≡ None }
+    requires listed { AreEmptySites sys.now.area growing.old.grid.tiles work.old.numbers }
+    requires closed { IsClosedBut sys.now growing.old.grid.tiles
+        (λ n. IsIn work.old.numbers n ⊎ (n ≡ spot.number)) }
+    ensures looks { LooksAt sys.now growing.old growing.new work.old.numbers work.new.numbers }
+    ensures claims { MatchBool result.claims (ClaimsAt sys.now spot.site growing.old growing.new)
+        (growing.new ≡ growing.old) }
+    ensures clean { IsTrue result.clean → OpensExact sys.now growing.old.grid.tiles spot.site }
+    ensures picker { IsPickerOf sys.now picker.new }
+    ensures area { work.new.area ≡ work.old.area }
+    ensures cost { steps.new + length growing.old.grid.tiles
+        ≡ steps.old + length growing.new.grid.tiles }
+{
+    if is_inner(area, spot.site) {
+        return look_inside(
+            sys, area, table, growing, chooser, picker, spot, work, steps,
+        );
+    }
+    look_at_edge(sys, table, growing, chooser, picker, spot, work, steps)
+}
+
+// The same at a site at no edge of the box.
+#[inline(always)]
+fn look_inside<C: Chooser, L: Ledger>(
+    sys: &System,
+    area: &BoxArea,
+    table: &SiteTable,
+    growing: &mut Growing,
+    chooser: &mut C,
+    picker: &mut Picker<'_>,
+    spot: Spot,
+    work: &mut WorkList,
+    steps: &mut Steps<L>,
+) -> Looked
+    requires boxed { area.now ≡ sys.now.area }
+    requires inner { IsInner area.now spot.site }
+    requires seat { IsSeatOf table.now growing.old.seat }
+    requires system { table.now.sys ≡ sys.now }
+    requires growing { IsGrowing sys.now growing.old }
+    requires picker { IsPickerOf sys.now picker.old }
+    requires area { work.old.area ≡ sys.now.area }
+    requires spot { IsSpot sys.now.area spot }
+    requires gone { ¬ IsIn work.old.numbers spot.number }
+    requires empty { tile_at growing.old.grid.tiles spot.site ≡ None }
+    requires listed { AreEmptySites sys.now.area growing.old.grid.tiles work.old.numbers }
+    requires closed { IsClosedBut sys.now growing.old.grid.tiles
+        (λ n. IsIn work.old.numbers n ⊎ (n ≡ spot.number)) }
+    ensures looks { LooksAt sys.now growing.old growing.new work.old.numbers work.new.numbers }
+    ensures claims { MatchBool result.claims (ClaimsAt sys.now spot.site growing.old growing.new)
+        (growing.new ≡ growing.old) }
+    ensures clean { IsTrue result.clean → OpensExact sys.now growing.old.grid.tiles spot.site }
+    ensures picker { IsPickerOf sys.now picker.new }
+    ensures area { work.new.area ≡ work.old.area }
+    ensures cost { steps.new + length growing.old.grid.tiles
+        ≡ steps.old + length growing.new.grid.tiles }
+{
+    sys.recall_valid();
+    let beside = beside_inner(&growing.grid, area, spot);
+    let Pick { tile, clean } = picker.pick(sys, &growing.grid, spot.site, &beside, chooser);
+    let Some(tile) = tile else {
+        return Looked {
+            claims: false,
+            clean,
+        };
+    };
+    growing.claim(sys, table, spot, tile, steps);
+    work.list_inner(&growing.grid, area, spot, &beside);
+    Looked {
+        claims: true,
+        clean,
+    }
+}
+
+// The same at any site.
+#[inline(never)]
+fn look_at_edge<C: Chooser, L: Ledger>(
     sys: &System,
     table: &SiteTable,
     growing: &mut Growing,

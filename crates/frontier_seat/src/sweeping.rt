@@ -20,7 +20,7 @@ use assembly::Row;
 use site_table::SiteTable;
 use std::sync::ledger::Ledger;
 use tile_io::Steps;
-use tile_system::System;
+use tile_system::{BoxArea, System};
 
 // Looks at the listed sites, and at those beside each tile that comes, always at the least one, and
 // logs each claim.
@@ -60,7 +60,9 @@ pub(crate) fn look_in_order<C: Chooser, L: Ledger>(
     while let Some(number) = work.take_least() {
         let site = row.site(&area, number);
         let spot = Spot { site, number };
-        look_logged(sys, table, growing, chooser, picker, spot, work, steps, log);
+        look_logged(
+            sys, &area, table, growing, chooser, picker, spot, work, steps, log,
+        );
     }
 }
 
@@ -69,6 +71,7 @@ pub(crate) fn look_in_order<C: Chooser, L: Ledger>(
 #[inline(always)]
 fn look_logged<C: Chooser, L: Ledger>(
     sys: &System,
+    area: &BoxArea,
     table: &SiteTable,
     growing: &mut Growing,
     chooser: &mut C,
@@ -78,6 +81,7 @@ fn look_logged<C: Chooser, L: Ledger>(
     steps: &mut Steps<L>,
     log: &mut ClaimLog,
 )
+    requires boxed { area.now ≡ sys.now.area }
     requires seat { IsSeatOf table.now growing.old.seat }
     requires system { table.now.sys ≡ sys.now }
     requires growing { IsGrowing sys.now growing.old }
@@ -99,7 +103,9 @@ fn look_logged<C: Chooser, L: Ledger>(
         ≡ steps.old + length growing.new.grid.tiles }
 {
     sys.recall_valid();
-    let seen = look(sys, table, growing, chooser, picker, spot, work, steps);
+    let seen = look(
+        sys, area, table, growing, chooser, picker, spot, work, steps,
+    );
     if !seen.claims {
         return;
     }

@@ -5,8 +5,10 @@ ghost use Rattle.atam.specs.Placements.{tile_at};
 ghost use Rattle.assembly.specs.Cells.{cell_count};
 ghost use Rattle.tile_system.specs.Neighbors.{StandBeside};
 ghost use Rattle.number_set.specs.Numbers.{Adds, IsIn, IsLeastOf, Removes};
+ghost use Rattle.frontier_seat.specs.Inner.Insides.{IsInner};
 ghost use Rattle.frontier_seat.specs.Inner.Listings.{AreEmptySites, ListsAround, ListsFrontier, ListsFrontierTo, ListsSide, IsClosedRow, IsSpot, TakesSpot};
 
+use crate::inside::number_next;
 use crate::share::Share;
 use assembly::{Grid, Row, number_beside};
 use number_set::NumberSet;
@@ -236,9 +238,7 @@ impl WorkList {
         ensures none { IfNone result ((n : ℕ) → ¬ IsIn self.old.numbers n) }
         ensures same { IfNone result (self.new ≡ self.old) }
     {
-        let number = self.numbers.least()?;
-        self.numbers.remove(number);
-        Some(number)
+        self.numbers.pop_least()
     }
 
     // Lists the site on one side, if it is in the box and no tile is there.
@@ -272,6 +272,40 @@ impl WorkList {
         self.list_side(spot, Side::East, beside.east);
         self.list_side(spot, Side::South, beside.south);
         self.list_side(spot, Side::West, beside.west);
+    }
+
+    // Lists the site on one side of one that is at no edge of the box, if no tile is there. The box
+    // is the caller's, so that it need not be read again after each store.
+    #[inline(always)]
+    fn list_next(&mut self, area: &BoxArea, spot: Spot, side: Side, there: Option<TypeId>)
+        requires area { self.old.area ≡ area.now }
+        requires spot { IsSpot area.now spot }
+        requires inner { IsInner area.now spot.site }
+        ensures area { self.new.area ≡ self.old.area }
+        ensures lists { ListsSide self.old.area (neighbor spot.site side) there
+            self.old.numbers self.new.numbers }
+    {
+        if there.is_some() {
+            return;
+        }
+        self.numbers.insert(number_next(area, spot, side));
+    }
+
+    // Lists the empty sites beside such a site.
+    #[inline(always)]
+    pub(crate) fn list_inner(&mut self, grid: &Grid, area: &BoxArea, spot: Spot, beside: &Beside)
+        requires area { self.old.area ≡ area.now }
+        requires spot { IsSpot area.now spot }
+        requires inner { IsInner area.now spot.site }
+        requires beside { StandBeside grid.now.tiles spot.site beside.now }
+        ensures area { self.new.area ≡ self.old.area }
+        ensures lists { ListsAround self.old.area grid.now.tiles spot.site
+            self.old.numbers self.new.numbers }
+    {
+        self.list_next(area, spot, Side::North, beside.north);
+        self.list_next(area, spot, Side::East, beside.east);
+        self.list_next(area, spot, Side::South, beside.south);
+        self.list_next(area, spot, Side::West, beside.west);
     }
 
     // Lists the empty sites of the box beside a site, if a tile is there.

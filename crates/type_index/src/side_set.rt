@@ -122,10 +122,7 @@ impl SideSet {
     pub fn is_within(self, other: SideSet) -> bool
         ensures { result ≡ is_within self other }
     {
-        (!self.has(Side::North) || other.has(Side::North))
-            && (!self.has(Side::East) || other.has(Side::East))
-            && (!self.has(Side::South) || other.has(Side::South))
-            && (!self.has(Side::West) || other.has(Side::West))
+        self.bits & other.bits == self.bits
     }
 
     /// The sides that aren't in the set.

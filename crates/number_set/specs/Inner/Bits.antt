@@ -34,6 +34,11 @@ pub record IsFirstWord (words : List ℕ) (word : ℕ) : Type 0 where
   pub some : 0 < slice_index words word
   pub first : (w : ℕ) → w < word → slice_index words w ≡ 0
 
+-- a word before which each is 0
+pub record IsStart (words : List ℕ) (word : ℕ) : Type 0 where
+  pub within : word < length words
+  pub zero : (w : ℕ) → w < word → slice_index words w ≡ 0
+
 -- each word is 0
 abbrev pub AreZero : List ℕ → Type 0
 AreZero words = (w : ℕ) → slice_index words w ≡ 0

@@ -1,4 +1,5 @@
 use Rattle.std.proofs.Common.{sym, ◌∙◌}
+use Rattle.type_index.specs.Findings.{found_in}
 use Rattle.type_index.proofs.Holding.{candidates_held}
 use Rattle.type_index.proofs.Keys.{faced, faced_faces}
 use Rattle.type_index.proofs.Settling.{opens_within}
@@ -10,7 +11,7 @@ returns-clause-found g c =
     let tiles = g.P.Placed.placements c.args.placed.now in
     let glues = faced sys tiles c.args.site in
     let faces = faced_faces sys tiles c.args.site in
-    candidates_held sys tiles c.args.site glues c.known-known.result.found faces c.requires.empty (c.known-known.ensures.found glues (c.key_beside-key.ensures glues faces)).sum
+    rw c.found.ensures (candidates_held sys tiles c.args.site glues (found_in c.known-known.result) faces c.requires.empty (c.known-known.ensures.found glues (c.key_beside-key.ensures glues faces)).sum)
 
 pub returns-clause-clean : goal.returns-clause-clean
 returns-clause-clean g c said =

@@ -3,7 +3,7 @@ use Rattle.std.proofs.Common.{subst}
 use Rattle.atam.specs.declared.area.BoxArea.{BoxArea}
 use Rattle.atam.proofs.Boxes.{near_inside}
 use Rattle.frontier_seat.specs.Inner.Listings.{ListsAround}
-use Rattle.frontier_seat.proofs.scout.look.Goals as goal
+use Rattle.frontier_seat.proofs.scout.look_at_edge.Goals as goal
 
 pub returns-clause-looks : goal.returns-clause-looks
 returns-clause-looks g c =
