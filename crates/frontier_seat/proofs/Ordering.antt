@@ -1,5 +1,5 @@
 -- Tiles at the least open site, in their order.
-use Rattle.std.proofs.Common.{◌≡◌, ◌<◌, ◌≤◌, ◌+◌, ◌-◌, ◌^◌, ◌++◌, ℕ, true, length, length-append, List, [], ◌∷◌, map, take, All, Contains, append-nil, append_assoc, sym, ◌∙◌, ap, subst, inl, inr, arith}
+use Rattle.std.proofs.Common.{◌≡◌, ◌<◌, ◌≤◌, ◌+◌, ◌-◌, ◌^◌, ◌++◌, ℕ, Bool, true, length, length-append, List, [], ◌∷◌, map, take, All, Contains, append-nil, append_assoc, sym, ◌∙◌, ap, subst, inl, inr, arith}
 use Rattle.std.proofs.lemmas.Int.{ints}
 use Rattle.std.proofs.lemmas.List.{length-map, map_push}
 use Rattle.std.proofs.lemmas.Option.{slice_get_within}
@@ -33,9 +33,9 @@ use Rattle.frontier_seat.specs.declared.growing.Growing.{Growing}
 use Rattle.frontier_seat.specs.declared.work_list.Spot.{Spot}
 use Rattle.frontier_seat.specs.Growths.{IsGrowing}
 use Rattle.frontier_seat.specs.Orders.{AreCanonicalClaims, LoggedClaims}
-use Rattle.frontier_seat.specs.Inner.Fillings.{Fills, GrewByLog, GrewInOrder, IsFilling}
+use Rattle.frontier_seat.specs.Inner.Fillings.{Fills, GrewByLog, GrewInOrder, GrewSeen, IsFilling, LoggedTiles}
 use Rattle.frontier_seat.specs.Inner.Listings.{IsSpot}
-use Rattle.frontier_seat.specs.Inner.Looks.{IsClosedBut, LogsClaim}
+use Rattle.frontier_seat.specs.Inner.Looks.{IsClosedBut, KeepsClean, LogsClaim}
 
 -- the seeds alone
 pub order_start : (sys : TileSystem) (tiles order : List Place) → IsValid sys → SamePlacements sys.seeds tiles → order ≡ sys.seeds → GrewInOrder sys tiles order
@@ -73,12 +73,7 @@ order_more sys tiles after site old new distinct least fills order =
           (SamePlacements-trans (old ++ p ∷ []) (tiles ++ p ∷ []) after (SamePlacements-push old tiles p order.same) fills.placements);
     }
 
--- or none
-pub order_stays : (sys : TileSystem) (tiles after old new : List Place) → after ≡ tiles → new ≡ old → GrewInOrder sys tiles old → GrewInOrder sys after new
-order_stays sys tiles after old new same_tiles same order =
-    subst (λ (l : List Place). GrewInOrder sys l new) (sym same_tiles) (subst (λ (l : List Place). GrewInOrder sys tiles l) (sym same) order)
-
--- the seeds alone came clean
+-- the seeds alone came clean, of which nothing is asked
 came_seeds : (sys : TileSystem) (s : List Place) → s ≡ sys.seeds → CameExact sys s
 came_seeds sys s alone = subst (CameExact sys) (sym alone) (record {
   clean = λ i p later there. let within = slice_get_within sys.seeds i p there in absurd (omega (arith, later, within));
@@ -100,14 +95,35 @@ came_more sys s p came comes = record {
   ];
 }
 
+-- the seeds alone, with what is said of them
+pub seen_start : (sys : TileSystem) (tiles order : List Place) (clean : Bool) → IsValid sys → SamePlacements sys.seeds tiles → order ≡ sys.seeds → GrewSeen sys tiles order clean
+seen_start sys tiles order clean valid same alone = record { grew = order_start sys tiles order valid same alone; exact = λ said. came_seeds sys order alone }
+
+-- one tile more
+pub seen_more : (sys : TileSystem) (tiles after : List Place) (site : Site) (old new : List Place) (was is : Bool) → HasDistinctSites tiles →
+    ((n : Site) (u : TypeId) → InBox sys.area n → IsCandidate sys tiles n u → ¬ IsBefore n site) →
+    Fills sys site tiles after old new → KeepsClean sys tiles site was is → GrewSeen sys tiles old was → GrewSeen sys after new is
+seen_more sys tiles after site old new was is distinct least fills keeps seen = record {
+  grew = order_more sys tiles after site old new distinct least fills seen.grew;
+  exact = λ said.
+      let clear = keeps said in
+      let same : SameTiles tiles old = SameTiles-from tiles old distinct (same_back old tiles seen.grew.same) in
+      let comes = exact_same sys tiles old site fills.tile same (clear.1 fills.tile fills.grows) in
+      subst (CameExact sys) (sym fills.logged) (came_more sys old (place site fills.tile) (seen.exact clear.0) comes);
+}
+
+-- or none
+pub seen_stays : (sys : TileSystem) (tiles after : List Place) (old new : LoggedTiles) → after ≡ tiles → new ≡ old → GrewSeen sys tiles old.places old.clean → GrewSeen sys after new.places new.clean
+seen_stays sys tiles after old new same_tiles same seen =
+    subst (λ (l : List Place). GrewSeen sys l new.places new.clean) (sym same_tiles) (subst (λ (l : LoggedTiles). GrewSeen sys tiles l.places l.clean) (sym same) seen)
+
 -- no claim yet
 pub claims_start : (sys : TileSystem) (tiles : List Place) (log : LoggedClaims) → IsValid sys → SamePlacements sys.seeds tiles → log.numbers ≡ [] → GrewByLog sys tiles log
 claims_start sys tiles log valid same none = record {
   claims = [];
   sites = ap (map (site_at sys.area)) (sym none);
   within = subst (All (λ n. n < cell_count sys.area)) (sym none) (All-nil (λ n. n < cell_count sys.area));
-  grew = order_start sys tiles (sys.seeds ++ []) valid same (append-nil sys.seeds);
-  clean = λ said. came_seeds sys (sys.seeds ++ []) (append-nil sys.seeds);
+  seen = seen_start sys tiles (sys.seeds ++ []) log.clean valid same (append-nil sys.seeds);
 }
 
 -- one claim more of who owns all numbers
@@ -126,14 +142,7 @@ claims_more sys before after spot old new growing is all least logs order =
       sites = map_push (λ (q : Place). q.site) claims p ∙ ap (λ (l : List Site). l ++ spot.site ∷ []) order.sites
           ∙ ap (λ (m : Site). map (site_at sys.area) old.numbers ++ m ∷ []) (sym is.site) ∙ sym (map_push (site_at sys.area) old.numbers spot.number) ∙ ap (map (site_at sys.area)) (sym longer);
       within = subst (All (λ n. n < cell_count sys.area)) (sym longer) (All-push (λ n. n < cell_count sys.area) old.numbers spot.number order.within is.within);
-      grew = order_more sys before.grid.tiles after.grid.tiles spot.site (sys.seeds ++ claims) (sys.seeds ++ (claims ++ p ∷ [])) growing.distinct least fills order.grew;
-      clean = λ said.
-          let clear = logs.clean said in
-          let tiles = before.grid.tiles in
-          let listed = sys.seeds ++ claims in
-          let same : SameTiles tiles listed = SameTiles-from tiles listed growing.distinct (same_back listed tiles order.grew.same) in
-          let comes = exact_same sys tiles listed spot.site claim.tile same (clear.1 claim.tile (claim.sole all)) in
-          subst (CameExact sys) (append_assoc sys.seeds claims (p ∷ [])) (came_more sys listed p (order.clean clear.0) comes);
+      seen = seen_more sys before.grid.tiles after.grid.tiles spot.site (sys.seeds ++ claims) (sys.seeds ++ (claims ++ p ∷ [])) old.clean new.clean growing.distinct least fills logs.clean order.seen;
     }
 
 -- or none
@@ -149,7 +158,7 @@ few_logged sys tiles order valid fits grew =
 -- and as many claims, beside the seeds
 pub few_claims : (sys : TileSystem) (tiles : List Place) (log : LoggedClaims) → IsValid sys → Fits sys tiles → GrewByLog sys tiles log → length log.numbers + length sys.seeds ≤ cell_count sys.area
 few_claims sys tiles log valid fits order =
-    let few = few_logged sys tiles (sys.seeds ++ order.claims) valid fits order.grew in
+    let few = few_logged sys tiles (sys.seeds ++ order.claims) valid fits order.seen.grew in
     let both = length-append sys.seeds order.claims in
     let many : length order.claims ≡ length log.numbers = sym (length-map order.claims (λ (p : Place). p.site)) ∙ (ap length order.sites ∙ length-map log.numbers (site_at sys.area)) in
     omega (arith, few, both, many)
@@ -164,7 +173,7 @@ canonical_order sys tiles order valid fits grew =
 pub canonical_claims : (sys : TileSystem) (tiles : List Place) (log : LoggedClaims) → IsValid sys → Fits sys tiles → GrewByLog sys tiles log → AreCanonicalClaims sys tiles log.numbers
 canonical_claims sys tiles log valid fits order =
     let few = few_claims sys tiles log valid fits order in
-    let stand = λ (p : Place) (c : Contains order.claims p). order.grew.same.part p (Contains-append_right sys.seeds order.claims p c) in
+    let stand = λ (p : Place) (c : Contains order.claims p). order.seen.grew.same.part p (Contains-append_right sys.seeds order.claims p c) in
     record {
       claims = order.claims;
       sites = order.sites;
@@ -172,14 +181,14 @@ canonical_claims sys tiles log valid fits order =
       few = omega (arith, few);
       fits = Fits-part sys order.claims tiles stand fits;
       stand = stand;
-      canonical = canonical_order sys tiles (sys.seeds ++ order.claims) valid fits order.grew;
+      canonical = canonical_order sys tiles (sys.seeds ++ order.claims) valid fits order.seen.grew;
     }
 
 -- each place of which came clean, if it is said so
 pub grew_exact : (sys : TileSystem) (tiles : List Place) (log : LoggedClaims) → IsValid sys → HasDistinctSites tiles → Fits sys tiles → GrewByLog sys tiles log → log.clean ≡ true → GrewExact sys tiles
 grew_exact sys tiles log valid distinct fits order said s canonical =
-    let own = canonical_order sys tiles (sys.seeds ++ order.claims) valid fits order.grew in
-    subst (CameExact sys) (canonical_unique sys tiles distinct (sys.seeds ++ order.claims) s own canonical) (order.clean said)
+    let own = canonical_order sys tiles (sys.seeds ++ order.claims) valid fits order.seen.grew in
+    subst (CameExact sys) (canonical_unique sys tiles distinct (sys.seeds ++ order.claims) s own canonical) (order.seen.exact said)
 
 -- growth in order is a full one once the box is closed
 pub full_growth : (sys : TileSystem) (grid : TileGrid) (order : List Place) → IsFilling sys grid → IsClosedInBox sys grid.tiles → GrewInOrder sys grid.tiles order → IsFullGrowth sys grid.tiles

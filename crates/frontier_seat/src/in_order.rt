@@ -1,25 +1,36 @@
 // Growth by one worker alone, which always fills the least open site and logs its tiles.
-ghost use Rattle.std.specs.Prelude.{◌≡◌, ◌⊎◌, ◌<◌, ◌≤◌, ◌+◌, ℕ, None, length, IfOk};
+ghost use Rattle.std.specs.Prelude.{◌≡◌, ◌⊎◌, ◌<◌, ◌≤◌, ◌+◌, ℕ, None, true, length, IfOk};
 ghost use Rattle.atam.specs.Placements.{SamePlacements, tile_at};
 ghost use Rattle.atam.specs.Growth.{IsClosedInBox, IsFullGrowth};
 ghost use Rattle.atam.specs.Canonical.{IsCanonical};
 ghost use Rattle.assembly.specs.Cells.{cell_count};
 ghost use Rattle.number_set.specs.Numbers.{IsIn};
+ghost use Rattle.type_index.specs.Clean.{CameExact};
 ghost use Rattle.type_index.specs.Indexes.{IsIndexOf};
-ghost use Rattle.frontier_seat.specs.Inner.Fillings.{GrewInOrder, IsFilling, ListsOn, MayFill};
+ghost use Rattle.frontier_seat.specs.Inner.Fillings.{GrewSeen, IsFilling, ListsOn, MayFill};
 ghost use Rattle.frontier_seat.specs.Inner.Listings.{AreEmptySites, IsSpot};
 ghost use Rattle.frontier_seat.specs.Inner.Looks.{IsClosedBut};
 ghost use Rattle.frontier_seat.specs.Inner.Pickers.{IsPickerOf};
 
 use crate::Chooser;
 use crate::beside_seeds::list_beside_seeds;
-use crate::picking::Picker;
+use crate::fill_log::FillLog;
+use crate::picking::{Pick, Picker};
 use crate::types::Types;
 use crate::work_list::{Spot, WorkList};
-use assembly::{Grid, PlaceLog, Row, Sequence, put_seeds};
+use assembly::{Grid, Row, Sequence, put_seeds};
 use std::alloc::Global;
 use tile_system::{NoMemory, Place, System};
 use type_index::TypeIndex;
+
+/// What has grown where always the least open site was filled, the order in which its tiles came,
+/// and whether it is clear that each tile but the seeds came clean, held by exactly the temperature.
+#[derive(Drop)]
+pub struct FilledInOrder {
+    pub grid: Grid,
+    pub order: Sequence,
+    pub clean: bool,
+}
 
 // Looks at one empty site that is listed no longer. A type that attaches there fills it, and the
 // tile is logged.
@@ -31,7 +42,7 @@ fn fill<C: Chooser>(
     picker: &mut Picker<'_>,
     spot: Spot,
     work: &mut WorkList,
-    log: &mut PlaceLog,
+    log: &mut FillLog,
 )
     requires filling { IsFilling sys.now grid.old }
     requires picker { IsPickerOf sys.now picker.old }
@@ -46,8 +57,7 @@ fn fill<C: Chooser>(
     ensures filling { IsFilling sys.now grid.new }
     ensures lists { ListsOn sys.now grid.old.tiles grid.new.tiles work.old.numbers
         work.new.numbers }
-    ensures fills { MayFill sys.now spot.site grid.old.tiles grid.new.tiles log.old.places
-        log.new.places }
+    ensures fills { MayFill sys.now spot.site grid.old.tiles grid.new.tiles log.old log.new }
     ensures picker { IsPickerOf sys.now picker.new }
     ensures area { work.new.area ≡ work.old.area }
     ensures room { log.new.room ≡ log.old.room }
@@ -55,13 +65,14 @@ fn fill<C: Chooser>(
     sys.recall_valid();
     let Spot { site, number } = spot;
     let beside = grid.beside_at(site, number);
-    let Some(tile) = picker.pick(sys, grid, site, &beside, chooser).tile else {
+    let Pick { tile, clean } = picker.pick(sys, grid, site, &beside, chooser);
+    let Some(tile) = tile else {
         return;
     };
     let place = Place { site, tile };
     grid.put_at(place, number);
     work.list_around(grid, spot, &beside);
-    log.push(place);
+    log.push(place, clean);
 }
 
 // Looks at the empty sites beside the seeds, and at those beside each tile that comes, always at
@@ -73,7 +84,7 @@ fn fill_all<C: Chooser>(
     chooser: &mut C,
     picker: &mut Picker<'_>,
     work: &mut WorkList,
-    log: &mut PlaceLog,
+    log: &mut FillLog,
 )
     requires filling { IsFilling sys.now grid.old }
     requires picker { IsPickerOf sys.now picker.old }
@@ -84,7 +95,7 @@ fn fill_all<C: Chooser>(
     requires room { length sys.now.seeds + cell_count sys.now.area ≤ log.old.room }
     ensures filling { IsFilling sys.now grid.new }
     ensures closed { IsClosedInBox sys.now grid.new.tiles }
-    ensures order { GrewInOrder sys.now grid.new.tiles log.new.places }
+    ensures order { GrewSeen sys.now grid.new.tiles log.new.places log.new.clean }
 {
     let area = sys.area();
     list_beside_seeds(sys, grid, work);
@@ -125,13 +136,36 @@ pub fn fill_least_first_by_index<C: Chooser>(
     ensures full { IfOk result (λ r. IsFullGrowth sys.now r.0.tiles) }
     ensures order { IfOk result (λ r. IsCanonical sys.now r.0.tiles r.1) }
 {
+    let FilledInOrder {
+        grid,
+        order,
+        clean: _clean,
+    } = fill_least_first_seeing(alloc, sys, types, chooser)?;
+    Ok((grid, order))
+}
+
+/// The same, and whether it is clear that each tile came clean, which was seen as it came.
+pub fn fill_least_first_seeing<C: Chooser>(
+    alloc: Global,
+    sys: &System,
+    types: &TypeIndex,
+    chooser: &mut C,
+) -> Result<FilledInOrder, NoMemory>
+    requires { IsIndexOf sys.now types.now }
+    ensures area { IfOk result (λ r. r.grid.area ≡ sys.now.area) }
+    ensures full { IfOk result (λ r. IsFullGrowth sys.now r.grid.tiles) }
+    ensures order { IfOk result (λ r. IsCanonical sys.now r.grid.tiles r.order) }
+    ensures clean { IfOk result (λ r. r.clean ≡ true → CameExact sys.now r.order) }
+{
     let area = sys.area();
     let mut grid = Grid::make(alloc, area)?;
     put_seeds(sys, &mut grid);
     grid.recall_sites();
-    let mut log = PlaceLog::make(alloc, sys)?;
+    let mut log = FillLog::make(alloc, sys)?;
     let mut picker = Picker::make(alloc, sys, Types::lent(types))?;
     let mut work = WorkList::make(alloc, area)?;
     fill_all(sys, &mut grid, chooser, &mut picker, &mut work, &mut log);
-    Ok((grid, log.into_sequence()))
+    let clean = log.is_clean();
+    let order = log.into_sequence();
+    Ok(FilledInOrder { grid, order, clean })
 }

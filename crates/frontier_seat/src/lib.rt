@@ -7,6 +7,7 @@ mod bursting;
 mod catching;
 mod chooser;
 mod claim_log;
+mod fill_log;
 mod growing;
 mod in_order;
 mod inside;
@@ -21,5 +22,7 @@ pub use bursting::Burst;
 pub use chooser::{Chooser, First, RngChooser, Wanderer};
 pub use claim_log::ClaimLog;
 pub use growing::Growing;
-pub use in_order::{fill_least_first, fill_least_first_by_index};
+pub use in_order::{
+    FilledInOrder, fill_least_first, fill_least_first_by_index, fill_least_first_seeing,
+};
 pub use scout::Scout;

@@ -1,15 +1,16 @@
 // What answers a job.
-ghost use Rattle.std.specs.Prelude.{◌≡◌, IfOk};
+ghost use Rattle.std.specs.Prelude.{◌≡◌, true, IfOk};
 ghost use Rattle.atam.specs.Canonical.{IsCanonical};
 ghost use Rattle.atam.specs.Growth.{IsFullGrowth, IsLeastOpenOutside};
+ghost use Rattle.type_index.specs.Clean.{CameExact};
 ghost use Rattle.type_index.specs.Indexes.{IsIndexOf};
 ghost use Rattle.local_check.specs.Judgement.{IsVerdict};
 ghost use Rattle.job_board.specs.Answers.{Answers};
 
 use crate::job::Job;
 use assembly::{Grid, Sequence};
-use frontier_seat::{First, fill_least_first_by_index};
-use local_check::{Verdict, judge_grown};
+use frontier_seat::{FilledInOrder, First, fill_least_first_seeing};
+use local_check::{Verdict, judge_clean, judge_grown};
 use std::alloc::Global;
 use std::marker::Model;
 use std::thread::Threads;
@@ -60,8 +61,10 @@ impl Outcome {
         requires { IsIndexOf sys.now types.now }
         ensures { IfOk result (Answers sys.now) }
     {
-        let (grid, order) = fill_least_first_by_index(alloc, sys, types, &mut First)?;
-        let (verdict, outside) = judge_order(alloc, sys, grid, types, &order)?;
+        let FilledInOrder { grid, order, clean } = fill_least_first_seeing(
+            alloc, sys, types, &mut First,
+        )?;
+        let (verdict, outside) = judge_order(alloc, sys, grid, types, &order, clean)?;
         Ok(Outcome {
             sequence: order.copy()?,
             outside,
@@ -88,24 +91,29 @@ impl Outcome {
     }
 }
 
-// The verdict on the canonical sequence of a full growth, and the least open site outside the box. The
-// grid is dropped then.
+// The verdict on the canonical sequence of a full growth, and the least open site outside the box.
+// No place is looked at where it is known that each came clean. The grid is dropped then.
 fn judge_order(
     alloc: Global,
     sys: &System,
     grid: Grid,
     types: &TypeIndex,
     order: &Sequence,
+    clean: bool,
 ) -> Result<(Verdict, Option<(Site, TypeId)>), NoMemory>
     requires area { grid.area ≡ sys.now.area }
     requires index { IsIndexOf sys.now types.now }
     requires full { IsFullGrowth sys.now grid.tiles }
     requires order { IsCanonical sys.now grid.tiles order.now }
+    requires clean { clean ≡ true → CameExact sys.now order.now }
     ensures verdict { IfOk result (λ r. IsVerdict sys.now order.now r.0) }
     ensures outside { IfOk result (λ r. IsLeastOpenOutside sys.now grid.tiles r.1) }
 {
     sys.recall_valid();
     let outside = types.least_open_outside(sys, &grid);
+    if clean {
+        return Ok((judge_clean(sys, order, outside), outside));
+    }
     let verdict = judge_grown(alloc, sys, order, types, outside)?;
     Ok((verdict, outside))
 }

@@ -11,7 +11,7 @@ ghost use Rattle.local_check.specs.Judged.{IsJudged};
 ghost use Rattle.local_check.specs.Inner.Passages.{IsPassage, IsPassed};
 
 use crate::judgement::{judge_closed, last_verdict, verdict_by};
-use crate::passage::{Passage, Passed, pass};
+use crate::passage::{LegalPassage, Passage, Passed, pass, pass_legal};
 use crate::side_table::inputs_lent;
 use crate::{Verdict, judge};
 use assembly::{Grid, Sequence, put_seeds};
@@ -43,8 +43,8 @@ pub fn judge_once(alloc: Global, sys: &System, seq: &Sequence) -> Result<Judged,
 }
 
 /// What `judge_closed` tells of a legal sequence that nothing extends in the box, by the least open
-/// site outside. It looks at each place as `judge_once` does, and takes as much memory, but for the
-/// index of the types, which is lent.
+/// site outside. It looks at each place as `judge_once` does, up to the first that is held by more
+/// than the temperature, and takes as much memory, but for the index of the types, which is lent.
 pub fn judge_grown(
     alloc: Global,
     sys: &System,
@@ -61,9 +61,13 @@ pub fn judge_grown(
 {
     sys.recall_valid();
     let mut grid = grid_of_seeds(alloc, sys)?;
-    match pass(alloc, sys, seq, types, &mut grid)? {
-        Passed::Legal(passage) => grown_verdict(alloc, sys, seq, types, &grid, passage, outside),
-        Passed::Breach(_) => unreachable!(),
+    match pass_legal(alloc, sys, seq, types, &mut grid)? {
+        LegalPassage::NotExact { site, sum } => Ok(Verdict::NotExact { site, sum }),
+        LegalPassage::Exact { clean: true } => Ok(verdict_by(outside)),
+        LegalPassage::Exact { clean: false } => {
+            let sides = inputs_lent(alloc, sys, seq, &grid, types)?;
+            Ok(judge_closed(sys, seq, &sides, outside))
+        }
     }
 }
 
@@ -81,36 +85,7 @@ pub fn judge_clean(sys: &System, seq: &Sequence, outside: Option<(Site, TypeId)>
     verdict_by(outside)
 }
 
-// The same, by what was found as the places came.
-fn grown_verdict(
-    alloc: Global,
-    sys: &System,
-    seq: &Sequence,
-    types: &TypeIndex,
-    grid: &Grid,
-    passage: Passage,
-    outside: Option<(Site, TypeId)>,
-) -> Result<Verdict, NoMemory>
-    requires fits { Fits sys.now seq.now }
-    requires index { IsIndexOf sys.now types.now }
-    requires area { grid.now.area ≡ sys.now.area }
-    requires passage { IsPassage sys.now seq.now grid.now.tiles passage }
-    requires closed { IsClosedInBox sys.now seq.now }
-    requires outside { IsLeastOpenOutside sys.now seq.now outside }
-    ensures { IfOk result (IsVerdict sys.now seq.now) }
-{
-    sys.recall_valid();
-    if let Some((site, sum)) = passage.inexact {
-        return Ok(Verdict::NotExact { site, sum });
-    }
-    if passage.clean {
-        return Ok(verdict_by(outside));
-    }
-    let sides = inputs_lent(alloc, sys, seq, grid, types)?;
-    Ok(judge_closed(sys, seq, &sides, outside))
-}
-
-// The same of a sequence that begins with the seeds.
+// What `judge_once` does with a sequence that begins with the seeds.
 fn judge_begun(alloc: Global, sys: &System, seq: &Sequence) -> Result<Judged, NoMemory>
     requires begun { take (length sys.now.seeds) seq.now ≡ sys.now.seeds }
     requires fits { Fits sys.now seq.now }

@@ -1,5 +1,5 @@
 -- Growth on a grid alone, at the least open site.
-use Rattle.std.specs.Prelude.{◌≡◌, ℕ, ◌+◌, ◌*◌, ◌≤◌, ◌<◌, ◌⊎◌, true, None, List, [], ◌∷◌, ◌++◌, All, map, length, Contains}
+use Rattle.std.specs.Prelude.{◌≡◌, ℕ, ◌+◌, ◌*◌, ◌≤◌, ◌<◌, ◌⊎◌, Bool, true, None, List, [], ◌∷◌, ◌++◌, All, map, length, Contains}
 use Rattle.atam.specs.declared.site.Side.{Side}
 use Rattle.atam.specs.declared.site.Site.{Site}
 use Rattle.atam.specs.declared.place.TypeId.{TypeId}
@@ -17,7 +17,7 @@ use Rattle.grow_core.specs.Steps.{place}
 use Rattle.number_set.specs.Numbers.{Numbers, IsIn, count_below}
 use Rattle.type_index.specs.Clean.{CameExact}
 use Rattle.frontier_seat.specs.Orders.{LoggedClaims}
-use Rattle.frontier_seat.specs.Inner.Looks.{ListsOpen}
+use Rattle.frontier_seat.specs.Inner.Looks.{KeepsClean, ListsOpen}
 
 -- the grid is over the box, and its tiles are the system's
 pub record IsFilling (sys : TileSystem) (grid : TileGrid) : Type 0 where
@@ -34,16 +34,27 @@ pub record ListsOn (sys : TileSystem) (before after : List Place) (old new : Num
   pub lists : ListsOpen sys after new
   pub work : (k : ℕ) → count_below new k + 4 * length before ≤ count_below old k + 4 * length after
 
--- a tile more, of a type that attached at its site, and it is logged
+-- the seeds and the tiles that came after them, how many there is room for, and whether it is clear that each tile came clean, held by exactly the temperature
+pub record LoggedTiles : Type 0 where
+  pub places : List Place
+  pub room : ℕ
+  pub clean : Bool
+
+-- a tile more, of a type that attached at its site, and it is listed behind the others
 pub record Fills (sys : TileSystem) (site : Site) (before after old new : List Place) : Type 0 where
   pub tile : TypeId
   pub grows : IsCandidate sys before site tile
   pub placements : SamePlacements (before ++ place site tile ∷ []) after
   pub logged : new ≡ old ++ place site tile ∷ []
 
+-- and it is logged
+pub record FillsSeen (sys : TileSystem) (site : Site) (before after : List Place) (old new : LoggedTiles) : Type 0 where
+  pub fills : Fills sys site before after old.places new.places
+  pub clean : KeepsClean sys before site old.clean new.clean
+
 -- or nothing
-abbrev pub MayFill : TileSystem → Site → List Place → List Place → List Place → List Place → Type 0
-MayFill sys site before after old new = Fills sys site before after old new ⊎ ((after ≡ before) × (new ≡ old))
+abbrev pub MayFill : TileSystem → Site → List Place → List Place → LoggedTiles → LoggedTiles → Type 0
+MayFill sys site before after old new = FillsSeen sys site before after old new ⊎ ((after ≡ before) × (new ≡ old))
 
 -- The tiles are those of a sequence that is legal and fills the least open site of the box at each step.
 pub record GrewInOrder (sys : TileSystem) (tiles order : List Place) : Type 0 where
@@ -51,10 +62,14 @@ pub record GrewInOrder (sys : TileSystem) (tiles order : List Place) : Type 0 wh
   pub least : FillsLeast sys order
   pub same : SamePlacements order tiles
 
--- The same where the tiles behind the seeds are the logged claims. If it is said so, each came clean, held by exactly the temperature.
+-- If it is said so, each of them came clean, held by exactly the temperature.
+pub record GrewSeen (sys : TileSystem) (tiles order : List Place) (clean : Bool) : Type 0 where
+  pub grew : GrewInOrder sys tiles order
+  pub exact : clean ≡ true → CameExact sys order
+
+-- The same where the tiles behind the seeds are the logged claims.
 pub record GrewByLog (sys : TileSystem) (tiles : List Place) (log : LoggedClaims) : Type 0 where
   pub claims : List Place
   pub sites : map (λ p. p.site) claims ≡ map (site_at sys.area) log.numbers
   pub within : All (λ n. n < cell_count sys.area) log.numbers
-  pub grew : GrewInOrder sys tiles (sys.seeds ++ claims)
-  pub clean : log.clean ≡ true → CameExact sys (sys.seeds ++ claims)
+  pub seen : GrewSeen sys tiles (sys.seeds ++ claims) log.clean

@@ -37,11 +37,15 @@ pub record ClaimsAt (sys : TileSystem) (site : Site) (old new : Growing) : Type 
   -- who owns all numbers wins it
   pub sole : old.seat.scout.owned ≡ 2 ^ 64 - 1 → IsCandidate sys old.grid.tiles site tile
 
--- A claim whose site's number is logged. If the log says that each claim came clean, it said so before, and whatever attached at the site comes clean.
+-- If it is said that each tile came clean, it was said so before, and whatever attached at the site among these tiles comes clean.
+abbrev pub KeepsClean : TileSystem → List Place → Site → Bool → Bool → Type 0
+KeepsClean sys tiles site old new = new ≡ true → (old ≡ true) × OpensExact sys tiles site
+
+-- a claim whose site's number is logged
 pub record LogsClaim (sys : TileSystem) (spot : Spot) (before after : Growing) (old new : LoggedClaims) : Type 0 where
   pub claim : ClaimsAt sys spot.site before after
   pub numbers : new.numbers ≡ old.numbers ++ spot.number ∷ []
-  pub clean : new.clean ≡ true → (old.clean ≡ true) × OpensExact sys before.grid.tiles spot.site
+  pub clean : KeepsClean sys before.grid.tiles spot.site old.clean new.clean
 
 -- or nothing
 abbrev pub MayLogClaim : TileSystem → Spot → Growing → Growing → LoggedClaims → LoggedClaims → Type 0

@@ -7,7 +7,7 @@ use Rattle.frontier_seat.specs.declared.work_list.Spot.{Spot}
 use Rattle.frontier_seat.specs.Inner.Listings.{IsSpot}
 use Rattle.frontier_seat.proofs.Listing.{closed_none, spot_here}
 use Rattle.frontier_seat.proofs.Looked.{less_work}
-use Rattle.frontier_seat.proofs.Ordering.{few_logged, least_listed, order_more, order_stays}
+use Rattle.frontier_seat.proofs.Ordering.{few_logged, least_listed, seen_more, seen_stays}
 use Rattle.frontier_seat.proofs.in_order.fill_all.Goals as goal
 
 pub fill-requires-clause-room : goal.fill-requires-clause-room
@@ -15,7 +15,7 @@ fill-requires-clause-room g c =
     let sys = c.args.sys.now in
     let inv = c.loop-number.invariant in
     let valid = c.area-area.ensures.valid in
-    let few = few_logged sys c.loop-number.grid.tiles c.loop-number.log.places valid inv.filling.fits inv.order in
+    let few = few_logged sys c.loop-number.grid.tiles c.loop-number.log.places valid inv.filling.fits inv.order.grew in
     let some = valid.some_seed in
     let room = inv.room in
     let enough = c.requires.room in
@@ -38,8 +38,8 @@ loop-number-preserved g c =
     let inv = c.loop-number.invariant in
     let before = c.loop-number.grid.tiles in
     let after = c.fill.new.grid.tiles in
-    let old = c.loop-number.log.places in
-    let new = c.fill.new.log.places in
+    let old = c.loop-number.log in
+    let new = c.fill.new.log in
     let numbers = c.loop-number.work.numbers in
     let site = c.site-site.result in
     let number = c.in-Some.number in
@@ -54,8 +54,9 @@ loop-number-preserved g c =
       row = c.site-site.ensures.row;
       lists = c.fill.ensures.lists.lists;
       order = elim c.fill.ensures.fills [
-        | inl fills ↦ order_more sys before after spot.site old new inv.filling.distinct (least_listed sys before numbers spot c.area-area.ensures.valid.box is_own inv.lists.all c.in-Some.ensures.least) fills inv.order
-        | inr same ↦ order_stays sys before after old new same.0 same.1 inv.order
+        | inl fills ↦ seen_more sys before after spot.site old.places new.places old.clean new.clean inv.filling.distinct
+            (least_listed sys before numbers spot c.area-area.ensures.valid.box is_own inv.lists.all c.in-Some.ensures.least) fills.fills fills.clean inv.order
+        | inr same ↦ seen_stays sys before after old new same.0 same.1 inv.order
       ];
       room = c.fill.ensures.room ∙ inv.room;
     }

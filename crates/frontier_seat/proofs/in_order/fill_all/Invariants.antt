@@ -2,7 +2,7 @@ use Rattle.std.proofs.Common.{◌≡◌, ◌+◌, ◌-◌, ◌*◌, length}
 use Rattle.assembly.specs.Cells.{cell_count}
 use Rattle.assembly.specs.Rows.{IsRow}
 use Rattle.number_set.specs.Numbers.{count_below}
-use Rattle.frontier_seat.specs.Inner.Fillings.{GrewInOrder, IsFilling}
+use Rattle.frontier_seat.specs.Inner.Fillings.{GrewSeen, IsFilling}
 use Rattle.frontier_seat.specs.Inner.Looks.{ListsOpen}
 use Rattle.frontier_seat.specs.Inner.Pickers.{IsPickerOf}
 use Rattle.frontier_seat.proofs.in_order.fill_all.Given as goal
@@ -15,7 +15,7 @@ invariant-loop-number g l = record {
   area : l.work.area ≡ l.fn.work.area;
   row : IsRow l.area l.row;
   lists : ListsOpen l.sys l.grid.tiles l.work.numbers;
-  order : GrewInOrder l.sys l.grid.tiles l.log.places;
+  order : GrewSeen l.sys l.grid.tiles l.log.places l.log.clean;
   room : l.log.room ≡ l.fn.log.room;
 }
 

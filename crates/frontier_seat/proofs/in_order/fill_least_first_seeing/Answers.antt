@@ -1,8 +1,9 @@
 use Rattle.std.proofs.Common.{◌∙◌, sym, subst}
 use Rattle.atam.specs.Canonical.{IsCanonical}
 use Rattle.atam.proofs.Opening.{Fits-part}
+use Rattle.type_index.specs.Clean.{CameExact}
 use Rattle.frontier_seat.proofs.Ordering.{canonical_order, full_growth}
-use Rattle.frontier_seat.proofs.in_order.fill_least_first_by_index.Goals as goal
+use Rattle.frontier_seat.proofs.in_order.fill_least_first_seeing.Goals as goal
 
 pub fill_all-requires-clause-filling : goal.fill_all-requires-clause-filling
 fill_all-requires-clause-filling g c =
@@ -15,11 +16,14 @@ fill_all-requires-clause-filling g c =
     }
 
 pub returns-clause-full : goal.returns-clause-full
-returns-clause-full g c = full_growth c.args.sys.now c.fill_all.new.grid c.fill_all.new.log.places c.fill_all.ensures.filling c.fill_all.ensures.closed c.fill_all.ensures.order
+returns-clause-full g c = full_growth c.args.sys.now c.fill_all.new.grid c.fill_all.new.log.places c.fill_all.ensures.filling c.fill_all.ensures.closed c.fill_all.ensures.order.grew
 
 pub returns-clause-order : goal.returns-clause-order
 returns-clause-order g c =
     let sys = c.args.sys.now in
     let tiles = c.fill_all.new.grid.tiles in
-    subst (IsCanonical sys tiles) (sym c.into_sequence.ensures)
-    (canonical_order sys tiles c.fill_all.new.log.places c.area-area.ensures.valid c.fill_all.ensures.filling.fits c.fill_all.ensures.order)
+    subst (IsCanonical sys tiles) (sym c.into_sequence-order.ensures)
+    (canonical_order sys tiles c.fill_all.new.log.places c.area-area.ensures.valid c.fill_all.ensures.filling.fits c.fill_all.ensures.order.grew)
+
+pub returns-clause-clean : goal.returns-clause-clean
+returns-clause-clean g c said = subst (CameExact c.args.sys.now) (sym c.into_sequence-order.ensures) (c.fill_all.ensures.order.exact (sym c.is_clean-clean.ensures ∙ said))
