@@ -8,13 +8,13 @@ use crate::{Failed, Sink, write_all};
 use std::marker::Model;
 
 /// How many bytes are held back at most.
-pub const CHUNK_ROOM: usize = 8192;
+pub const CHUNK_ROOM: usize = 65536;
 
 /// The bytes that are held back, on the stack. After a failure nothing is held, since it may be out
 /// already.
 #[derive(Drop)]
 pub struct Chunk {
-    bytes: [u8; 8192],
+    bytes: [u8; 65536],
     len: usize,
 }
 
@@ -23,7 +23,7 @@ impl Model for Chunk {
 
     ghost view = { λ chunk. take chunk.len chunk.bytes };
 
-    ghost invariant = { λ chunk. chunk.len ≤ 8192 };
+    ghost invariant = { λ chunk. chunk.len ≤ 65536 };
 }
 
 impl Chunk {
@@ -31,7 +31,7 @@ impl Chunk {
         ensures { result ≡ [] }
     {
         Chunk {
-            bytes: [0; 8192],
+            bytes: [0; 65536],
             len: 0,
         }
     }
