@@ -10,6 +10,7 @@ ghost use Rattle.cert_text.specs.CertificateLines.{mark_line, mark_lines, mark_w
 use crate::sides::sides_word;
 use cert_check::{Certificate, Entry};
 use itoa::Buffer;
+use seq_text::NumberTexts;
 use tile_io::{Chunk, Failed, Sink};
 use tile_system::{Site, System};
 
@@ -44,8 +45,9 @@ fn put_marks<K: Sink>(
 {
     // no entry states other sides than the four
     cert.recall_entries();
+    let mut numbers = NumberTexts::new();
     for index in 0..cert.len() {
-        put_mark(sys, cert.get(index), chunk, sink)?;
+        put_mark(sys, cert.get(index), &mut numbers, chunk, sink)?;
     }
     Ok(())
 }
@@ -54,6 +56,7 @@ fn put_marks<K: Sink>(
 fn put_mark<K: Sink>(
     sys: &System,
     entry: Entry,
+    numbers: &mut NumberTexts,
     chunk: &mut Chunk,
     sink: &mut K,
 ) -> Result<(), Failed>
@@ -67,29 +70,32 @@ fn put_mark<K: Sink>(
     chunk.make_room(sink, LONGEST_MARK_LINE)?;
     let Entry { place, sides, rank } = entry;
     let name = sys.type_name(place.tile);
-    hold_words(place.site, name, sides_word(sides), rank, chunk);
+    hold_words(place.site, name, sides_word(sides), rank, numbers, chunk);
     Ok(())
 }
 
 // Adds a line with these words, for which there is room.
-fn hold_words(site: Site, name: &[u8], sides: &[u8], rank: u32, chunk: &mut Chunk)
+fn hold_words(
+    site: Site,
+    name: &[u8],
+    sides: &[u8],
+    rank: u32,
+    numbers: &mut NumberTexts,
+    chunk: &mut Chunk,
+)
     requires room { length chunk.old + 96 ≤ CHUNK_ROOM }
     requires name { length name.now ≤ 40 }
     requires sides { length sides.now ≤ 4 }
     ensures { chunk.new ≡ chunk.old ++ mark_words site name.now sides.now rank }
 {
-    let mut x = Buffer::new();
-    let mut y = Buffer::new();
     let mut number = Buffer::new();
-    chunk.hold(b"mark ");
-    chunk.hold(x.format(site.x).as_bytes());
-    chunk.hold(b" ");
-    chunk.hold(y.format(site.y).as_bytes());
-    chunk.hold(b" ");
+    chunk.hold_front(b"mark    ", 5);
+    numbers.hold(site.x, chunk);
+    numbers.hold(site.y, chunk);
     chunk.hold(name);
-    chunk.hold(b" ");
+    chunk.hold_front(b" ", 1);
     chunk.hold(sides);
-    chunk.hold(b" ");
+    chunk.hold_front(b" ", 1);
     chunk.hold(number.format(rank).as_bytes());
-    chunk.hold(b"\n");
+    chunk.hold_front(b"\n", 1);
 }

@@ -22,6 +22,7 @@ pub use laws::{
     law_schedule_one_of_two,
 };
 pub use legality::print_legality;
+pub use number_texts::NumberTexts;
 pub use places::{PlacePieces, print_places, put_places};
 pub use plain::{plain_coordinate, plain_end};
 pub use reader::{read_grid, read_grid_once, read_sequence, read_sequence_once};

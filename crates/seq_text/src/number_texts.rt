@@ -37,7 +37,8 @@ impl NumberText {
     }
 }
 
-// At the place of a remainder the last number that has it.
+/// Numbers as they were last written, each at the place of its remainder by 1024: those of a box's
+/// columns all find a place of their own.
 #[derive(Drop)]
 pub struct NumberTexts {
     kept: [NumberText; 1024],
@@ -50,7 +51,7 @@ impl NumberTexts {
         }
     }
 
-    // Adds a number and a space to what is held.
+    /// Adds a number and a space to what is held.
     #[inline(always)]
     pub fn hold(&mut self, number: i32, chunk: &mut Chunk)
         requires { length chunk.old + 16 ≤ CHUNK_ROOM }

@@ -11,7 +11,7 @@ returns c =
     let name = c.args.name.now in
     let sides = c.args.sides.now in
     let rank = decimal c.args.rank in
-    let k : c.hold-11.new.self ≡ ((((((((((held ++ codes "mark ") ++ x) ++ 32 ∷ []) ++ y) ++ 32 ∷ []) ++ name) ++ 32 ∷ []) ++ sides) ++ 32 ∷ []) ++ rank) ++ 10 ∷ [] =
-    rw (c.hold-11.ensures.bytes, c.hold-10.ensures.bytes, c.hold-9.ensures.bytes, c.hold-8.ensures.bytes, c.hold-7.ensures.bytes, c.hold-6.ensures.bytes, c.hold-5.ensures.bytes, c.hold-4.ensures.bytes, c.hold-3.ensures.bytes, c.hold-2.ensures.bytes, c.hold.ensures.bytes) (grind (arith, ints, to_z-of_z))
+    let k : c.hold_front-4.new.self ≡ ((((((((((held ++ codes "mark ") ++ x) ++ 32 ∷ []) ++ y) ++ 32 ∷ []) ++ name) ++ 32 ∷ []) ++ sides) ++ 32 ∷ []) ++ rank) ++ 10 ∷ [] =
+    rw (c.hold_front-4.ensures.bytes, c.hold-5.ensures.bytes, c.hold_front-3.ensures.bytes, c.hold-4.ensures.bytes, c.hold_front-2.ensures.bytes, c.hold-3.ensures.bytes, c.hold-2.ensures.bytes, c.hold.ensures.bytes, c.hold_front.ensures.bytes) (grind (arith, ints, to_z-of_z))
     in
     k ∙ simp append_assoc refl
