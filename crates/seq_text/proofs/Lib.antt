@@ -3,6 +3,7 @@ pub mod Fitting
 pub mod Growths
 pub mod HeldLines
 pub mod LineEnds
+pub mod KeptNumbers
 pub mod NamedTypes
 pub mod Printed
 pub mod Scratch

@@ -1,5 +1,5 @@
 // Names as they end a line.
-ghost use Rattle.std.specs.Prelude.{◌≡◌, ◌≤◌, ◌+◌, [], ◌∷◌, ◌++◌, length};
+ghost use Rattle.std.specs.Prelude.{◌≡◌, ◌<◌, ◌≤◌, ◌+◌, [], ◌∷◌, ◌++◌, length, take, IfSome};
 ghost use Rattle.atam.specs.TileSystem.{IsType, IsValid, type_name};
 ghost use Rattle.tile_io.specs.declared.chunk.TheConstants.{CHUNK_ROOM};
 ghost use Rattle.seq_text.specs.Inner.LineEnds.{AreLineEnds, IsLineEnd};
@@ -13,10 +13,16 @@ const KEPT_NAMES: u32 = 1024;
 
 // A name and the newline behind it, at the front of a text, or nothing where they are longer.
 #[derive(Clone, Copy)]
-struct LineEnd {
+pub struct LineEnd {
     text: [u8; 16],
-    len: u8,
+    len: u32,
 }
+
+// All bytes are zero, so that a table of them is cleared in place.
+const NO_END: LineEnd = LineEnd {
+    text: [0; 16],
+    len: 0,
+};
 
 impl LineEnd {
     fn new(name: &[u8]) -> LineEnd
@@ -29,8 +35,18 @@ impl LineEnd {
         text[..name.len()].copy_from_slice(name);
         LineEnd {
             text,
-            len: name.len() as u8 + 1,
+            len: name.len() as u32 + 1,
         }
+    }
+
+    // Adds the name and the newline to what is held.
+    #[inline(always)]
+    pub fn hold(&self, chunk: &mut Chunk)
+        requires short { self.now.len ≤ 16 }
+        requires room { length chunk.old + 16 ≤ CHUNK_ROOM }
+        ensures { chunk.new ≡ chunk.old ++ take self.now.len self.now.text }
+    {
+        chunk.hold_front(&self.text, self.len as usize);
     }
 }
 
@@ -54,15 +70,15 @@ impl<'a> Model for LineEnds<'a> {
 }
 
 impl<'a> LineEnds<'a> {
-    pub fn new(sys: &'a System) -> LineEnds<'a>
+    // Nothing is ready yet.
+    #[inline(always)]
+    pub fn none(sys: &'a System) -> LineEnds<'a>
         ensures { result ≡ sys.now }
     {
-        let mut kept = [LineEnd {
-            text: [b'\n'; 16],
-            len: 0,
-        }; 1024];
-        make_ends(sys, &mut kept);
-        LineEnds { sys, kept }
+        LineEnds {
+            sys,
+            kept: [NO_END; 1024],
+        }
     }
 
     // Turns to another system.
@@ -73,17 +89,29 @@ impl<'a> LineEnds<'a> {
         self.sys = sys;
     }
 
-    // Adds a type's name and a newline to what is held.
+    // A type's name and a newline, where they are ready.
     #[inline(always)]
+    pub fn known(&self, tile: TypeId) -> Option<&LineEnd>
+        requires { IsType self.now tile }
+        ensures { IfSome result (λ end.
+            (0 < end.now.len) × IsLineEnd (type_name self.now tile) end.now) }
+    {
+        match self.kept.get(tile.0 as usize) {
+            Some(end) if end.len > 0 => Some(end),
+            _ => None,
+        }
+    }
+
+    // Adds a type's name and a newline to what is held.
     pub fn hold(&self, tile: TypeId, chunk: &mut Chunk)
         requires valid { IsValid self.now }
         requires known { IsType self.now tile }
         requires room { length chunk.old + 41 ≤ CHUNK_ROOM }
         ensures { chunk.new ≡ chunk.old ++ type_name self.now tile ++ 10 ∷ [] }
     {
-        match self.kept.get(tile.0 as usize) {
-            Some(end) if end.len > 0 => chunk.hold_front(&end.text, usize::from(end.len)),
-            _ => self.hold_name(tile, chunk),
+        match self.known(tile) {
+            Some(end) => end.hold(chunk),
+            None => self.hold_name(tile, chunk),
         }
     }
 

@@ -1,8 +1,10 @@
 // The lines of a sequence, in large pieces.
-ghost use Rattle.std.specs.Prelude.{All, ◌≡◌};
+ghost use Rattle.std.specs.Prelude.{All, ◌≡◌, ◌≤◌, ◌+◌, ◌++◌, length};
 ghost use Rattle.atam.specs.TileSystem.{IsType};
 ghost use Rattle.tile_io.specs.Prints.{Prints};
 ghost use Rattle.tile_io.specs.Chunks.{PassesOn};
+ghost use Rattle.tile_io.specs.declared.chunk.TheConstants.{CHUNK_ROOM};
+ghost use Rattle.seq_text.specs.declared.places.TheConstants.{LONGEST_PLACE_LINE};
 ghost use Rattle.seq_text.specs.GrowthLines.{place_line, place_lines};
 
 use crate::line_ends::LineEnds;
@@ -10,7 +12,7 @@ use crate::number_texts::NumberTexts;
 use assembly::Sequence;
 use std::marker::Model;
 use tile_io::{Chunk, Failed, Sink};
-use tile_system::{Place, System};
+use tile_system::{Place, System, TypeId};
 
 // The most bytes that a line may have: a keyword, two numbers of 32 bits and a name, behind each a
 // space or the newline.
@@ -35,14 +37,17 @@ impl<'a> Model for PlacePieces<'a> {
 }
 
 impl<'a> PlacePieces<'a> {
+    #[inline(always)]
     pub fn new(sys: &'a System) -> PlacePieces<'a>
         ensures { result ≡ sys.now }
     {
         sys.recall_valid();
-        PlacePieces {
-            ends: LineEnds::new(sys),
+        let mut pieces = PlacePieces {
+            ends: LineEnds::none(sys),
             numbers: NumberTexts::new(),
-        }
+        };
+        pieces.ends.turn_to(sys);
+        pieces
     }
 
     /// Turns to another system, in time that grows with the number of its first types alone.
@@ -67,11 +72,41 @@ impl<'a> PlacePieces<'a> {
             (place_line self.old place) }
     {
         chunk.make_room(sink, LONGEST_PLACE_LINE)?;
-        chunk.hold_front(b"place   ", 6);
-        self.numbers.hold(place.site.x, chunk);
-        self.numbers.hold(place.site.y, chunk);
-        self.ends.hold(place.tile, chunk);
+        self.hold(place, chunk);
         Ok(())
+    }
+
+    // The same where there is room.
+    #[inline(always)]
+    fn hold(&mut self, place: Place, chunk: &mut Chunk)
+        requires known { IsType self.old place.tile }
+        requires room { length chunk.old + LONGEST_PLACE_LINE ≤ CHUNK_ROOM }
+        ensures same { self.new ≡ self.old }
+        ensures line { chunk.new ≡ chunk.old ++ place_line self.old place }
+    {
+        if let Some(column) = self.numbers.known(place.site) {
+            if let Some(end) = self.ends.known(place.tile) {
+                column.hold(chunk);
+                self.numbers.hold_row(chunk);
+                return end.hold(chunk);
+            }
+        }
+        self.hold_anew(place.site.x, place.site.y, place.tile, chunk);
+    }
+
+    // The same where not all of its pieces are ready.
+    #[inline(never)]
+    fn hold_anew(&mut self, column: i32, row: i32, tile: TypeId, chunk: &mut Chunk)
+        requires known { IsType self.old tile }
+        requires room { length chunk.old + LONGEST_PLACE_LINE ≤ CHUNK_ROOM }
+        ensures same { self.new ≡ self.old }
+        ensures line { chunk.new ≡ chunk.old ++ place_line self.old
+            (record { site = record { x = column; y = row }; tile = tile }) }
+    {
+        self.numbers.turn_to_row(row);
+        self.numbers.hold_column(column, chunk);
+        self.numbers.hold_row(chunk);
+        self.ends.hold(tile, chunk);
     }
 }
 
