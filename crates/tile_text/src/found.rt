@@ -5,11 +5,12 @@ ghost use Rattle.tile_system.specs.Names.{type_named};
 
 use tile_system::{System, TypeId};
 
-const PLACES: u32 = 256;
+// Of so many types hardly a line finds its own kept, so that it costs more than it saves.
+const MANY_TYPES: u32 = 4096;
 
 /// The types that were last found, for a text whose lines name few types. A type has a place by the
 /// last two bytes of its name, and is found there by one comparison of names. Where a system has
-/// more types than there are places, nothing is kept.
+/// very many types, nothing is kept.
 #[derive(Drop)]
 pub struct FoundTypes {
     kept: [TypeId; 256],
@@ -31,7 +32,7 @@ impl FoundTypes {
         ensures named { IfSome result (λ tile. type_name sys.now tile ≡ name.now) }
         ensures absent { IfNone result (All (λ tile. tile.name ≢ name.now) sys.now.types) }
     {
-        if sys.type_count() > PLACES {
+        if sys.type_count() >= MANY_TYPES {
             return sys.find_type(name);
         }
         // names of types are distinct
