@@ -2,6 +2,7 @@
 ghost use Rattle.std.specs.Prelude.{◌≡◌, ◌↔◌, IsTrue};
 
 use crate::entries::{GlueEntry, TypeEntry};
+use crate::name::is_same_name;
 use crate::named::Named;
 use atam::{BoxArea, GluePair, Place, Side};
 
@@ -13,7 +14,7 @@ pub trait Same {
 
 impl Same for GlueEntry {
     fn is_same(&self, other: &GlueEntry) -> bool {
-        self.strength() == other.strength() && self.name() == other.name()
+        self.strength() == other.strength() && is_same_name(self.name(), other.name())
     }
 }
 
@@ -23,7 +24,7 @@ impl Same for TypeEntry {
             && self.side(Side::East) == other.side(Side::East)
             && self.side(Side::South) == other.side(Side::South)
             && self.side(Side::West) == other.side(Side::West)
-            && self.name() == other.name()
+            && is_same_name(self.name(), other.name())
     }
 }
 

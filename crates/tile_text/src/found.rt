@@ -3,7 +3,7 @@ ghost use Rattle.std.specs.Prelude.{◌≡◌, ◌≢◌, ◌<◌, IsTrue, IfSom
 ghost use Rattle.atam.specs.TileSystem.{IsType, type_name};
 ghost use Rattle.tile_system.specs.Names.{type_named};
 
-use tile_system::{System, TypeId};
+use tile_system::{System, TypeId, is_same_name};
 
 // Of so many types hardly a line finds its own kept, so that it costs more than it saves.
 const MANY_TYPES: u32 = 4096;
@@ -68,5 +68,5 @@ fn has_name(sys: &System, tile: TypeId, name: &[u8]) -> bool
     ensures known { IsTrue result → IsType sys.now tile }
     ensures named { IsTrue result → type_name sys.now tile ≡ name.now }
 {
-    tile.0 < sys.type_count() && sys.type_name(tile) == name
+    tile.0 < sys.type_count() && is_same_name(sys.type_name(tile), name)
 }
