@@ -15,23 +15,15 @@ use std::alloc::Global;
 use tile_io::{Cause, LineStop, LineWords, WordIter, words};
 
 /// The numbers that the words of a line behind the first refer to, each in time that grows with the
-/// number of names.
+/// number of names. It goes over the line once.
 pub fn find_names(alloc: Global, names: &NameList, words: &LineWords) -> Result<Vec<u32>, LineStop>
     requires { 2 ≤ length words.now }
     ensures { Refers (references names.now (drop 1 words.now)) result }
 {
-    let mut numbers = Vec::new(alloc);
-    for index in 1..words.len() {
-        let number = find_name(names, words.word(index))?;
-        match numbers.push(number) {
-            Ok(()) => {}
-            Err(_) => return Err(LineStop::NoMemory),
-        }
-    }
-    Ok(numbers)
+    find_names_of_line(alloc, names, words.line())
 }
 
-/// The numbers that the words of a line behind the first refer to. It goes over the line once.
+/// The same by the line.
 pub fn find_names_of_line(
     alloc: Global,
     names: &NameList,

@@ -48,6 +48,13 @@ impl<'a> LineWords<'a> {
         LineWords { line, places }
     }
 
+    /// The line, for who goes over its words one after the other.
+    pub fn line(&self) -> &'a [u8]
+        ensures { words_of result.now ≡ self.now }
+    {
+        self.line
+    }
+
     /// The number of words.
     pub fn len(&self) -> usize
         ensures { result ≡ length self.now }
