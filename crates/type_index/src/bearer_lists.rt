@@ -1,5 +1,5 @@
 // The types by the glue that they bear on one of their sides.
-ghost use Rattle.std.specs.Prelude.{◌≡◌, ◌<◌, ◌+◌, ◌-◌, length, slice_index, slice_set, IfOk, IfSome, Some, Option, option_and_then};
+ghost use Rattle.std.specs.Prelude.{◌≡◌, ◌<◌, ◌≤◌, ◌+◌, ◌-◌, length, slice_index, slice_set, IfOk, IfSome, Some, Option, option_and_then};
 ghost use Rattle.atam.specs.declared.site.Side.{Side};
 ghost use Rattle.atam.specs.declared.place.GlueId.{GlueId};
 ghost use Rattle.atam.specs.TileSystem.{TileSystem, IsType, side_glue};
@@ -118,5 +118,28 @@ impl BearerLists {
     {
         sys.recall_valid();
         self.next[tile] as usize
+    }
+
+    // The next type from a bound on that bears the glue of this one.
+    #[inline(always)]
+    pub(crate) fn next_from(
+        &self,
+        sys: &System,
+        side: Side,
+        glue: GlueId,
+        tile: usize,
+        bound: usize,
+    ) -> usize
+        requires lists { AreListsOf sys.now side self.now }
+        requires within { bound ≤ length sys.now.types }
+        requires before { tile < bound }
+        requires bears { Bears sys.now side glue (record { 0 = tile }) }
+        ensures { IsNextBearer sys.now side glue bound result }
+    {
+        let mut at = self.next(sys, side, glue, tile);
+        while at < bound {
+            at = self.next(sys, side, glue, at);
+        }
+        at
     }
 }

@@ -8,7 +8,7 @@ ghost use Rattle.atam.specs.Assembly.{interaction};
 ghost use Rattle.type_index.specs.Indexes.{AreGlueFacts};
 ghost use Rattle.type_index.specs.Meetings.{AreMeetings, Leads};
 ghost use Rattle.type_index.specs.PairLinks.{ArePairLinks, HasGlue};
-ghost use Rattle.type_index.specs.Inner.Cursors.{GoesBy, IsCursor};
+ghost use Rattle.type_index.specs.Inner.Cursors.{GoesBy, IsBehind, IsCursor};
 ghost use Rattle.type_index.specs.Inner.Linking.{HasNoMeetings, PutsMeeting};
 
 use crate::cursor::{Cursor, Way};
@@ -237,6 +237,8 @@ impl MeetingLists {
         requires bound { most ≤ MOST_STRENGTH }
         ensures cursor { IsCursor sys.now side (Some glue) from result }
         ensures way { GoesBy sys.now side self.now.meetings (Some glue) result result.way }
+        ensures meetings { result.way ≡ Way.Meetings }
+        ensures most { result.most ≡ most }
     {
         sys.recall_valid();
         let meeting = self.meetings[place as usize];
@@ -247,6 +249,34 @@ impl MeetingLists {
             next: meeting.next,
             way: Way::Meetings,
         }
+    }
+
+    // Passes all types before a bound, along the list of a glue.
+    #[inline(always)]
+    pub(crate) fn pass_to(
+        &self,
+        sys: &System,
+        side: Side,
+        glue: GlueId,
+        cursor: &mut Cursor,
+        bound: usize,
+    )
+        requires within { bound ≤ length sys.now.types }
+        requires before { cursor.old.at < bound }
+        requires cursor { IsBehind sys.now side (Some glue) bound cursor.old }
+        requires way { GoesBy sys.now side self.now.meetings (Some glue) cursor.old Way.Meetings }
+        requires meetings { cursor.old.way ≡ Way.Meetings }
+        ensures cursor { IsCursor sys.now side (Some glue) bound cursor.new }
+        ensures way { GoesBy sys.now side self.now.meetings (Some glue) cursor.new cursor.new.way }
+        ensures most { cursor.new.most ≡ cursor.old.most }
+    {
+        let mut on = self.cursor(sys, side, glue, cursor.at + 1, cursor.next, cursor.most);
+        while on.at < bound {
+            on = self.cursor(sys, side, glue, on.at + 1, on.next, on.most);
+        }
+        cursor.at = on.at;
+        cursor.strength = on.strength;
+        cursor.next = on.next;
     }
 }
 
