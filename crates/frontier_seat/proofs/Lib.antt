@@ -4,3 +4,4 @@ pub mod Listing
 pub mod Ordering
 pub mod ClosedRows
 pub mod Logged
+pub mod Candidates

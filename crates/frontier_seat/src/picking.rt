@@ -8,7 +8,7 @@ ghost use Rattle.type_index.specs.Clean.{OpensExact};
 ghost use Rattle.type_index.specs.Findings.{SumsUpCandidates};
 ghost use Rattle.type_index.specs.Indexes.{IsIndexOf};
 ghost use Rattle.frontier_seat.specs.Inner.Looks.{IsOpenType};
-ghost use Rattle.frontier_seat.specs.Inner.Pickers.{IsPickerOf};
+ghost use Rattle.frontier_seat.specs.Inner.Pickers.{HasMoreThan, IsPickerOf};
 
 use crate::Chooser;
 use crate::types::Types;
@@ -106,43 +106,30 @@ impl<'i> Picker<'i> {
         ensures open { IsOpenType sys.now grid.now.tiles site result }
         ensures picker { IsPickerOf sys.now self.new }
     {
-        if found.count > 2 {
-            return self.pick_listed(sys, grid, site, chooser);
-        }
         if found.count < 2 {
             return found.first;
         }
-        if chooser.pick(found.count) == 0 {
-            found.first
-        } else {
-            found.second
+        match chooser.pick(found.count) {
+            0 => found.first,
+            1 => found.second,
+            picked => self.pick_listed(sys, grid, site, picked),
         }
     }
 
-    // The same, over the list of all that attach. It looks up itself what stands beside the site, so
-    // that the caller need not keep that in memory.
+    // The one at this place of the list of all that attach. It looks up itself what stands beside
+    // the site, so that the caller need not keep that in memory.
     #[inline(never)]
-    fn pick_listed<C: Chooser>(
-        &mut self,
-        sys: &System,
-        grid: &Grid,
-        site: Site,
-        chooser: &mut C,
-    ) -> Option<TypeId>
+    fn pick_listed(&mut self, sys: &System, grid: &Grid, site: Site, picked: u32) -> Option<TypeId>
         requires picker { IsPickerOf sys.now self.old }
         requires near { IsNearSite site }
         requires empty { tile_at grid.now.tiles site ≡ None }
         requires fits { Fits sys.now grid.now.tiles }
+        requires more { HasMoreThan sys.now grid.now.tiles site picked }
         ensures open { IsOpenType sys.now grid.now.tiles site result }
         ensures picker { IsPickerOf sys.now self.new }
     {
         let beside = grid.beside(site);
         self.list.list(sys, self.types.index(), grid, site, &beside);
-        let listed = self.list.types();
-        let count = listed.len();
-        if count == 0 {
-            return None;
-        }
-        Some(listed.get(chooser.pick(count)))
+        Some(self.list.types().get(picked))
     }
 }
