@@ -1,21 +1,21 @@
 // What was found at places whose tiles and surroundings came before.
-ghost use Rattle.std.specs.Prelude.{◌≡◌, true, IfOk, IfNone};
+ghost use Rattle.std.specs.Prelude.{◌≡◌, ◌<◌, true, IfOk, IfNone};
 ghost use Rattle.attach_rule.specs.declared.facing.FacingGlues.{FacingGlues};
 ghost use Rattle.atam.specs.Sites.{InBox};
 ghost use Rattle.atam.specs.TileSystem.{TileSystem, IsType, IsValid};
 ghost use Rattle.atam.specs.Assembly.{Fits};
-ghost use Rattle.attach_rule.specs.Facing.{FacesSite};
+ghost use Rattle.assembly.specs.Cells.{cell_count, site_at};
 ghost use Rattle.type_index.specs.Indexes.{IsIndexOf};
 ghost use Rattle.type_index.specs.HeldTypes.{FirstHeldBut};
-ghost use Rattle.type_index.specs.Findings.{AreFindings, IsKeyOf};
+ghost use Rattle.type_index.specs.Findings.{AreFindings};
 ghost use Rattle.local_check.specs.Inner.PlaceFindings.{IsFinding, ArePlaceFindings, IsKept};
 
-use assembly::{Grid, site_index};
+use assembly::Grid;
 use attach_rule::FacingGlues;
 use std::alloc::Global;
 use std::marker::Model;
-use tile_system::{NoMemory, Place, Side, Site, System, TypeId};
-use type_index::{FacingCache, SideSet, TypeIndex, glues_of_key, key_of_codes};
+use tile_system::{NoMemory, Place, System, TypeId};
+use type_index::{FacingCache, SideSet, TypeIndex, glues_of_key, key_beside};
 
 // What is found at a place, where tiles stood beside some sides before: the sides that interact
 // with those tiles, their pull, the other sides that interact, and the first rival.
@@ -110,6 +110,7 @@ impl Findings {
         types: &TypeIndex,
         whole: &Grid,
         place: Place,
+        number: usize,
         before: &SideSet,
     ) -> Finding
         requires valid { IsValid sys.now }
@@ -118,13 +119,16 @@ impl Findings {
         requires fits { Fits sys.now whole.now.tiles }
         requires kind { IsType sys.now place.tile }
         requires inside { InBox whole.now.area place.site }
+        requires within { number < cell_count whole.now.area }
+        requires number { site_at whole.now.area number ≡ place.site }
         ensures finding { IsFinding sys.now whole.now.tiles place.site place.tile
             before.now self.old.seeks result }
         ensures known { ArePlaceFindings sys.now self.new }
         ensures seeks { self.new.seeks ≡ self.old.seeks }
     {
+        whole.recall_sites();
         let Place { site, tile } = place;
-        let key = key_inside(sys, types, whole, site);
+        let key = key_beside(sys, types, whole, site, &whole.beside_at(site, number));
         let last = &self.last[tile.0 as usize];
         if last.key == key && last.before.is_same(before) {
             return last.finding;
@@ -182,25 +186,4 @@ impl Findings {
         }
         self.cache.found(sys, types, kept).other_than(tile)
     }
-}
-
-// The key of the glues that face a site of the box. It goes from each tile beside the site to its
-// glue before it looks at the next tile, so that what it holds at a time fits in registers.
-#[inline(always)]
-#[tactic(auto, using(attach_rule::proofs::Held::kind_beside))]
-pub(crate) fn key_inside(sys: &System, types: &TypeIndex, whole: &Grid, site: Site) -> u64
-    requires index { IsIndexOf sys.now types.now }
-    requires valid { IsValid sys.now }
-    requires fits { Fits sys.now whole.now.tiles }
-    requires inside { InBox whole.now.area site }
-    ensures { (glues : FacingGlues) → FacesSite sys.now whole.now.tiles site glues
-        → IsKeyOf glues result }
-{
-    let area = whole.area();
-    let index = site_index(&area, site);
-    let north = types.side_code(sys, whole.beside_at(site, index).north, Side::South);
-    let east = types.side_code(sys, whole.beside_at(site, index).east, Side::West);
-    let south = types.side_code(sys, whole.beside_at(site, index).south, Side::North);
-    let west = types.side_code(sys, whole.beside_at(site, index).west, Side::East);
-    key_of_codes(north, east, south, west)
 }

@@ -9,16 +9,14 @@ ghost use Rattle.type_index.specs.Indexes.{IsIndexOf};
 ghost use Rattle.type_index.specs.HeldTypes.{IsHeld};
 ghost use Rattle.type_index.specs.Findings.{AreFindings};
 ghost use Rattle.type_index.specs.Clean.{AreSettled};
-ghost use Rattle.type_index.specs.SideSets.{sides_beside};
 ghost use Rattle.local_check.specs.Inner.Glances.{AreGlances, IsGlance, IsGlanceFor};
 
-use crate::findings::key_inside;
 use assembly::Grid;
 use attach_rule::{FacingGlues, Strengths};
 use std::alloc::Global;
 use std::marker::Model;
 use tile_system::{NoMemory, Place, Site, System, TypeId};
-use type_index::{FacingCache, SideSet, TypeIndex, glues_of_key, settled_sides};
+use type_index::{FacingCache, SideSet, TypeIndex, glues_of_key, key_beside, settled_sides};
 
 // What is seen of a tile as it comes: the sum that holds it, and whether it comes clean.
 #[derive(Clone, Copy)]
@@ -110,9 +108,11 @@ impl Glances {
         ensures glance { IsGlance sys.now grid.now.tiles place.site place.tile result }
         ensures known { AreGlances sys.now self.new }
     {
+        grid.recall_sites();
         let Place { site, tile } = place;
-        let key = key_inside(sys, types, grid, site);
-        let beside = sides_beside(grid, site, number);
+        let tiles = grid.beside_at(site, number);
+        let key = key_beside(sys, types, grid, site, &tiles);
+        let beside = SideSet::beside(&tiles);
         let last = &self.last[tile.0 as usize];
         if last.key == key && last.beside.is_same(&beside) {
             return Glance {
@@ -180,15 +180,4 @@ impl Glances {
         let other = self.cache.found(sys, types, glues).other_than(tile);
         other.is_none()
     }
-}
-
-// The sides of a site of the box beside which a tile stands.
-#[inline(always)]
-fn sides_beside(grid: &Grid, site: Site, number: usize) -> SideSet
-    requires inside { InBox grid.now.area site }
-    requires within { number < cell_count grid.now.area }
-    requires number { site_at grid.now.area number ≡ site }
-    ensures { result ≡ sides_beside grid.now.tiles site }
-{
-    SideSet::beside(&grid.beside_at(site, number))
 }

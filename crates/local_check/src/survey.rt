@@ -105,7 +105,7 @@ pub(crate) fn survey_range(
         let place = seq.get(index);
         let number = site_index(&area, place.site);
         let before = stood.beside(place.site, number);
-        let finding = findings.at(sys, types, whole, place, &before);
+        let finding = findings.at(sys, types, whole, place, number, &before);
         sides.push_reserved(PlaceSides::of(finding.earlier, finding.outputs));
         if index >= seed_count {
             stood.insert(place, number);

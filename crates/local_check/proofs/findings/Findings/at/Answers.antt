@@ -9,7 +9,11 @@ use Rattle.type_index.specs.Findings.{IsKeyOf}
 use Rattle.type_index.specs.SideSets.{SideSet}
 use Rattle.local_check.specs.declared.findings.Known.{Known}
 use Rattle.local_check.specs.Inner.PlaceFindings.{FindingTable, IsFinding, ArePlaceFindings, IsKept}
+use Rattle.atam.proofs.Boxes.{near_inside}
 use Rattle.local_check.proofs.findings.Findings.at.Goals as goal
+
+pub key_beside-key-requires-clause-near : goal.key_beside-key-requires-clause-near
+key_beside-key-requires-clause-near c = near_inside c.args.whole.now.area c.args.place.site c.recall_sites.ensures.box_limits c.requires.inside
 
 pub returns-then-is_same-clause-finding : goal.returns-then-is_same-clause-finding
 returns-then-is_same-clause-finding c =
@@ -34,7 +38,7 @@ returns-then-is_same-clause-finding c =
     let Stood : SideSet → Type 0 = λ sides. IsFinding sys whole site tile sides seeks last.finding in
     let Sought : Bool → Type 0 = λ b. IsFinding sys whole site tile last.before b last.finding in
     subst Stood stood (subst Sought (ap (λ table. table.seeks) c.self.view_is)
-    (known.each tile last read whole site glues faces (subst (IsKeyOf glues) (sym c.if-last-key.true) (c.key_inside-key.ensures glues faces))))
+    (known.each tile last read whole site glues faces (subst (IsKeyOf glues) (sym c.if-last-key.true) (c.key_beside-key.ensures glues faces))))
 
 pub returns-clause-finding : goal.returns-clause-finding
 returns-clause-finding c =
@@ -45,12 +49,12 @@ returns-clause-finding c =
     let before = c.args.before.now in
     let seeks = c.args.self.now.seeks in
     let Table : FindingTable → Type 0 = λ table. ArePlaceFindings sys table in
-    let Kept : FindingTable → Type 0 = λ table. IsKept table tile c.key_inside-key.result before in
+    let Kept : FindingTable → Type 0 = λ table. IsKept table tile c.key_beside-key.result before in
     let known = subst Table (sym c.self-2.view_is) c.find.ensures.known in
     let items = c.self-2.inside.last.items in
     let last = c.index.result.now in
     let read = slice_get_read items (length items) tile.0 last refl (omega (arith, known.count, c.requires.kind)) c.index.ensures in
-    let Here : Option Known → Type 0 = λ found. IfSome found (λ k. (k.key ≡ c.key_inside-key.result) × (k.before ≡ before)) in
+    let Here : Option Known → Type 0 = λ found. IfSome found (λ k. (k.key ≡ c.key_beside-key.result) × (k.before ≡ before)) in
     let kept = subst Here read (subst Kept (sym c.self-2.view_is) c.find.ensures.kept) in
     let glues : FacingGlues = record {
       north = glue_at sys whole (neighbor site North) South;
@@ -62,4 +66,4 @@ returns-clause-finding c =
     let Stood : SideSet → Type 0 = λ sides. IsFinding sys whole site tile sides seeks last.finding in
     let Sought : Bool → Type 0 = λ b. IsFinding sys whole site tile last.before b last.finding in
     subst Stood kept.1 (subst Sought (ap (λ table. table.seeks) c.self-2.view_is ∙ c.find.ensures.seeks)
-    (known.each tile last read whole site glues faces (subst (IsKeyOf glues) (sym kept.0) (c.key_inside-key.ensures glues faces))))
+    (known.each tile last read whole site glues faces (subst (IsKeyOf glues) (sym kept.0) (c.key_beside-key.ensures glues faces))))

@@ -7,7 +7,11 @@ use Rattle.attach_rule.specs.declared.facing.FacingGlues.{FacingGlues}
 use Rattle.attach_rule.specs.Facing.{FacesSite}
 use Rattle.type_index.specs.Findings.{IsKeyOf}
 use Rattle.local_check.specs.Inner.Glances.{GlanceTable, AreGlances}
+use Rattle.atam.proofs.Boxes.{near_inside}
 use Rattle.local_check.proofs.glances.Glances.at.Goals as goal
+
+pub key_beside-key-requires-clause-near : goal.key_beside-key-requires-clause-near
+key_beside-key-requires-clause-near c = near_inside c.args.grid.now.area c.args.place.site c.recall_sites.ensures.box_limits c.requires.inside
 
 pub returns-then-is_same-clause-glance : goal.returns-then-is_same-clause-glance
 returns-then-is_same-clause-glance c =
@@ -27,9 +31,9 @@ returns-then-is_same-clause-glance c =
       west = glue_at sys tiles (neighbor site West) East;
     } in
     let faces : FacesSite sys tiles site glues = record { north = refl; east = refl; south = refl; west = refl } in
-    let same : last.beside ≡ c.sides_beside-beside.result = c.if-is_same.ensures search rules in
+    let same : last.beside ≡ c.beside-beside.result = c.if-is_same.ensures search rules in
     known.each tile last read tiles site glues faces
-    (subst (IsKeyOf glues) (sym c.if-last-key.true) (c.key_inside-key.ensures glues faces)) (same ∙ c.sides_beside-beside.ensures)
+    (subst (IsKeyOf glues) (sym c.if-last-key.true) (c.key_beside-key.ensures glues faces)) (same ∙ (c.beside-beside.ensures tiles site c.beside_at-tiles.ensures))
 
 pub returns-clause-glance : goal.returns-clause-glance
 returns-clause-glance c =
@@ -43,4 +47,4 @@ returns-clause-glance c =
       west = glue_at sys tiles (neighbor site West) East;
     } in
     let faces : FacesSite sys tiles site glues = record { north = refl; east = refl; south = refl; west = refl } in
-    c.look.ensures.glance tiles site glues faces (c.key_inside-key.ensures glues faces) c.sides_beside-beside.ensures
+    c.look.ensures.glance tiles site glues faces (c.key_beside-key.ensures glues faces) (c.beside-beside.ensures tiles site c.beside_at-tiles.ensures)
