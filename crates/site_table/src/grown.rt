@@ -6,12 +6,13 @@ ghost use Rattle.atam.specs.declared.site.Site.{Site};
 ghost use Rattle.atam.specs.Placements.{tile_at, SamePlacements, HasDistinctSites};
 ghost use Rattle.assembly.specs.Cells.{cell_count, site_at};
 ghost use Rattle.assembly.specs.Grids.{place_of};
+ghost use Rattle.assembly.specs.Rows.{IsRow};
 ghost use Rattle.site_table.specs.Inner.Tallies.{tallied};
 ghost use Rattle.site_table.specs.Words.{is_by, spelled};
 
 use crate::table::type_of;
 use crate::tally::Tally;
-use assembly::{Grid, site_of_index};
+use assembly::{Grid, Row};
 use atomic_table::Closed;
 use std::alloc::Global;
 use std::marker::Model;
@@ -56,14 +57,23 @@ impl Grown {
 
 // Adds the place of one word, if it is of a tile.
 #[inline(always)]
-fn take_word(area: &BoxArea, index: usize, word: u64, into: &mut Grid, won: &mut Tally)
+fn take_word(
+    area: &BoxArea,
+    row: &mut Row,
+    index: usize,
+    word: u64,
+    into: &mut Grid,
+    won: &mut Tally,
+)
     requires limits { IsBox area.now }
+    requires row { IsRow area.now row.old }
     requires area { into.old.area ≡ area.now }
     requires within { index < cell_count area.now }
     requires coded { word ≢ 0 → 0 < word % 4294967296 }
     requires small { word % 4294967296 ≤ 16384 }
     requires empty { tile_at into.old.tiles (site_at area.now index) ≡ None }
     requires few { (n : ℕ) → tallied won.old n ≤ index }
+    ensures row { IsRow area.now row.new }
     ensures area { into.new.area ≡ into.old.area }
     ensures tiles { (m : Site) → tile_at into.new.tiles m
         ≡ tile_at (into.old.tiles ++ place_of (site_at area.now index) (word % 4294967296)) m }
@@ -73,7 +83,7 @@ fn take_word(area: &BoxArea, index: usize, word: u64, into: &mut Grid, won: &mut
     if word == 0 {
         return;
     }
-    let site = site_of_index(area, index);
+    let site = row.site(area, index);
     let tile = type_of(word);
     into.put_at(Place { site, tile }, index);
     won.add((word >> 32) as usize);
@@ -98,10 +108,18 @@ pub(crate) fn gather(closed: &Closed<(), Global>, area: BoxArea, into: Grid) -> 
 {
     let mut into = into;
     let mut won = Tally::new();
+    let mut row = Row::least(&area);
     let count = area.width() as usize * area.height() as usize;
     let mut index = 0;
     while index < count {
-        take_word(&area, index, closed.word(index), &mut into, &mut won);
+        take_word(
+            &area,
+            &mut row,
+            index,
+            closed.word(index),
+            &mut into,
+            &mut won,
+        );
         index += 1;
     }
     into.recall_sites();

@@ -17,7 +17,7 @@ add-requires c = record {
 
 pub returns-clause-tiles : goal.returns-clause-tiles
 returns-clause-tiles c =
-    let site = c.site_of_index-site.ensures.site in
+    let site = c.site-site.ensures.site in
     let low = c.requires.coded c.if-word-eq0.false in
     took c.args.into.now.tiles c.put_at.new.self.tiles (site_at c.args.area.now c.args.index) (c.args.word % 4294967296) _ low site (ap (λ (t : TypeId). t.0) c.type_of-tile.ensures) c.requires.empty c.put_at.ensures.here c.put_at.ensures.others
 
@@ -25,4 +25,4 @@ pub put_at-requires-clause-within : goal.put_at-requires-clause-within
 put_at-requires-clause-within c = subst (λ (a : BoxArea). c.args.index < cell_count a) (sym c.requires.area) c.requires.within
 
 pub put_at-requires-clause-number : goal.put_at-requires-clause-number
-put_at-requires-clause-number c = ap (λ (a : BoxArea). site_at a c.args.index) c.requires.area ∙ sym c.site_of_index-site.ensures.site
+put_at-requires-clause-number c = ap (λ (a : BoxArea). site_at a c.args.index) c.requires.area ∙ sym c.site-site.ensures.site
