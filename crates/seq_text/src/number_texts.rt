@@ -92,6 +92,7 @@ impl ColumnText {
     }
 
     // The number without the keyword.
+    #[inline(always)]
     fn number_text(&self) -> NumberText
         requires { 0 < self.now.len }
         ensures { result.number ≡ self.now.number }
@@ -189,6 +190,21 @@ impl NumberTexts {
     /// Adds a number and a space to what is held.
     #[inline(always)]
     pub fn hold(&mut self, number: i32, chunk: &mut Chunk)
+        requires { length chunk.old + 16 ≤ CHUNK_ROOM }
+        ensures same { self.new ≡ self.old }
+        ensures bytes { chunk.new ≡ chunk.old ++ signed_decimal number ++ 32 ∷ [] }
+        ensures len { length chunk.new ≤ length chunk.old + 12 }
+    {
+        let kept = &self.kept[place_of(number)];
+        if kept.number == number && kept.len > 0 {
+            return kept.number_text().hold(chunk);
+        }
+        self.hold_anew(number, chunk);
+    }
+
+    // The same where it isn't kept.
+    #[inline(never)]
+    fn hold_anew(&mut self, number: i32, chunk: &mut Chunk)
         requires { length chunk.old + 16 ≤ CHUNK_ROOM }
         ensures same { self.new ≡ self.old }
         ensures bytes { chunk.new ≡ chunk.old ++ signed_decimal number ++ 32 ∷ [] }

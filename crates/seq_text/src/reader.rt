@@ -311,6 +311,7 @@ impl<'a> GrowthReader<'a> {
     }
 
     // Adds a place that may stand here.
+    #[inline(always)]
     fn hold(&mut self, place: Place) -> Result<(), NoMemory>
         requires grid { HasScratch self.old.system.now self.old.places self.old.scratch }
         requires inside { InBox self.old.system.now.area place.site }
