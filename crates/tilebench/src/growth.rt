@@ -8,8 +8,8 @@ use crate::judged::{JudgedGrowth, is_unique};
 use crate::room::Reply;
 use assembly::{Grid, Sequence};
 use local_check::Verdict;
-use seq_text::{print_closed, print_places, print_verdict};
-use tile_io::{Failed, Sink};
+use seq_text::{PlacePieces, put_closed, put_places, put_verdict};
+use tile_io::{Chunk, Failed, Sink};
 use tile_system::{Site, System, TypeId};
 
 /// What a system grew into: its tiles in canonical order, what is open outside its box, and the
@@ -45,9 +45,12 @@ impl Reply for Growth {
     }
 
     fn print<K: Sink>(&self, out: &mut K) -> Result<(), Failed> {
-        print_places(&self.sys, &self.order, out)?;
-        print_closed(&self.sys, self.outside, out)?;
-        print_verdict(&self.sys, &self.verdict, out)
+        let mut pieces = PlacePieces::new(&self.sys);
+        let mut chunk = Chunk::new();
+        put_places(&self.order, &mut pieces, &mut chunk, out)?;
+        put_closed(&self.sys, self.outside, &mut chunk, out)?;
+        put_verdict(&self.sys, &self.verdict, &mut chunk, out)?;
+        chunk.flush(out)
     }
 }
 

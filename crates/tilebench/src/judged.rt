@@ -20,6 +20,9 @@ use tile_io::Gate;
 use tile_system::{NoMemory, Site, System, TypeId};
 use type_index::TypeIndex;
 
+// So few places are looked at by one worker: it has ended before others have begun.
+const FEW_PLACES: usize = 65_536;
+
 /// The canonical order of an assembly, the verdict on it, and the least open site outside the box.
 #[derive(Drop)]
 pub struct JudgedGrowth {
@@ -96,8 +99,8 @@ pub fn judge_grid<R: Threads + Sync, G: Gate>(
 }
 
 // The verdict on a full growth in its order, by the least open site outside the box. One worker
-// looks at each place as it comes, several look at ranges of them, and none where it is known that
-// each came clean.
+// looks at each place as it comes, several look at ranges of many, and none looks where it is known
+// that each came clean.
 fn verdict_on<R: Threads + Sync, G: Gate>(
     resources: &Resources<'_, R, G>,
     sys: &System,
@@ -120,7 +123,7 @@ fn verdict_on<R: Threads + Sync, G: Gate>(
     if clean {
         return Ok(judge_clean(sys, order, outside));
     }
-    if workers.get() == 1 {
+    if workers.get() == 1 || order.len() <= FEW_PLACES {
         return judge_grown(alloc, sys, order, types, outside);
     }
     let sides = inputs_by_index(resources.rt, alloc, sys, order, grid, types, workers)?;
