@@ -56,6 +56,16 @@ impl PackedPlaces {
         if !is_near(place) {
             return self.push_far(place);
         }
+        self.push_one_near(place)
+    }
+
+    // The same for a near place.
+    #[inline(always)]
+    pub(crate) fn push_one_near(&mut self, place: Place) -> Result<(), NoMemory>
+        requires { IsNear place }
+        ensures ok { OnOk result (self.new.places ≡ self.old.places ++ place ∷ []) }
+        ensures unchanged { OnErr result (self.new.places ≡ self.old.places) }
+    {
         self.packed.push(PackedPlace::near(place))?;
         Ok(())
     }

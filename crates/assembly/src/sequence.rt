@@ -46,6 +46,17 @@ impl Sequence {
         self.places.push(place)
     }
 
+    /// The same for a place near the middle of the plane.
+    #[inline(always)]
+    pub fn push_near(&mut self, place: Place) -> Result<(), NoMemory>
+        requires near { IsNearSite place.site }
+        requires small { place.tile.0 < MOST_TYPES }
+        ensures ok { OnOk result (self.new ≡ self.old ++ place ∷ []) }
+        ensures unchanged { OnErr result (self.new ≡ self.old) }
+    {
+        self.places.push_one_near(place)
+    }
+
     /// All places of another sequence behind these.
     pub fn append(&mut self, others: &Sequence) -> Result<(), NoMemory>
         ensures ok { OnOk result (self.new ≡ self.old ++ others.now) }

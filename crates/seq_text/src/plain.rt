@@ -36,12 +36,26 @@ pub(crate) fn plain_place(text: &[u8]) -> Option<PlainPlace<'_>>
 fn plain_site(text: &[u8]) -> Option<(Site, &[u8])>
     ensures { IfSome result (λ found. IsPlainPlace text.now found.0 found.1.now) }
 {
-    let [b'p', b'l', b'a', b'c', b'e', b' ', fields @ ..] = text else {
-        return None;
-    };
+    let fields = behind_keyword(text)?;
     let (x, fields) = plain_coordinate(fields)?;
     let (y, fields) = plain_coordinate(fields)?;
     Some((Site { x, y }, fields))
+}
+
+// What stands behind the keyword and its space, which are compared as two words.
+#[inline(always)]
+fn behind_keyword(text: &[u8]) -> Option<&[u8]>
+    ensures { IfSome result (λ fields. text.now ≡ codes "place" ++ 32 ∷ fields.now) }
+{
+    let (front, rest) = text.split_first_chunk::<4>()?;
+    let (back, fields) = rest.split_first_chunk::<2>()?;
+    if u32::from_le_bytes(*front) != u32::from_le_bytes(*b"plac") {
+        return None;
+    }
+    if u16::from_le_bytes(*back) != u16::from_le_bytes(*b"e ") {
+        return None;
+    }
+    Some(fields)
 }
 
 /// What stands in front of the first newline, and what stands behind it, if no more bytes are in

@@ -324,7 +324,7 @@ impl<'a> GrowthReader<'a> {
         ensures system { self.new.system.now ≡ self.old.system.now }
         ensures unchanged { OnErr result (self.new ≡ self.old) }
     {
-        self.places.push(place)?;
+        self.places.push_near(place)?;
         if let Some(grid) = &mut self.scratch {
             grid.put(place);
         }

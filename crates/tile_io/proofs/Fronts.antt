@@ -68,12 +68,33 @@ module _ {Item : Type 0} (table : Table Item) (Before After : List Item → Type
         taken = subst Taken (sym (front_bytes text from front took.line took.begins took.count)) took.taken;
       }
 
-  -- a line was taken, or none is left
-  pub taken_turn : (turn : Turn) {found : Option Turn} → found ≡ Some turn → {done : Result Bool LineStop} → turn.done ≡ done → MatchOption found (FindsNone table Before After text from) (TakesLine table Before After text from) →
-      TakesLine table Before After text from (record { line = turn.line; done = done })
-  taken_turn turn is {done} done_is taken =
-      let Took : Result Bool LineStop → Type 0 = λ d. TakesLine table Before After text from (record { line = turn.line; done = d }) in
-      subst Took done_is (MatchOption-at_some (FindsNone table Before After text from) (TakesLine table Before After text from) turn is taken)
+  -- and what it is told
+  pub told_turn : (turn : Turn) {done : Result Bool LineStop} → turn.done ≡ done → TakesLine table Before After text from turn → TakesLine table Before After text from (record { line = turn.line; done = done })
+  told_turn turn {done} done_is taken = subst (λ d. TakesLine table Before After text from (record { line = turn.line; done = d })) done_is taken
 
-  pub none_taken : {found : Option Turn} → found ≡ None → MatchOption found (FindsNone table Before After text from) (TakesLine table Before After text from) → FindsNone table Before After text from
+  none_taken : {found : Option Turn} → found ≡ None → MatchOption found (FindsNone table Before After text from) (TakesLine table Before After text from) → FindsNone table Before After text from
   none_taken is taken = MatchOption-at_none (FindsNone table Before After text from) (TakesLine table Before After text from) is taken
+
+module _ {Item Context Reader : Type 0} (table : Context → Table Item) (context : Reader → Context) (holds : Reader → List Item → Type 0) (text : List ℕ) (from : Mark) (start : Reader) where
+  -- a reader took the next line
+  pub record TookTurn (after : Reader) (turn : Turn) : Type 0 where
+    pub line : TakesLine (table (context start)) (holds start) (holds after) text from turn
+    pub same : context after ≡ context start
+
+  -- no line is left for it
+  pub record TookNone (after : Reader) : Type 0 where
+    pub none : FindsNone (table (context start)) (holds start) (holds after) text from
+    pub same : context after ≡ context start
+
+  module _ (left after : Reader) (holds_on : (items : List Item) → holds start items → holds left items) (context_left : context left ≡ context start) (context_after : context after ≡ context left) where
+    -- the same where it left the front and takes the line by its bytes
+    pub took_bytes : (turn : Turn) {found : Option Turn} → found ≡ Some turn → MatchOption found (FindsNone (table (context left)) (holds left) (holds after) text from) (TakesLine (table (context left)) (holds left) (holds after) text from) → TookTurn after turn
+    took_bytes turn is taken =
+        let Took : Context → Type 0 = λ x. TakesLine (table x) (holds left) (holds after) text from turn in
+        let line = subst Took context_left (MatchOption-at_some (FindsNone (table (context left)) (holds left) (holds after) text from) (TakesLine (table (context left)) (holds left) (holds after) text from) turn is taken) in
+        record { line = record { next = line.next; taken = λ items held. line.taken items (holds_on items held) }; same = context_after ∙ context_left }
+
+    pub took_none : {found : Option Turn} → found ≡ None → MatchOption found (FindsNone (table (context left)) (holds left) (holds after) text from) (TakesLine (table (context left)) (holds left) (holds after) text from) → TookNone after
+    took_none is taken =
+        let none = none_taken (table (context left)) (holds left) (holds after) text from is taken in
+        record { none = record { skipped = none.skipped; left = λ items held. none.left items (holds_on items held) }; same = context_after ∙ context_left }

@@ -1,5 +1,5 @@
 // A stretch of the lines of a text.
-ghost use Rattle.std.specs.Prelude.{◌≡◌, ◌+◌, ◌≤◌, ◌<◌, ℕ, List, length, drop, IfOk};
+ghost use Rattle.std.specs.Prelude.{◌≡◌, ◌+◌, ◌≤◌, ◌<◌, ℕ, List, length, drop, IfSome, IfNone, IfOk};
 ghost use Rattle.tile_io.specs.declared.mark.Mark.{Mark};
 ghost use Rattle.tile_io.specs.declared.stretch.Stretch.TheVariants.{Open};
 ghost use Rattle.tile_io.specs.Lines.{lines_from, mark_after};
@@ -8,7 +8,7 @@ ghost use Rattle.tile_io.specs.Formats.{missing_cause};
 ghost use Rattle.tile_io.specs.Checks.{table_format};
 ghost use Rattle.tile_io.specs.Inner.Headers.{first_cause, stop_at};
 ghost use Rattle.tile_io.specs.Inner.Stretches.{IsStretch, Progress, moved};
-ghost use Rattle.tile_io.specs.Inner.Turns.{TakesNext, turn_at};
+ghost use Rattle.tile_io.specs.Inner.Turns.{TakesLine, TakesNext, turn_at};
 
 use crate::fault::{Cause, TextFault, TextStop};
 use crate::limits::MOST_INPUT;
@@ -59,39 +59,59 @@ pub(crate) fn read_lines<R: LineReader>(
     let mut mark = from;
     let mut missing = first_missing;
     'lines: loop {
-        match take_next(reader, text, mark) {
-            Err(fault) => return Err(TextStop::Fault(fault)),
-            Ok(None) => {
-                let end = end_mark(text, mark);
-                if reader.is_complete() {
-                    return Ok(Stretch::Ended(end));
-                }
-                return Err(TextStop::Fault(TextFault {
-                    line: end.line,
-                    cause: missing,
-                }));
-            }
-            Ok(Some(Turn { line, done })) => match done {
-                Ok(true) => return Ok(Stretch::Ended(line.next)),
-                Ok(false) => {
-                    if line.next.at >= until {
-                        return Ok(Stretch::Open(line.next));
+        let turn = match take_from_front(reader, text, mark) {
+            Some(turn) => turn,
+            None => match take_by_bytes(reader, text, mark) {
+                Err(fault) => return Err(TextStop::Fault(fault)),
+                Ok(None) => {
+                    let end = end_mark(text, mark);
+                    if reader.is_complete() {
+                        return Ok(Stretch::Ended(end));
                     }
-                    mark = line.next;
-                    missing = Cause::NoEnd;
+                    return Err(TextStop::Fault(TextFault {
+                        line: end.line,
+                        cause: missing,
+                    }));
                 }
-                Err(stop) => {
-                    return Err(stop_at(line.number, reader.has_header(), missing, stop));
-                }
+                Ok(Some(turn)) => turn,
             },
+        };
+        let Turn { line, done } = turn;
+        match done {
+            Ok(true) => return Ok(Stretch::Ended(line.next)),
+            Ok(false) => {
+                if line.next.at >= until {
+                    return Ok(Stretch::Open(line.next));
+                }
+                mark = line.next;
+                missing = Cause::NoEnd;
+            }
+            Err(stop) => {
+                return Err(stop_at(line.number, reader.has_header(), missing, stop));
+            }
         }
     }
 }
 
-// Takes the next line that is neither empty nor a remark: from the front of what is left, or by its
-// bytes.
+// Takes the line at a mark from the front of what is left, if the reader does so.
 #[inline(always)]
-fn take_next<R: LineReader>(
+fn take_from_front<R: LineReader>(reader: &mut R, text: &[u8], from: Mark) -> Option<Turn>
+    requires held { (items : List R.Item) × R.holds reader.old items }
+    requires short { length text.now ≤ MOST_INPUT }
+    requires mark { IsMark text.now from }
+    ensures taken { IfSome result (TakesLine (R.table (R.context reader.old))
+        (R.holds reader.old) (R.holds reader.new) text.now from) }
+    ensures left { IfNone result ((items : List R.Item) → R.holds reader.old items →
+        R.holds reader.new items) }
+    ensures context { R.context reader.new ≡ R.context reader.old }
+{
+    let front = reader.take_front(&text[from.at..])?;
+    Some(turn_at(from, front))
+}
+
+// Takes the next line that is neither empty nor a remark, by its bytes.
+#[inline(always)]
+fn take_by_bytes<R: LineReader>(
     reader: &mut R,
     text: &[u8],
     from: Mark,
@@ -103,9 +123,6 @@ fn take_next<R: LineReader>(
         (R.holds reader.new) text.now from result }
     ensures context { R.context reader.new ≡ R.context reader.old }
 {
-    if let Some(front) = reader.take_front(&text[from.at..]) {
-        return Ok(Some(turn_at(from, front)));
-    }
     let Some(line) = next_line(text, from)? else {
         return Ok(None);
     };

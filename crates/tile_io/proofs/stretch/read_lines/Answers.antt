@@ -8,9 +8,10 @@ use Rattle.tile_io.specs.Inner.Headers.{stop_at}
 use Rattle.tile_io.specs.Inner.Stretches.{IsStretch, moved}
 use Rattle.tile_io.proofs.Progress.{progress_bad, next_is_mark, next_is_later}
 use Rattle.tile_io.proofs.Walks.{mark_within}
-use Rattle.tile_io.proofs.Fronts.{taken_turn, none_taken}
+use Rattle.tile_io.proofs.Fronts.{TookTurn, told_turn, took_bytes, took_none}
 use Rattle.tile_io.proofs.LineTurns.{takes_here, item_step, end_step, stop_step, missing-push, complete_step, missing_step}
 use Rattle.tile_io.proofs.Shifts.{same_lines, same_bytes, moved_after, moved_line, next_moved, bad_moved}
+use Rattle.tile_io.proofs.stretch.read_lines.Goals.{in-Some, in-None+in-Ok-Some}
 use Rattle.tile_io.proofs.stretch.read_lines.Goals as goal
 
 pub lines-init : goal.lines-init
@@ -39,15 +40,16 @@ returns-then-is_complete-clause-read g c = λ whole bytes lines start items is w
     let before = c.lines.invariant.so_far whole bytes lines start items is within progress held missing in
     let here = moved bytes lines mark in
     let table = g.R.LineReader.table in
-    let none = none_taken (table (g.R.LineReader.context c.lines.reader)) (g.R.LineReader.holds c.lines.reader) (g.R.LineReader.holds c.take_next.new.reader) text mark c.in-Ok-None.field-0-is c.in-Ok-None.ensures.taken in
+    let left = took_none table g.R.LineReader.context g.R.LineReader.holds text mark c.lines.reader c.take_from_front.new.reader c.take_by_bytes.new.reader c.in-None.ensures.left c.take_from_front.ensures.context c.take_by_bytes.ensures.context c.in-Ok-None.field-0-is c.in-Ok-None.ensures.taken in
+    let none = left.none in
     let skipped = none.skipped in
     let all = subst AreSkipped (same_lines whole bytes lines text is within mark) skipped in
     let end =
     ap (moved bytes lines) c.end_mark-end.ensures ∙ moved_after whole bytes lines text is within mark (length (lines_from text mark))
     ∙ ap (λ l. mark_after (lines_from whole here) here (length l)) (same_lines whole bytes lines text is within mark)
     in
-    let told = ap (λ x. (table x).is_complete before.items) (sym (c.take_next.ensures.context ∙ c.lines.invariant.context)) ∙ sym (c.is_complete.ensures before.items (none.left before.items before.held)) ∙ c.if-is_complete.true in
-    complete_step (table (g.R.LineReader.context c.args.reader.now)) whole start here (moved bytes lines c.end_mark-end.result) before.items before.progress all end (g.R.LineReader.holds c.take_next.new.reader) (none.left before.items before.held) told
+    let told = ap (λ x. (table x).is_complete before.items) (sym (left.same ∙ c.lines.invariant.context)) ∙ sym (c.is_complete.ensures before.items (none.left before.items before.held)) ∙ c.if-is_complete.true in
+    complete_step (table (g.R.LineReader.context c.args.reader.now)) whole start here (moved bytes lines c.end_mark-end.result) before.items before.progress all end (g.R.LineReader.holds c.take_by_bytes.new.reader) (none.left before.items before.held) told
 
 pub returns-in-Ok-None-clause-read : goal.returns-in-Ok-None-clause-read
 returns-in-Ok-None-clause-read g c = λ whole bytes lines start items is within progress held missing.
@@ -56,14 +58,15 @@ returns-in-Ok-None-clause-read g c = λ whole bytes lines start items is within 
     let before = c.lines.invariant.so_far whole bytes lines start items is within progress held missing in
     let here = moved bytes lines mark in
     let table = g.R.LineReader.table in
-    let none = none_taken (table (g.R.LineReader.context c.lines.reader)) (g.R.LineReader.holds c.lines.reader) (g.R.LineReader.holds c.take_next.new.reader) text mark c.in-Ok-None.field-0-is c.in-Ok-None.ensures.taken in
+    let left = took_none table g.R.LineReader.context g.R.LineReader.holds text mark c.lines.reader c.take_from_front.new.reader c.take_by_bytes.new.reader c.in-None.ensures.left c.take_from_front.ensures.context c.take_by_bytes.ensures.context c.in-Ok-None.field-0-is c.in-Ok-None.ensures.taken in
+    let none = left.none in
     let skipped = none.skipped in
     let all = subst AreSkipped (same_lines whole bytes lines text is within mark) skipped in
     let end =
     ap (moved bytes lines) c.end_mark-end.ensures ∙ moved_after whole bytes lines text is within mark (length (lines_from text mark))
     ∙ ap (λ l. mark_after (lines_from whole here) here (length l)) (same_lines whole bytes lines text is within mark)
     in
-    let told = ap (λ x. (table x).is_complete before.items) (sym (c.take_next.ensures.context ∙ c.lines.invariant.context)) ∙ sym (c.is_complete.ensures before.items (none.left before.items before.held)) ∙ c.if-is_complete.false in
+    let told = ap (λ x. (table x).is_complete before.items) (sym (left.same ∙ c.lines.invariant.context)) ∙ sym (c.is_complete.ensures before.items (none.left before.items before.held)) ∙ c.if-is_complete.false in
     missing_step (table (g.R.LineReader.context c.args.reader.now)) whole start here (moved bytes lines c.end_mark-end.result) before.items before.progress all end c.lines.missing before.missing_is told
 
 pub returns-in-Ok-true-clause-read : goal.returns-in-Ok-true-clause-read
@@ -73,11 +76,17 @@ returns-in-Ok-true-clause-read g c = λ whole bytes lines start items is within 
     let before = c.lines.invariant.so_far whole bytes lines start items is within progress held missing in
     let here = moved bytes lines mark in
     let table = g.R.LineReader.table in
-    let turn = c.in-Ok-Some.field-0-0 in
+    let turn = c.match-take_from_front.turn in
+    let Took = TookTurn table g.R.LineReader.context g.R.LineReader.holds text mark c.lines.reader in
+    let took_turn : Took c.match-take_from_front.reader turn =
+    elim c.match-take_from_front.branch [
+      | in-Some w ↦ subst (λ r. Took r turn) (sym w.reader-is) (subst (Took c.take_from_front.new.reader) (sym w.turn-is) (record { line = w.in-Some.ensures.taken; same = c.take_from_front.ensures.context }))
+      | in-None+in-Ok-Some w ↦ subst (λ r. Took r turn) (sym w.reader-is) (subst (Took w.take_by_bytes.new.reader) (sym w.turn-is) (took_bytes table g.R.LineReader.context g.R.LineReader.holds text mark c.lines.reader c.take_from_front.new.reader w.take_by_bytes.new.reader w.in-None.ensures.left c.take_from_front.ensures.context w.take_by_bytes.ensures.context w.in-Ok-Some.turn w.in-Ok-Some.field-0-is w.in-Ok-Some.ensures.taken))
+    ] in
     let line = turn.line in
-    let Holds = g.R.LineReader.holds c.take_next.new.reader in
+    let Holds = g.R.LineReader.holds c.match-take_from_front.reader in
     let done : turn.done ≡ Ok true = c.in-Ok-true.is ∙ ap (λ b. Ok b) c.in-Ok-true.field-0-test in
-    let found = taken_turn (g.R.LineReader.table (g.R.LineReader.context c.lines.reader)) (g.R.LineReader.holds c.lines.reader) (g.R.LineReader.holds c.take_next.new.reader) text mark turn c.in-Ok-Some.field-0-is done c.in-Ok-Some.ensures.taken in
+    let found = told_turn (table (g.R.LineReader.context c.lines.reader)) (g.R.LineReader.holds c.lines.reader) (g.R.LineReader.holds c.match-take_from_front.reader) text mark turn done took_turn.line in
     let next = found.next in
     let there = next_moved whole bytes lines text is within mark line next in
     let words = ap words_of (same_bytes whole bytes lines text is within line) in
@@ -91,11 +100,17 @@ returns-then-line-until-clause-read g c = λ whole bytes lines start items is wi
     let before = c.lines.invariant.so_far whole bytes lines start items is within progress held missing in
     let here = moved bytes lines mark in
     let table = g.R.LineReader.table in
-    let turn = c.in-Ok-Some.field-0-0 in
+    let turn = c.match-take_from_front.turn in
+    let Took = TookTurn table g.R.LineReader.context g.R.LineReader.holds text mark c.lines.reader in
+    let took_turn : Took c.match-take_from_front.reader turn =
+    elim c.match-take_from_front.branch [
+      | in-Some w ↦ subst (λ r. Took r turn) (sym w.reader-is) (subst (Took c.take_from_front.new.reader) (sym w.turn-is) (record { line = w.in-Some.ensures.taken; same = c.take_from_front.ensures.context }))
+      | in-None+in-Ok-Some w ↦ subst (λ r. Took r turn) (sym w.reader-is) (subst (Took w.take_by_bytes.new.reader) (sym w.turn-is) (took_bytes table g.R.LineReader.context g.R.LineReader.holds text mark c.lines.reader c.take_from_front.new.reader w.take_by_bytes.new.reader w.in-None.ensures.left c.take_from_front.ensures.context w.take_by_bytes.ensures.context w.in-Ok-Some.turn w.in-Ok-Some.field-0-is w.in-Ok-Some.ensures.taken))
+    ] in
     let line = turn.line in
-    let Holds = g.R.LineReader.holds c.take_next.new.reader in
+    let Holds = g.R.LineReader.holds c.match-take_from_front.reader in
     let done : turn.done ≡ Ok false = c.in-Ok-false.is ∙ ap (λ b. Ok b) c.in-Ok-false.field-0-test in
-    let found = taken_turn (g.R.LineReader.table (g.R.LineReader.context c.lines.reader)) (g.R.LineReader.holds c.lines.reader) (g.R.LineReader.holds c.take_next.new.reader) text mark turn c.in-Ok-Some.field-0-is done c.in-Ok-Some.ensures.taken in
+    let found = told_turn (table (g.R.LineReader.context c.lines.reader)) (g.R.LineReader.holds c.lines.reader) (g.R.LineReader.holds c.match-take_from_front.reader) text mark turn done took_turn.line in
     let next = found.next in
     let there = next_moved whole bytes lines text is within mark line next in
     let words = ap words_of (same_bytes whole bytes lines text is within line) in
@@ -109,11 +124,18 @@ returns-then-line-until-clause-read g c = λ whole bytes lines start items is wi
 
 pub returns-then-line-until-clause-far : goal.returns-then-line-until-clause-far
 returns-then-line-until-clause-far g c =
+    let table = g.R.LineReader.table in
     let text = c.args.text.now in
     let mark = c.lines.mark in
-    let turn = c.in-Ok-Some.field-0-0 in
+    let turn = c.match-take_from_front.turn in
+    let Took = TookTurn table g.R.LineReader.context g.R.LineReader.holds text mark c.lines.reader in
+    let took_turn : Took c.match-take_from_front.reader turn =
+    elim c.match-take_from_front.branch [
+      | in-Some w ↦ subst (λ r. Took r turn) (sym w.reader-is) (subst (Took c.take_from_front.new.reader) (sym w.turn-is) (record { line = w.in-Some.ensures.taken; same = c.take_from_front.ensures.context }))
+      | in-None+in-Ok-Some w ↦ subst (λ r. Took r turn) (sym w.reader-is) (subst (Took w.take_by_bytes.new.reader) (sym w.turn-is) (took_bytes table g.R.LineReader.context g.R.LineReader.holds text mark c.lines.reader c.take_from_front.new.reader w.take_by_bytes.new.reader w.in-None.ensures.left c.take_from_front.ensures.context w.take_by_bytes.ensures.context w.in-Ok-Some.turn w.in-Ok-Some.field-0-is w.in-Ok-Some.ensures.taken))
+    ] in
     let line = turn.line in
-    let found = taken_turn (g.R.LineReader.table (g.R.LineReader.context c.lines.reader)) (g.R.LineReader.holds c.lines.reader) (g.R.LineReader.holds c.take_next.new.reader) text mark turn c.in-Ok-Some.field-0-is refl c.in-Ok-Some.ensures.taken in
+    let found = told_turn (table (g.R.LineReader.context c.lines.reader)) (g.R.LineReader.holds c.lines.reader) (g.R.LineReader.holds c.match-take_from_front.reader) text mark turn refl took_turn.line in
     let next = found.next in
     let later : mark.at < line.next.at = next_is_later text mark line next in
     let Far : Mark → Type 0 = λ m. IsMark text m × (c.args.until ≤ m.at) × (c.args.from.at < m.at) in
@@ -122,11 +144,18 @@ returns-then-line-until-clause-far g c =
 
 pub lines-smaller : goal.lines-smaller
 lines-smaller g c =
+    let table = g.R.LineReader.table in
     let text = c.args.text.now in
     let mark = c.lines.mark in
-    let turn = c.in-Ok-Some.field-0-0 in
+    let turn = c.match-take_from_front.turn in
+    let Took = TookTurn table g.R.LineReader.context g.R.LineReader.holds text mark c.lines.reader in
+    let took_turn : Took c.match-take_from_front.reader turn =
+    elim c.match-take_from_front.branch [
+      | in-Some w ↦ subst (λ r. Took r turn) (sym w.reader-is) (subst (Took c.take_from_front.new.reader) (sym w.turn-is) (record { line = w.in-Some.ensures.taken; same = c.take_from_front.ensures.context }))
+      | in-None+in-Ok-Some w ↦ subst (λ r. Took r turn) (sym w.reader-is) (subst (Took w.take_by_bytes.new.reader) (sym w.turn-is) (took_bytes table g.R.LineReader.context g.R.LineReader.holds text mark c.lines.reader c.take_from_front.new.reader w.take_by_bytes.new.reader w.in-None.ensures.left c.take_from_front.ensures.context w.take_by_bytes.ensures.context w.in-Ok-Some.turn w.in-Ok-Some.field-0-is w.in-Ok-Some.ensures.taken))
+    ] in
     let line = turn.line in
-    let found = taken_turn (g.R.LineReader.table (g.R.LineReader.context c.lines.reader)) (g.R.LineReader.holds c.lines.reader) (g.R.LineReader.holds c.take_next.new.reader) text mark turn c.in-Ok-Some.field-0-is refl c.in-Ok-Some.ensures.taken in
+    let found = told_turn (table (g.R.LineReader.context c.lines.reader)) (g.R.LineReader.holds c.lines.reader) (g.R.LineReader.holds c.match-take_from_front.reader) text mark turn refl took_turn.line in
     let next = found.next in
     let later : mark.at < line.next.at = next_is_later text mark line next in
     let within : line.next.at ≤ length text = (mark_within text line.next (next_is_mark text mark line c.lines.invariant.mark next)).0 in
@@ -138,17 +167,23 @@ lines-preserved g c =
     let table = g.R.LineReader.table in
     let text = c.args.text.now in
     let mark = c.lines.mark in
-    let turn = c.in-Ok-Some.field-0-0 in
+    let turn = c.match-take_from_front.turn in
+    let Took = TookTurn table g.R.LineReader.context g.R.LineReader.holds text mark c.lines.reader in
+    let took_turn : Took c.match-take_from_front.reader turn =
+    elim c.match-take_from_front.branch [
+      | in-Some w ↦ subst (λ r. Took r turn) (sym w.reader-is) (subst (Took c.take_from_front.new.reader) (sym w.turn-is) (record { line = w.in-Some.ensures.taken; same = c.take_from_front.ensures.context }))
+      | in-None+in-Ok-Some w ↦ subst (λ r. Took r turn) (sym w.reader-is) (subst (Took w.take_by_bytes.new.reader) (sym w.turn-is) (took_bytes table g.R.LineReader.context g.R.LineReader.holds text mark c.lines.reader c.take_from_front.new.reader w.take_by_bytes.new.reader w.in-None.ensures.left c.take_from_front.ensures.context w.take_by_bytes.ensures.context w.in-Ok-Some.turn w.in-Ok-Some.field-0-is w.in-Ok-Some.ensures.taken))
+    ] in
     let line = turn.line in
     let now = c.lines.invariant in
-    let Holds = g.R.LineReader.holds c.take_next.new.reader in
+    let Holds = g.R.LineReader.holds c.match-take_from_front.reader in
     let done : turn.done ≡ Ok false = c.in-Ok-false.is ∙ ap (λ b. Ok b) c.in-Ok-false.field-0-test in
-    let found = taken_turn (g.R.LineReader.table (g.R.LineReader.context c.lines.reader)) (g.R.LineReader.holds c.lines.reader) (g.R.LineReader.holds c.take_next.new.reader) text mark turn c.in-Ok-Some.field-0-is done c.in-Ok-Some.ensures.taken in
+    let found = told_turn (table (g.R.LineReader.context c.lines.reader)) (g.R.LineReader.holds c.lines.reader) (g.R.LineReader.holds c.match-take_from_front.reader) text mark turn done took_turn.line in
     let next = found.next in
     let later : mark.at < line.next.at = next_is_later text mark line next in
     let taken = takes_here table now.context Holds now.items refl (Ok false) (found.taken now.items now.held) in
     record {
-      context = c.take_next.ensures.context ∙ now.context;
+      context = took_turn.same ∙ now.context;
       items = now.items ++ taken.0 ∷ [];
       held = taken.3;
       so_far = λ whole bytes lines start items is within progress held missing.
@@ -174,16 +209,22 @@ returns-in-Err-done-clause-read g c = λ whole bytes lines start items is within
     let before = c.lines.invariant.so_far whole bytes lines start items is within progress held missing in
     let here = moved bytes lines mark in
     let table = g.R.LineReader.table in
-    let turn = c.in-Ok-Some.field-0-0 in
+    let turn = c.match-take_from_front.turn in
+    let Took = TookTurn table g.R.LineReader.context g.R.LineReader.holds text mark c.lines.reader in
+    let took_turn : Took c.match-take_from_front.reader turn =
+    elim c.match-take_from_front.branch [
+      | in-Some w ↦ subst (λ r. Took r turn) (sym w.reader-is) (subst (Took c.take_from_front.new.reader) (sym w.turn-is) (record { line = w.in-Some.ensures.taken; same = c.take_from_front.ensures.context }))
+      | in-None+in-Ok-Some w ↦ subst (λ r. Took r turn) (sym w.reader-is) (subst (Took w.take_by_bytes.new.reader) (sym w.turn-is) (took_bytes table g.R.LineReader.context g.R.LineReader.holds text mark c.lines.reader c.take_from_front.new.reader w.take_by_bytes.new.reader w.in-None.ensures.left c.take_from_front.ensures.context w.take_by_bytes.ensures.context w.in-Ok-Some.turn w.in-Ok-Some.field-0-is w.in-Ok-Some.ensures.taken))
+    ] in
     let line = turn.line in
-    let Holds = g.R.LineReader.holds c.take_next.new.reader in
+    let Holds = g.R.LineReader.holds c.match-take_from_front.reader in
     let stop = c.in-Err-done.stop in
     let done : turn.done ≡ Err stop = c.in-Err-done.is in
-    let found = taken_turn (g.R.LineReader.table (g.R.LineReader.context c.lines.reader)) (g.R.LineReader.holds c.lines.reader) (g.R.LineReader.holds c.take_next.new.reader) text mark turn c.in-Ok-Some.field-0-is done c.in-Ok-Some.ensures.taken in
+    let found = told_turn (table (g.R.LineReader.context c.lines.reader)) (g.R.LineReader.holds c.lines.reader) (g.R.LineReader.holds c.match-take_from_front.reader) text mark turn done took_turn.line in
     let there = next_moved whole bytes lines text is within mark line found.next in
     let words = ap words_of (same_bytes whole bytes lines text is within line) in
     let took = takes_here table c.lines.invariant.context Holds before.items words (Err stop) (found.taken before.items before.held) in
-    let header = c.has_header.ensures ∙ ap (λ x. (table x).has_header) (c.take_next.ensures.context ∙ c.lines.invariant.context) in
+    let header = c.has_header.ensures ∙ ap (λ x. (table x).has_header) (took_turn.same ∙ c.lines.invariant.context) in
     let told = c.stop_at.ensures ∙ ap (λ b. stop_at line.number b c.lines.missing stop) header in
     let now = table (g.R.LineReader.context c.args.reader.now) in
     let Stops : TextStop → Type 0 = λ s. IsStretch (table_format now) whole start bytes lines Holds (Err s) in
