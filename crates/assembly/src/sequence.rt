@@ -1,5 +1,7 @@
 // Places in an order.
 ghost use Rattle.std.specs.Prelude.{◌≡◌, ◌<◌, [], ◌∷◌, ◌++◌, length, take, slice_get, Some, IsTrue, ◌↔◌, IfOk, OnOk, OnErr};
+ghost use Rattle.atam.specs.declared.limits.TheConstants.{MOST_TYPES};
+ghost use Rattle.atam.specs.Sites.{IsNearSite};
 
 use crate::packed_places::PackedPlaces;
 use std::alloc::Global;

@@ -4,6 +4,7 @@ pub mod Growths
 pub mod HeldLines
 pub mod LineEnds
 pub mod KeptNumbers
+mod Keyword
 pub mod NamedTypes
 pub mod Printed
 pub mod Scratch
