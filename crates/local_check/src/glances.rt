@@ -15,7 +15,7 @@ use assembly::Grid;
 use attach_rule::{FacingGlues, Strengths};
 use std::alloc::Global;
 use std::marker::Model;
-use tile_system::{NoMemory, Place, Site, System, TypeId};
+use tile_system::{NoMemory, Place, System, TypeId};
 use type_index::{FacingCache, SideSet, TypeIndex, glues_of_key, key_beside, settled_sides};
 
 // What is seen of a tile as it comes: the sum that holds it, and whether it comes clean.

@@ -20,7 +20,7 @@ use tile_io::Gate;
 use tile_system::{NoMemory, Site, System, TypeId};
 use type_index::TypeIndex;
 
-// So few places are looked at by one worker: it has ended before others have begun.
+// So few places are looked at by one worker, in fewer steps than several take to share them.
 const FEW_PLACES: usize = 65_536;
 
 /// The canonical order of an assembly, the verdict on it, and the least open site outside the box.

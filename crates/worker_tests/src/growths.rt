@@ -112,11 +112,18 @@ fn grows_the_sierpinski_triangle(rt: HostRuntime) -> Result<(), Fail> {
     Ok(())
 }
 
+// A box of more sites than one of several workers judges alone.
+const VAST: &str = "tiles 1\ntau 1\nglue a 1\ntile T a a a a\nbox 0 0 256 256\nseed 0 0 T\nend\n";
+
 #[test]
 fn fills_a_box(rt: HostRuntime) -> Result<(), Fail> {
     let alloc = rt.alloc();
     let no = "closed clipped 0 -1 T\nunique no 1 1 1 2\n";
-    for (system, side, workers) in [(FULL, 64, &["1", "4", "16"][..]), (WIDE, 128, &["2"])] {
+    for (system, side, workers) in [
+        (FULL, 64, &["1", "4", "16"][..]),
+        (WIDE, 128, &["2"]),
+        (VAST, 257, &["2"]),
+    ] {
         let places = filled_box(alloc, side, "T")?;
         let found = first_unlike_workers(&rt, alloc, workers, system, places.as_str(), no)?;
         assert_eq!(rt; found, None);
