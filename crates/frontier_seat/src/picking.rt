@@ -129,7 +129,9 @@ impl<'i> Picker<'i> {
         ensures picker { IsPickerOf sys.now self.new }
     {
         let beside = grid.beside(site);
-        self.list.list(sys, self.types.index(), grid, site, &beside);
+        let index = self.types.index();
+        self.cache
+            .list_beside(sys, index, grid, site, &beside, &mut self.list);
         Some(self.list.types().get(picked))
     }
 }

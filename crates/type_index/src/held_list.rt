@@ -1,5 +1,5 @@
 // The list of the types that attach at a site, which is kept for sites with the same glues.
-ghost use Rattle.std.specs.Prelude.{◌≡◌, ◌≤◌, None, length, IfOk};
+ghost use Rattle.std.specs.Prelude.{◌≡◌, ◌≤◌, None, length, IfOk, IsTrue};
 ghost use Rattle.atam.specs.Sites.{IsNearSite};
 ghost use Rattle.atam.specs.Placements.{tile_at};
 ghost use Rattle.atam.specs.Assembly.{Fits};
@@ -8,7 +8,7 @@ ghost use Rattle.attach_rule.specs.Candidates.{AreCandidates};
 ghost use Rattle.attach_rule.specs.declared.facing.FacingGlues.{FacingGlues};
 ghost use Rattle.type_index.specs.Indexes.{IsIndexOf};
 ghost use Rattle.type_index.specs.HeldTypes.{AreHeld};
-ghost use Rattle.type_index.specs.HeldLists.{IsHeldList};
+ghost use Rattle.type_index.specs.Findings.{IsHeldList};
 ghost use Rattle.type_index.specs.Findings.{IsKeyOf};
 
 use crate::TypeIndex;
@@ -36,7 +36,7 @@ impl Drop for HeldList {
 }
 
 impl Model for HeldList {
-    ghost use Rattle.type_index.specs.HeldLists.{KeyedTypes};
+    ghost use Rattle.type_index.specs.Findings.{KeyedTypes};
 
     ghost Value = { KeyedTypes };
 
@@ -80,12 +80,21 @@ impl HeldList {
         }
     }
 
+    // Whether the list is that of glues with this key.
+    #[inline(always)]
+    pub(crate) fn is_of(&self, key: u64) -> bool
+        ensures { IsTrue result → self.now.key ≡ key }
+    {
+        self.key == key
+    }
+
     // Lists the types that the glues with a key hold.
     #[inline(never)]
-    fn list_anew(&mut self, sys: &System, index: &TypeIndex, key: u64)
+    pub(crate) fn list_anew(&mut self, sys: &System, index: &TypeIndex, key: u64)
         requires list { IsHeldList sys.now self.old }
         requires index { IsIndexOf sys.now index.now }
         ensures key { self.new.key ≡ key }
+        ensures few { length self.new.listed.types ≤ length sys.now.types }
         ensures list { IsHeldList sys.now self.new }
     {
         self.types.clear();

@@ -1,5 +1,4 @@
-use Rattle.std.proofs.Common.{List, sym, subst, arith}
-use Rattle.type_index.specs.declared.cache.Finding.{Finding}
+use Rattle.std.proofs.Common.{sym, subst, arith}
 use Rattle.type_index.specs.Findings.{AreFindings, IsKeyOf}
 use Rattle.type_index.proofs.Keys.{known_at}
 use Rattle.type_index.proofs.cache.FacingCache.recall.Goals as goal
@@ -7,6 +6,6 @@ use Rattle.type_index.proofs.cache.FacingCache.recall.Goals as goal
 pub returns-then-finding-key : goal.returns-then-finding-key
 returns-then-finding-key c glues of_key =
     let sys = c.args.sys.now in
-    let all = subst (λ (l : List Finding). AreFindings sys l) (sym c.self.view_is) c.requires in
-    known_at sys c.self.inside.findings.items c.slot_of.result c.index-finding.result.now all (omega (arith, c.slot_of.ensures, c.self.invariant)) c.index-finding.ensures
+    let before : AreFindings sys _ = subst (AreFindings sys) (sym c.self.view_is) c.requires in
+    known_at sys c.self.inside.findings.items c.slot_of.result c.index-finding.result.now before.known (omega (arith, c.slot_of.ensures, c.self.invariant)) c.index-finding.ensures
     glues (subst (IsKeyOf glues) (sym c.if-finding-key.true) of_key)
