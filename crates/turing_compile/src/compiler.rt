@@ -49,6 +49,7 @@ impl<'a> NamedTable<Kind, Label> for MachineNames<'a> {
 
     ghost tiles = { λ t. tiles_of t.machine.now };
 
+    #[inline(always)]
     fn side(&self, kind: Kind, side: Side) -> Option<Label> {
         prove!(self.machine.states() > 0);
         let row = row_of_kind(self.machine, kind)?;

@@ -9,6 +9,7 @@ use atam::Side;
 use machine_text::{Machine, Turn};
 
 /// The row of a kind.
+#[inline(always)]
 pub fn row_of_kind(machine: &Machine, kind: Kind) -> Option<Row>
     requires valid { IsMachine machine.now }
     requires kind { IsKind machine.now kind }
