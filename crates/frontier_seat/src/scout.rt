@@ -31,7 +31,7 @@ use std::alloc::Global;
 use std::marker::Model;
 use std::sync::ledger::Ledger;
 use tile_io::Steps;
-use tile_system::{BoxArea, System};
+use tile_system::{BoxArea, Site, System};
 use type_index::TypeIndex;
 
 // More claims than a box has sites.
@@ -124,7 +124,10 @@ pub(crate) fn look<C: Chooser, L: Ledger>(
             sys, area, table, growing, chooser, picker, spot, work, steps,
         );
     }
-    look_at_edge(sys, table, growing, chooser, picker, spot, work, steps)
+    let Spot { site, number } = spot;
+    look_at_edge(
+        sys, table, growing, chooser, picker, site, number, work, steps,
+    )
 }
 
 // The same at a site at no edge of the box.
@@ -179,7 +182,8 @@ fn look_inside<C: Chooser, L: Ledger>(
     }
 }
 
-// The same at any site.
+// The same at any site, which is handed over in parts, so that no site at no edge is written to
+// memory for it.
 #[inline(never)]
 fn look_at_edge<C: Chooser, L: Ledger>(
     sys: &System,
@@ -187,7 +191,8 @@ fn look_at_edge<C: Chooser, L: Ledger>(
     growing: &mut Growing,
     chooser: &mut C,
     picker: &mut Picker<'_>,
-    spot: Spot,
+    site: Site,
+    number: usize,
     work: &mut WorkList,
     steps: &mut Steps<L>,
 ) -> Looked
@@ -196,30 +201,31 @@ fn look_at_edge<C: Chooser, L: Ledger>(
     requires growing { IsGrowing sys.now growing.old }
     requires picker { IsPickerOf sys.now picker.old }
     requires area { work.old.area ≡ sys.now.area }
-    requires spot { IsSpot sys.now.area spot }
-    requires gone { ¬ IsIn work.old.numbers spot.number }
-    requires empty { tile_at growing.old.grid.tiles spot.site ≡ None }
+    requires spot { IsSpot sys.now.area (record { site = site; number = number }) }
+    requires gone { ¬ IsIn work.old.numbers number }
+    requires empty { tile_at growing.old.grid.tiles site ≡ None }
     requires listed { AreEmptySites sys.now.area growing.old.grid.tiles work.old.numbers }
     requires closed { IsClosedBut sys.now growing.old.grid.tiles
-        (λ n. IsIn work.old.numbers n ⊎ (n ≡ spot.number)) }
+        (λ n. IsIn work.old.numbers n ⊎ (n ≡ number)) }
     ensures looks { LooksAt sys.now growing.old growing.new work.old.numbers work.new.numbers }
-    ensures claims { MatchBool result.claims (ClaimsAt sys.now spot.site growing.old growing.new)
+    ensures claims { MatchBool result.claims (ClaimsAt sys.now site growing.old growing.new)
         (growing.new ≡ growing.old) }
-    ensures clean { IsTrue result.clean → OpensExact sys.now growing.old.grid.tiles spot.site }
+    ensures clean { IsTrue result.clean → OpensExact sys.now growing.old.grid.tiles site }
     ensures picker { IsPickerOf sys.now picker.new }
     ensures area { work.new.area ≡ work.old.area }
     ensures cost { steps.new + length growing.old.grid.tiles
         ≡ steps.old + length growing.new.grid.tiles }
 {
     sys.recall_valid();
-    let beside = growing.grid.beside_at(spot.site, spot.number);
-    let Pick { tile, clean } = picker.pick(sys, &growing.grid, spot.site, &beside, chooser);
+    let beside = growing.grid.beside_at(site, number);
+    let Pick { tile, clean } = picker.pick(sys, &growing.grid, site, &beside, chooser);
     let Some(tile) = tile else {
         return Looked {
             claims: false,
             clean,
         };
     };
+    let spot = Spot { site, number };
     growing.claim(sys, table, spot, tile, steps);
     work.list_around(&growing.grid, spot, &beside);
     Looked {

@@ -1,5 +1,5 @@
 // The part of a work list that a worker looks at first.
-ghost use Rattle.std.specs.Prelude.{◌<◌, ◌≤◌, IfSome};
+ghost use Rattle.std.specs.Prelude.{◌<◌, IfSome, IsTrue};
 ghost use Rattle.atam.specs.Sites.{IsBox};
 ghost use Rattle.number_set.specs.Numbers.{IsIn};
 
@@ -76,6 +76,104 @@ impl Span {
     }
 }
 
+// A set of bands of a box, as bits.
+#[derive(Clone, Copy)]
+struct Bands {
+    bits: u32,
+}
+
+impl Bands {
+    fn none() -> Bands {
+        Bands { bits: 0 }
+    }
+
+    // Every of-th band.
+    fn every(share: u32, of: u32) -> Bands
+        requires { share < of }
+    {
+        let mut bits = 0;
+        for band in 0..MOST_BANDS {
+            if band % of == share {
+                bits = bits | 1 << band;
+            }
+        }
+        Bands { bits }
+    }
+
+    #[inline(always)]
+    fn is_empty(self) -> bool {
+        self.bits == 0
+    }
+
+    fn has(self, band: u32) -> bool
+        ensures { IsTrue result → band < MOST_BANDS }
+    {
+        band < MOST_BANDS && (self.bits >> band) & 1 != 0
+    }
+
+    // The band of a row, if it is one of them.
+    fn at_row(self, row: u32) -> Bands {
+        let band = row / BAND_ROWS;
+        if band >= MOST_BANDS {
+            return Bands::none();
+        }
+        Bands {
+            bits: self.bits & 1 << band,
+        }
+    }
+
+    fn joined(self, more: Bands) -> Bands {
+        Bands {
+            bits: self.bits | more.bits,
+        }
+    }
+
+    fn without(self, band: u32) -> Bands
+        requires { band < MOST_BANDS }
+    {
+        Bands {
+            bits: self.bits & !(1 << band),
+        }
+    }
+
+    // The first of them from this one on, else of all, or the one behind all bands where there is
+    // none.
+    #[inline(always)]
+    fn next_from(self, band: u32) -> u32 {
+        if band < MOST_BANDS {
+            let later = self.bits >> band << band;
+            if later != 0 {
+                return later.trailing_zeros();
+            }
+        }
+        self.bits.trailing_zeros()
+    }
+
+    // The least listed site in the first of these bands that has one, from this band on and then
+    // from the first one. Bands that have none are taken out.
+    #[inline(always)]
+    fn least_from(&mut self, numbers: &NumberSet, area: &BoxArea, band: u32) -> Option<usize>
+        requires { IsBox area.now }
+        ensures below { IfSome result (λ n. n < numbers.now.bound) }
+        ensures listed { IfSome result (IsIn numbers.now) }
+    {
+        let band_sites = (area.width() * BAND_ROWS) as usize;
+        let mut band = band;
+        for _look in 0..MOST_BANDS {
+            band = self.next_from(band);
+            if band >= MOST_BANDS {
+                return None;
+            }
+            let first = band as usize * band_sites;
+            if let Some(number) = numbers.least_between(first, first + band_sites) {
+                return Some(number);
+            }
+            *self = self.without(band);
+        }
+        None
+    }
+}
+
 // What one of several workers has for its own of a work list: the listed sites in its bands of 32
 // rows. It goes through a band by blocks of 64 columns, and through a block by rows, so that its
 // claims lie together in memory, and it leaves a block only where nothing is listed there any more,
@@ -83,8 +181,11 @@ impl Span {
 // clauses say no more than that it is listed.
 #[derive(Drop)]
 pub(crate) struct Share {
-    // A bit for each own band, and none where the worker has all sites.
-    bands: u32,
+    // The own bands, and none where the worker has all sites.
+    own: Bands,
+    // Those of them in which a site may be listed. A claim lists sites in its own band and in those
+    // beside it, which are another's, so where none was found none comes until a claim beside it.
+    open: Bands,
     // Where it looked last.
     last: Span,
 }
@@ -98,28 +199,33 @@ impl Share {
             from: 0,
             to: 0,
         };
-        Share { bands: 0, last }
+        Share {
+            own: Bands::none(),
+            open: Bands::none(),
+            last,
+        }
     }
 
     // Makes every of-th band the worker's own, or all sites where it is the only one.
     pub(crate) fn deal(&mut self, share: u32, of: u32)
         requires { share < of }
     {
-        self.bands = if of == 1 { 0 } else { every(share, of) };
+        self.own = if of == 1 {
+            Bands::none()
+        } else {
+            Bands::every(share, of)
+        };
+        self.open = self.own;
     }
 
     // Whether the worker has no bands, but all sites.
     #[inline(always)]
     pub(crate) fn is_whole(&self) -> bool {
-        self.bands == 0
-    }
-
-    fn owns_band(&self, band: u32) -> bool {
-        band < MOST_BANDS && (self.bands >> band) & 1 != 0
+        self.own.is_empty()
     }
 
     fn owns(&self, row: u32) -> bool {
-        self.owns_band(row / BAND_ROWS)
+        self.own.has(row / BAND_ROWS)
     }
 
     // Whether a row of a box is beside the worker's bands, and in none of them.
@@ -134,7 +240,8 @@ impl Share {
     pub(crate) fn has_some(&self, numbers: &NumberSet, area: &BoxArea) -> bool
         requires { IsBox area.now }
     {
-        self.least_from(numbers, area, 0).is_some()
+        let mut open = self.open;
+        open.least_from(numbers, area, 0).is_some()
     }
 
     // The next of the worker's own sites, if it is in the span in which it looked last.
@@ -147,7 +254,7 @@ impl Share {
     }
 
     // The same where none is left there: in its block, else in the next own band that has one.
-    pub(crate) fn elsewhere(&self, numbers: &NumberSet, area: &BoxArea) -> Option<usize>
+    pub(crate) fn elsewhere(&mut self, numbers: &NumberSet, area: &BoxArea) -> Option<usize>
         requires { IsBox area.now }
         ensures below { IfSome result (λ n. n < numbers.now.bound) }
         ensures listed { IfSome result (IsIn numbers.now) }
@@ -157,25 +264,38 @@ impl Share {
                 return Some(number);
             }
         }
-        let bottom = self.last.row / BAND_ROWS * BAND_ROWS;
-        self.from_number(numbers, area, bottom as usize * area.width() as usize)
+        let band = self.last.row / BAND_ROWS;
+        self.open.least_from(numbers, area, band)
     }
 
     // The least of the worker's own sites from the number on, else of all.
     pub(crate) fn from_number(
-        &self,
+        &mut self,
         numbers: &NumberSet,
         area: &BoxArea,
-        number: usize,
+        number: u32,
     ) -> Option<usize>
         requires { IsBox area.now }
         ensures below { IfSome result (λ n. n < numbers.now.bound) }
         ensures listed { IfSome result (IsIn numbers.now) }
     {
-        if let Some(own) = self.least_from(numbers, area, number) {
-            return Some(own);
+        let band_sites = area.width() * BAND_ROWS;
+        let band = number / band_sites;
+        if self.open.has(band) {
+            let end = (band as usize + 1) * band_sites as usize;
+            if let Some(own) = numbers.least_between(number as usize, end) {
+                return Some(own);
+            }
         }
-        self.least_from(numbers, area, 0)
+        self.open.least_from(numbers, area, band + 1)
+    }
+
+    // The worker looks at a site of this row in another's band. A claim there lists the sites beside
+    // it, and those of the rows beside it may be the worker's own.
+    pub(crate) fn visit(&mut self, row: u32) {
+        let above = self.own.at_row(row.saturating_add(1));
+        let below = self.own.at_row(row.saturating_sub(1));
+        self.open = self.open.joined(above).joined(below);
     }
 
     // The worker looks at the site in this column and row, and goes on beside it.
@@ -184,49 +304,4 @@ impl Share {
     {
         self.last = Span::at(area, column, row);
     }
-
-    // The least of the worker's own sites from the number on. Each listed site that is in another's
-    // band is passed with all up to the next own band.
-    fn least_from(&self, numbers: &NumberSet, area: &BoxArea, from: usize) -> Option<usize>
-        requires { IsBox area.now }
-        ensures below { IfSome result (λ n. n < numbers.now.bound) }
-        ensures listed { IfSome result (IsIn numbers.now) }
-    {
-        let band_sites = area.width() as usize * BAND_ROWS as usize;
-        let end = band_sites * MOST_BANDS as usize;
-        let mut at = from;
-        while at < end {
-            let number = numbers.least_between(at, end)?;
-            let band = (number / band_sites) as u32;
-            if self.owns_band(band) {
-                return Some(number);
-            }
-            at = (at + 1).max((self.next_band(band) as usize).saturating_mul(band_sites));
-        }
-        None
-    }
-
-    // The worker's first band behind this one, or the one behind all where none is left.
-    fn next_band(&self, band: u32) -> u32
-        ensures { result ≤ MOST_BANDS }
-    {
-        let next = band.saturating_add(1);
-        if next >= MOST_BANDS {
-            return MOST_BANDS;
-        }
-        MOST_BANDS.min(next + (self.bands >> next).trailing_zeros())
-    }
-}
-
-// A bit for every of-th band.
-fn every(share: u32, of: u32) -> u32
-    requires { share < of }
-{
-    let mut bands = 0;
-    for band in 0..MOST_BANDS {
-        if band % of == share {
-            bands = bands | 1 << band;
-        }
-    }
-    bands
 }

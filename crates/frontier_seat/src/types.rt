@@ -9,7 +9,8 @@ use type_index::TypeIndex;
 
 #[derive(Drop)]
 enum Holding<'i> {
-    Own(TypeIndex),
+    // Boxed, so that either is found behind a pointer, and no look has to ask which.
+    Own(Box<TypeIndex>),
     Lent(&'i TypeIndex),
 }
 
@@ -38,8 +39,9 @@ impl<'i> Types<'i> {
     pub(crate) fn build(alloc: Global, sys: &System) -> Result<Types<'i>, NoMemory>
         ensures { IfOk result (IsIndexOf sys.now) }
     {
+        let index = Box::new(alloc, TypeIndex::build(alloc, sys)?)?;
         Ok(Types {
-            holding: Holding::Own(TypeIndex::build(alloc, sys)?),
+            holding: Holding::Own(index),
         })
     }
 

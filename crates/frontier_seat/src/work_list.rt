@@ -137,7 +137,7 @@ impl WorkList {
         ensures listed { IfSome result (λ spot. IsIn self.old.numbers spot.number) }
     {
         let area = self.area;
-        let number = self.share.from_number(&self.numbers, &area, from as usize)?;
+        let number = self.share.from_number(&self.numbers, &area, from)?;
         Some(self.spot_of(number))
     }
 
@@ -151,13 +151,31 @@ impl WorkList {
         ensures listed { IfSome result (λ spot. IsIn self.old.numbers spot.number) }
         ensures none { IfNone result ((n : ℕ) → ¬ IsIn self.old.numbers n) }
     {
-        if !self.share.is_whole() {
-            if let Some(spot) = self.next_own(from) {
-                return Some(spot);
-            }
+        if self.share.is_whole() {
+            let number = self.next_from(from as usize)?;
+            return Some(self.spot_of(number));
         }
+        if let Some(spot) = self.next_own(from) {
+            return Some(spot);
+        }
+        self.next_of_others(from)
+    }
+
+    // The same where none of the worker's own is left.
+    #[inline(never)]
+    fn next_of_others(&mut self, from: u32) -> Option<Spot>
+        requires { from < cell_count self.old.area }
+        ensures same { self.new ≡ self.old }
+        ensures spot { IfSome result (IsSpot self.old.area) }
+        ensures listed { IfSome result (λ spot. IsIn self.old.numbers spot.number) }
+        ensures none { IfNone result ((n : ℕ) → ¬ IsIn self.old.numbers n) }
+    {
+        let area = self.area;
         let number = self.next_from(from as usize)?;
-        Some(self.spot_of(number))
+        let spot = self.spot_of(number);
+        let (_column, row) = column_and_row(&area, spot.site);
+        self.share.visit(row);
+        Some(spot)
     }
 
     // The number of the least site that is listed at or after this one, else of the least one.

@@ -5,5 +5,5 @@ use Rattle.frontier_seat.specs.declared.types.Holding.TheVariants.{Own, Lent}
 
 -- the index itself
 abbrev pub index_in : Holding → TypeLists
-index_in (Own index) = index
+index_in (Own index) = index.value
 index_in (Lent index) = index.now
