@@ -9,16 +9,11 @@ use Rattle.atam.specs.declared.place.Place.{Place}
 use Rattle.atam.specs.TileSystem.{TileSystem}
 use Rattle.atam.specs.Growth.{IsCandidate}
 use Rattle.attach_rule.specs.Candidates.{AreCandidates}
+use Rattle.type_index.proofs.Seconds.{least_first}
 use Rattle.frontier_seat.specs.Inner.Pickers.{HasMoreThan}
 
 abbrev Sorted : List TypeId → Type 0
 Sorted types = AllPairs (λ t u. t.0 < u.0) types
-
-least_first : (t : TypeId) (ts : List TypeId) → Sorted (t ∷ ts) → (u : TypeId) → Contains (t ∷ ts) u → t.0 ≤ u.0
-least_first t ts sorted u (zero, within, at) = rw at (omega arith)
-least_first t ts sorted u (suc k, within, at) =
-    let less : t.0 < (get_or ts k u).0 = sorted 0 (suc k) u (omega arith) within in
-    omega (arith, less, ap (λ v. v.0) at)
 
 rest_sorted : (t : TypeId) (ts : List TypeId) → Sorted (t ∷ ts) → Sorted ts
 rest_sorted t ts sorted i j d less within = sorted (suc i) (suc j) d (omega arith) (omega arith)
