@@ -6,8 +6,7 @@ use Rattle.atam.specs.TileSystem.{TileSystem}
 use Rattle.atam.specs.Assembly.{bond}
 use Rattle.attach_rule.specs.declared.facing.FacingGlues.{FacingGlues}
 use Rattle.attach_rule.specs.Facing.{FacesSite}
-use Rattle.type_index.specs.declared.cache as cache
-use Rattle.type_index.specs.Findings.{AreFindings, IsKeyOf}
+use Rattle.type_index.specs.Findings.{AreFindings, FoundBefore, IsKeyOf}
 use Rattle.type_index.specs.SideSets.{has}
 use Rattle.cert_check.specs.declared.entry.Entry.{Entry}
 use Rattle.cert_check.specs.declared.looks.Look.{Look}
@@ -33,7 +32,7 @@ PassesLooking sys t look = (c : List Entry) (e : Entry) → e.place.tile ≡ t �
 -- the look of the entry of each type that passed last, and what was found for glues
 pub record LookTable : Type 0 where
   pub last : List (Option Look)
-  pub cache : List cache.Finding.Finding
+  pub cache : FoundBefore
 
 -- each entry of a type that looks as one that passed passes too
 pub record AreLooks (sys : TileSystem) (table : LookTable) : Type 0 where

@@ -7,8 +7,7 @@ use Rattle.atam.specs.TileSystem.{TileSystem}
 use Rattle.atam.specs.Assembly.{pull}
 use Rattle.attach_rule.specs.declared.facing.FacingGlues.{FacingGlues}
 use Rattle.attach_rule.specs.Facing.{FacesSite}
-use Rattle.type_index.specs.declared.cache as cache
-use Rattle.type_index.specs.Findings.{AreFindings, IsKeyOf}
+use Rattle.type_index.specs.Findings.{AreFindings, FoundBefore, IsKeyOf}
 use Rattle.type_index.specs.SideSets.{SideSet, sides_beside}
 use Rattle.type_index.specs.Clean.{ComesClean}
 use Rattle.local_check.specs.declared.glances.Glance.{Glance}
@@ -30,7 +29,7 @@ glance_of seen = record { sum = seen.sum; clean = seen.clean }
 -- what was seen last for each type, and what was found for glues
 pub record GlanceTable : Type 0 where
   pub last : List Seen
-  pub cache : List cache.Finding.Finding
+  pub cache : FoundBefore
 
 -- each was seen for its type
 pub record AreGlances (sys : TileSystem) (table : GlanceTable) : Type 0 where

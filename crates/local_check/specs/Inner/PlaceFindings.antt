@@ -6,9 +6,8 @@ use Rattle.atam.specs.declared.place.Place.{Place}
 use Rattle.atam.specs.TileSystem.{TileSystem}
 use Rattle.attach_rule.specs.declared.facing.FacingGlues.{FacingGlues}
 use Rattle.attach_rule.specs.Facing.{FacesSite}
-use Rattle.type_index.specs.declared.cache as cache
 use Rattle.type_index.specs.HeldTypes.{FirstHeldBut}
-use Rattle.type_index.specs.Findings.{AreFindings, IsKeyOf}
+use Rattle.type_index.specs.Findings.{AreFindings, FoundBefore, IsKeyOf}
 use Rattle.type_index.specs.SideSets.{SideSet, intersection, difference, complement, glues_on}
 use Rattle.local_check.specs.declared.findings.Finding.{Finding}
 use Rattle.local_check.specs.declared.findings.Known.{Known}
@@ -31,7 +30,7 @@ IsKnown sys seeks t known = (tiles : List Place) (m : Site) (glues : FacingGlues
 -- what was found last for each type, what was found for glues, and whether rivals are sought
 pub record FindingTable : Type 0 where
   pub last : List Known
-  pub cache : List cache.Finding.Finding
+  pub cache : FoundBefore
   pub seeks : Bool
 
 -- each was found for its type
