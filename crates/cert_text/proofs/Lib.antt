@@ -1,4 +1,6 @@
 pub mod Keeping
 pub mod PlainLines
 pub mod Printed
+pub mod RankDigits
+pub mod RankTexts
 pub mod SidesWords

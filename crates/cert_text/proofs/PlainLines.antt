@@ -119,11 +119,19 @@ module _ (sys : TileSystem) (earlier : List Entry) (m : Site) (name sides rank :
       place_of_found sys plain.column plain.row name t named found ∙ ap (λ o. o >>= (λ n. Ok (record { site = n; tile = t }))) (plain_site line m name sides rank plain) in
       subst Reads (sym (plain_words line m name sides rank plain (fields line plain))) (record { count = refl; keyword = refl; reads = rw (read, of_sides, of_rank, inside, free) refl })
 
-  -- at the front of a text
-  pub plain_front : (text : List ℕ) (count : ℕ) → BeginsPlain text m name sides rank count → BeginsWithMark sys earlier text (record { place = record { site = m; tile = t }; sides = s; rank = r }) count
-  unfolding entry
-  plain_front text count h =
-      record { line = h.line; begins = plain_begins h.line m name sides rank h.plain text h.behind (fields h.line h.plain) h.whole; count_is = h.count_is; mark = plain_line h.line h.plain }
+-- and those of one at the front of a text
+pub plain_front : (sys : TileSystem) (earlier : List Entry) (m : Site) (name sides : List ℕ) (t : TypeId) (s r : ℕ) → is_name name ≡ true → type_named sys.types name ≡ Some t.0 → sides_field sides ≡ Ok s →
+    is_in_box sys.area m ≡ true → is_none (tile_at (places_of earlier) m) ≡ true → (text : List ℕ) (count : ℕ) → BeginsPlain text m name sides r count →
+    BeginsWithMark sys earlier text (record { place = record { site = m; tile = t }; sides = s; rank = r }) count
+unfolding entry
+plain_front sys earlier m name sides t s r named found of_sides inside free text count h =
+    let read = fields sys earlier m name sides h.last t s r named found of_sides h.rank_read inside free h.line h.plain in
+    record {
+      line = h.line;
+      begins = plain_begins h.line m name sides h.last h.plain text h.behind read h.whole;
+      count_is = h.count_is;
+      mark = plain_line sys earlier m name sides h.last t s r named found of_sides h.rank_read inside free h.line h.plain;
+    }
 
 -- a rank and a newline behind the other fields
 module _ (text : List ℕ) (m : Site) (name sides fields rank behind : List ℕ) (plain : IsPlainMark text m name sides fields) (cut : fields ≡ rank ++ 10 ∷ behind) where
@@ -138,16 +146,18 @@ module _ (text : List ℕ) (m : Site) (name sides fields rank behind : List ℕ)
   front_size = let whole : length text ≡ length front_line + length (10 ∷ behind) = ap length front_whole ∙ length-append front_line (10 ∷ behind) in omega (arith, whole)
 
   -- end the line
-  pub front_begins : BeginsPlain text m name sides rank (length text - length behind)
+  pub front_begins : (r : ℕ) → rank_field rank ≡ Ok r → BeginsPlain text m name sides r (length text - length behind)
   unfolding front_line
-  front_begins =
+  front_begins r read =
       let size : length text ≡ length front_line + 1 + length behind = front_size in
       record {
         line = front_line;
         behind = behind;
+        last = rank;
         plain = record { column = plain.column; row = plain.row; spelled = refl; x = plain.x; y = plain.y };
         whole = front_whole;
         count_is = omega (arith, size);
+        rank_read = read;
       }
 
   pub front_within : length behind ≤ length text

@@ -5,6 +5,7 @@ mod keyword;
 mod laws;
 mod plain;
 mod printing;
+mod rank_text;
 mod reader;
 mod sides;
 mod verdict;

@@ -1,32 +1,36 @@
 // A `mark` line in its plain form, which is read from the front of a text without being cut into
 // words.
-ghost use Rattle.std.specs.Prelude.{◌≡◌, ◌++◌, ◌∷◌, IfSome};
-ghost use Rattle.cert_text.specs.Inner.Plain.{BeginsPlain, IsPlainMark};
+ghost use Rattle.std.specs.Prelude.{◌≡◌, ◌++◌, ◌∷◌, IfNone, IfSome};
+ghost use Rattle.tile_io.specs.Checks.{is_digit};
+ghost use Rattle.cert_text.specs.Inner.Plain.{BeginsPlain, HasNoRank, IsPlainMark, StartsWithRank};
 
 use atam::LONGEST_NAME;
-use seq_text::{plain_coordinate, plain_end};
+use seq_text::plain_coordinate;
 use tile_system::Site;
 
-/// The site of a line in its plain form, the words behind it, and how many bytes the line has with
-/// its newline.
+// How many digits a rank may have in this form: each such number is a rank.
+const MOST_PLAIN_DIGITS: usize = 8;
+
+/// The site of a line in its plain form, the words behind it, the rank, and how many bytes the line
+/// has with its newline.
 #[derive(Drop)]
 pub(crate) struct PlainMark<'a> {
     pub(crate) site: Site,
     pub(crate) name: &'a [u8],
     pub(crate) sides: &'a [u8],
-    pub(crate) rank: &'a [u8],
+    pub(crate) rank: u32,
     pub(crate) length: usize,
 }
 
 /// What a text has at its front, if it begins with a `mark` line and the words are those of an
 /// entry.
-#[inline(always)]
+#[inline(never)]
 pub(crate) fn plain_mark(text: &[u8]) -> Option<PlainMark<'_>>
     ensures { IfSome result (λ mark. BeginsPlain text.now mark.site mark.name.now mark.sides.now
-        mark.rank.now mark.length) }
+        mark.rank mark.length) }
 {
     let (site, name, sides, fields) = plain_fields(text)?;
-    let (rank, behind) = plain_end(fields)?;
+    let (rank, behind) = plain_rank(fields)?;
     let length = text.len() - behind.len();
     Some(PlainMark {
         site,
@@ -65,4 +69,34 @@ fn plain_word(bytes: &[u8]) -> Option<(&[u8], &[u8])>
         }
     }
     None
+}
+
+// The rank that the digits at the front write, and what stands behind the newline after them.
+#[inline(always)]
+fn plain_rank(bytes: &[u8]) -> Option<(u32, &[u8])>
+    ensures starts { IfSome result (λ found. StartsWithRank bytes.now found.0 found.1.now) }
+    ensures none { IfNone result (HasNoRank bytes.now) }
+{
+    let mut rank = 0;
+    for index in 0..bytes.len().min(MOST_PLAIN_DIGITS + 1) {
+        let byte = bytes[index];
+        if byte == b'\n' {
+            if index > 0 {
+                return Some((rank, &bytes[index + 1..]));
+            }
+            return None;
+        }
+        if !is_digit(byte) {
+            return None;
+        }
+        rank = 10 * rank + u32::from(byte - b'0');
+    }
+    None
+}
+
+#[inline(always)]
+fn is_digit(byte: u8) -> bool
+    ensures { result ≡ is_digit byte }
+{
+    byte.is_ascii_digit()
 }

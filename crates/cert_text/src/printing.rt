@@ -5,11 +5,11 @@ ghost use Rattle.tile_io.specs.Chunks.{PassesOn};
 ghost use Rattle.tile_io.specs.declared.chunk.TheConstants.{CHUNK_ROOM};
 ghost use Rattle.tile_io.specs.Prints.{Prints};
 ghost use Rattle.cert_check.specs.Certificates.{places_of};
-ghost use Rattle.cert_text.specs.CertificateLines.{mark_line, mark_lines, mark_words};
+ghost use Rattle.cert_text.specs.CertificateLines.{mark_line, mark_lines, mark_words, sides_word};
 
-use crate::sides::sides_word;
+use crate::rank_text::RankText;
+use crate::sides::sides_text;
 use cert_check::{Certificate, Entry};
-use itoa::Buffer;
 use seq_text::NumberTexts;
 use tile_io::{Chunk, Failed, Sink};
 use tile_system::{Site, System};
@@ -46,8 +46,9 @@ fn put_marks<K: Sink>(
     // no entry states other sides than the four
     cert.recall_entries();
     let mut numbers = NumberTexts::new();
+    let mut ranks = RankText::new(0);
     for index in 0..cert.len() {
-        put_mark(sys, cert.get(index), &mut numbers, chunk, sink)?;
+        put_mark(sys, cert.get(index), &mut numbers, &mut ranks, chunk, sink)?;
     }
     Ok(())
 }
@@ -57,6 +58,7 @@ fn put_mark<K: Sink>(
     sys: &System,
     entry: Entry,
     numbers: &mut NumberTexts,
+    ranks: &mut RankText,
     chunk: &mut Chunk,
     sink: &mut K,
 ) -> Result<(), Failed>
@@ -70,7 +72,7 @@ fn put_mark<K: Sink>(
     chunk.make_room(sink, LONGEST_MARK_LINE)?;
     let Entry { place, sides, rank } = entry;
     let name = sys.type_name(place.tile);
-    hold_words(place.site, name, sides_word(sides), rank, numbers, chunk);
+    hold_words(place.site, name, sides, rank, numbers, ranks, chunk);
     Ok(())
 }
 
@@ -78,24 +80,23 @@ fn put_mark<K: Sink>(
 fn hold_words(
     site: Site,
     name: &[u8],
-    sides: &[u8],
+    sides: u8,
     rank: u32,
     numbers: &mut NumberTexts,
+    ranks: &mut RankText,
     chunk: &mut Chunk,
 )
     requires room { length chunk.old + 96 ≤ CHUNK_ROOM }
     requires name { length name.now ≤ 40 }
-    requires sides { length sides.now ≤ 4 }
-    ensures { chunk.new ≡ chunk.old ++ mark_words site name.now sides.now rank }
+    requires sides { sides < 16 }
+    ensures { chunk.new ≡ chunk.old ++ mark_words site name.now (sides_word sides) rank }
 {
-    let mut number = Buffer::new();
+    let (sides, sides_len) = sides_text(sides);
     chunk.hold_front(b"mark    ", 5);
     numbers.hold(site.x, chunk);
     numbers.hold(site.y, chunk);
     chunk.hold(name);
     chunk.hold_front(b" ", 1);
-    chunk.hold(sides);
-    chunk.hold_front(b" ", 1);
-    chunk.hold(number.format(rank).as_bytes());
-    chunk.hold_front(b"\n", 1);
+    chunk.hold_front(sides, sides_len);
+    ranks.hold(rank, chunk);
 }

@@ -119,11 +119,14 @@ impl<'a> LineReader for CertificateReader<'a> {
         self.system.recall_valid();
         let mark = self.read_front(rest)?;
         let tile = self.found.find(self.system, mark.name)?;
-        let (sides, rank) = sides_and_rank(&mark)?;
+        let Ok(sides) = read_sides(mark.sides) else {
+            return None;
+        };
         let place = Place {
             site: mark.site,
             tile,
         };
+        let rank = mark.rank;
         match self.hold(Entry { place, sides, rank }) {
             Ok(()) => Some(Front {
                 length: mark.length,
@@ -187,7 +190,7 @@ impl<'a> CertificateReader<'a> {
     fn read_front<'t>(&self, text: &'t [u8]) -> Option<PlainMark<'t>>
         requires { AreKept self.now.system.now self.now.entries.items self.now.grid }
         ensures plain { IfSome result (λ mark. BeginsPlain text.now mark.site mark.name.now
-            mark.sides.now mark.rank.now mark.length) }
+            mark.sides.now mark.rank mark.length) }
         ensures inside { IfSome result (λ mark. InBox self.now.system.now.area mark.site) }
         ensures entries { IfSome result (λ mark.
             is_none (tile_at (places_of self.now.entries.items) mark.site) ≡ true) }
@@ -247,22 +250,6 @@ fn read_entry(sys: &System, words: &LineWords) -> Result<Entry, Cause>
     let sides = read_sides(words.word(4))?;
     let rank = read_rank(words.word(5))?;
     Ok(Entry { place, sides, rank })
-}
-
-// The sides and the rank of a `mark` line in its plain form.
-#[inline(always)]
-fn sides_and_rank(mark: &PlainMark) -> Option<(u8, u32)>
-    ensures sides { IfSome result (λ found. sides_field mark.now.sides.now ≡ Ok found.0) }
-    ensures small { IfSome result (λ found. found.0 < 16) }
-    ensures rank { IfSome result (λ found. rank_field mark.now.rank.now ≡ Ok found.1) }
-{
-    let Ok(sides) = read_sides(mark.sides) else {
-        return None;
-    };
-    let Ok(rank) = read_rank(mark.rank) else {
-        return None;
-    };
-    Some((sides, rank))
 }
 
 // The rank of an entry.

@@ -1,5 +1,5 @@
 // The words of sets of sides.
-ghost use Rattle.std.specs.Prelude.{◌≡◌, ◌<◌, IfOk};
+ghost use Rattle.std.specs.Prelude.{◌≡◌, ◌<◌, ◌≤◌, [], ◌∷◌, ◌++◌, take, IfOk};
 ghost use Rattle.cert_text.specs.CertificateLines.{sides_word, side_letter};
 ghost use Rattle.cert_text.specs.CertificateText.{sides_field};
 
@@ -32,28 +32,30 @@ pub(crate) fn read_sides(word: &[u8]) -> Result<u8, Cause>
     }
 }
 
-/// The word of a set of sides.
-pub(crate) fn sides_word(sides: u8) -> &'static [u8]
+/// The word of a set of sides and the space behind it, at the front of a text, and how many bytes
+/// both have.
+pub(crate) fn sides_text(sides: u8) -> (&'static [u8; 8], usize)
     requires { sides < 16 }
-    ensures { result.now ≡ sides_word sides }
+    ensures text { take result.1 result.0.now ≡ sides_word sides ++ 32 ∷ [] }
+    ensures short { result.1 ≤ 5 }
 {
     match sides {
-        0 => b"-",
-        1 => b"N",
-        2 => b"E",
-        3 => b"NE",
-        4 => b"S",
-        5 => b"NS",
-        6 => b"ES",
-        7 => b"NES",
-        8 => b"W",
-        9 => b"NW",
-        10 => b"EW",
-        11 => b"NEW",
-        12 => b"SW",
-        13 => b"NSW",
-        14 => b"ESW",
-        _ => b"NESW",
+        0 => (b"-       ", 2),
+        1 => (b"N       ", 2),
+        2 => (b"E       ", 2),
+        3 => (b"NE      ", 3),
+        4 => (b"S       ", 2),
+        5 => (b"NS      ", 3),
+        6 => (b"ES      ", 3),
+        7 => (b"NES     ", 4),
+        8 => (b"W       ", 2),
+        9 => (b"NW      ", 3),
+        10 => (b"EW      ", 3),
+        11 => (b"NEW     ", 4),
+        12 => (b"SW      ", 3),
+        13 => (b"NSW     ", 4),
+        14 => (b"ESW     ", 4),
+        _ => (b"NESW    ", 5),
     }
 }
 

@@ -1,7 +1,21 @@
 -- A `mark` line in its plain form.
-use Rattle.std.specs.Prelude.{◌≡◌, ℕ, ◌+◌, List, length, ◌∷◌, ◌++◌, codes, Ok}
-use Rattle.tile_io.specs.Checks.{coordinate}
+use Rattle.std.specs.Prelude.{◌≡◌, ℕ, ◌+◌, ◌<◌, ◌≤◌, ◌^◌, true, List, length, ◌∷◌, ◌++◌, codes, Ok}
+use Rattle.tile_io.specs.Checks.{are_digits, coordinate, digits_value}
 use Rattle.atam.specs.declared.site.Site.{Site}
+use Rattle.cert_text.specs.CertificateText.{rank_field}
+
+-- up to eight digits that write this rank, and a newline, and then the rest
+pub record StartsWithRank (bytes : List ℕ) (rank : ℕ) (rest : List ℕ) : Type 0 where
+  pub word : List ℕ
+  pub cut : bytes ≡ word ++ 10 ∷ rest
+  pub digits : are_digits word ≡ true
+  pub few : length word ≤ 8
+  pub value : digits_value word ≡ rank
+  pub small : rank < 10 ^ 8
+
+-- no such digits
+abbrev pub HasNoRank : List ℕ → Type 0
+HasNoRank bytes = (word rest : List ℕ) → bytes ≡ word ++ 10 ∷ rest → are_digits word ≡ true → length word ≤ 8 → ⊥
 
 -- the keyword, the coordinates of a site and two words, each with a space behind it, and then the rest
 pub record IsPlainMark (line : List ℕ) (m : Site) (name sides rank : List ℕ) : Type 0 where
@@ -11,10 +25,12 @@ pub record IsPlainMark (line : List ℕ) (m : Site) (name sides rank : List ℕ)
   pub x : coordinate column ≡ Ok m.x
   pub y : coordinate row ≡ Ok m.y
 
--- a text begins with such a line, and it has so many bytes with its newline
-pub record BeginsPlain (text : List ℕ) (m : Site) (name sides rank : List ℕ) (count : ℕ) : Type 0 where
+-- a text begins with such a line, whose last word reads as this rank, and it has so many bytes with its newline
+pub record BeginsPlain (text : List ℕ) (m : Site) (name sides : List ℕ) (rank count : ℕ) : Type 0 where
   pub line : List ℕ
   pub behind : List ℕ
-  pub plain : IsPlainMark line m name sides rank
+  pub last : List ℕ
+  pub plain : IsPlainMark line m name sides last
   pub whole : text ≡ line ++ 10 ∷ behind
   pub count_is : count ≡ length line + 1
+  pub rank_read : rank_field last ≡ Ok rank

@@ -1,6 +1,7 @@
 use Rattle.std.proofs.Common.{◌≡◌, [], ◌∷◌, ◌++◌, codes, decimal, append_assoc, refl, ◌∙◌, arith}
 use Rattle.std.proofs.lemmas.Int.{ints, to_z-of_z}
 use Rattle.std.specs.Fmt.{signed_decimal}
+use Rattle.cert_text.specs.CertificateLines.{sides_word}
 use Rattle.cert_text.proofs.printing.hold_words.Goals as goal
 
 pub returns : goal.returns
@@ -9,9 +10,9 @@ returns c =
     let x = signed_decimal c.args.site.x in
     let y = signed_decimal c.args.site.y in
     let name = c.args.name.now in
-    let sides = c.args.sides.now in
+    let sides = sides_word c.args.sides in
     let rank = decimal c.args.rank in
-    let k : c.hold_front-4.new.self ≡ ((((((((((held ++ codes "mark ") ++ x) ++ 32 ∷ []) ++ y) ++ 32 ∷ []) ++ name) ++ 32 ∷ []) ++ sides) ++ 32 ∷ []) ++ rank) ++ 10 ∷ [] =
-    rw (c.hold_front-4.ensures.bytes, c.hold-5.ensures.bytes, c.hold_front-3.ensures.bytes, c.hold-4.ensures.bytes, c.hold_front-2.ensures.bytes, c.hold-3.ensures.bytes, c.hold-2.ensures.bytes, c.hold.ensures.bytes, c.hold_front.ensures.bytes) (grind (arith, ints, to_z-of_z))
+    let k : c.hold-4.new.chunk ≡ (((((((((held ++ codes "mark ") ++ x) ++ 32 ∷ []) ++ y) ++ 32 ∷ []) ++ name) ++ 32 ∷ []) ++ (sides ++ 32 ∷ [])) ++ rank) ++ 10 ∷ [] =
+    rw (c.hold-4.ensures, c.hold_front-3.ensures.bytes, c.sides_text-sides_len.ensures.text, c.hold_front-2.ensures.bytes, c.hold-3.ensures.bytes, c.hold-2.ensures.bytes, c.hold.ensures.bytes, c.hold_front.ensures.bytes) (grind (arith, ints, to_z-of_z))
     in
     k ∙ simp append_assoc refl

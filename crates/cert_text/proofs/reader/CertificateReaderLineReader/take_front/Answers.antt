@@ -11,34 +11,33 @@ use Rattle.tile_text.proofs.Boxes.{inside_passes}
 use Rattle.seq_text.proofs.Printed.{named_type}
 use Rattle.cert_check.specs.declared.entry.Entry.{Entry}
 use Rattle.cert_check.specs.Certificates.{places_of}
-use Rattle.cert_text.specs.CertificateText.{certificate_table, sides_field, rank_field}
+use Rattle.cert_text.specs.CertificateText.{certificate_table, sides_field}
 use Rattle.cert_text.specs.Inner.Plain.{BeginsPlain}
 use Rattle.cert_text.proofs.PlainLines.{BeginsWithMark, IsMarkLine, plain_front, mark_taken}
 use Rattle.cert_text.proofs.reader.CertificateReaderLineReader.take_front.Goals as goal
 
 -- a `mark` line in its plain form, with a type that was found by its name
-front_found : (sys : TileSystem) (earlier : List Entry) (text : List ℕ) (m : Site) (name sides rank : List ℕ) (count : ℕ) (t : TypeId) (s r : ℕ) → IsValid sys → BeginsPlain text m name sides rank count →
-    IsType sys t → type_name sys t ≡ name → Some t.0 ≡ type_named sys.types name → sides_field sides ≡ Ok s → rank_field rank ≡ Ok r → InBox sys.area m → is_none (tile_at (places_of earlier) m) ≡ true →
+front_found : (sys : TileSystem) (earlier : List Entry) (text : List ℕ) (m : Site) (name sides : List ℕ) (count : ℕ) (t : TypeId) (s r : ℕ) → IsValid sys → BeginsPlain text m name sides r count →
+    IsType sys t → type_name sys t ≡ name → Some t.0 ≡ type_named sys.types name → sides_field sides ≡ Ok s → InBox sys.area m → is_none (tile_at (places_of earlier) m) ≡ true →
     BeginsWithMark sys earlier text (record { place = record { site = m; tile = t }; sides = s; rank = r }) count
-front_found sys earlier text m name sides rank count t s r valid plain known same found of_sides of_rank inside free =
-    plain_front sys earlier m name sides rank t s r (named_type sys valid t known name same) (sym found) of_sides of_rank (inside_passes sys.area m inside) free text count plain
+front_found sys earlier text m name sides count t s r valid plain known same found of_sides inside free =
+    plain_front sys earlier m name sides t s r (named_type sys valid t known name same) (sym found) of_sides (inside_passes sys.area m inside) free text count plain
 
-pub returns-in-Ok-clause-taken : goal.returns-in-Ok-clause-taken
+pub returns-in-Ok-hold-clause-taken : goal.returns-in-Ok-hold-clause-taken
 unfolding certificate_table
-returns-in-Ok-clause-taken c =
+returns-in-Ok-hold-clause-taken c =
     let r = c.args.self.now in
     let sys = r.system.now in
     let mark = c.in_ok-mark.mark in
     let line = c.in_ok-mark.ensures in
     let tile = c.in_ok-tile.tile in
     let named = c.in_ok-tile.ensures in
-    let sides = c.in_ok-sides.sides in
-    let rank = c.in_ok-sides.rank in
-    let words = c.in_ok-sides.ensures in
+    let sides = c.in-Ok.sides in
+    let rank = mark.rank in
     let e : Entry = record { place = record { site = mark.site; tile = tile }; sides = sides; rank = rank } in
-    let front = front_found sys r.entries.items c.args.rest.now mark.site mark.name.now mark.sides.now mark.rank.now mark.length tile sides rank c.recall_valid.ensures.valid line.plain named.in_range named.named named.index words.sides words.rank line.inside line.entries in
+    let front = front_found sys r.entries.items c.args.rest.now mark.site mark.name.now mark.sides.now mark.length tile sides rank c.recall_valid.ensures.valid line.plain named.in_range named.named named.index (sym c.in-Ok.ensures.value) line.inside line.entries in
     let Line : List Entry → Type 0 = λ earlier. IsMarkLine sys earlier (words_of front.line) e in
-    let after = c.in-Ok.ensures in
+    let after = c.in-Ok-hold.ensures in
     record {
       line = front.line;
       begins = front.begins;
@@ -53,8 +52,7 @@ returns-in-Err-clause-taken c =
     let mark = c.in_ok-mark.mark in
     let line = c.in_ok-mark.ensures in
     let named = c.in_ok-tile.ensures in
-    let words = c.in_ok-sides.ensures in
-    let front = front_found sys r.entries.items c.args.rest.now mark.site mark.name.now mark.sides.now mark.rank.now mark.length c.in_ok-tile.tile c.in_ok-sides.sides c.in_ok-sides.rank c.recall_valid.ensures.valid line.plain named.in_range named.named named.index words.sides words.rank line.inside line.entries in
+    let front = front_found sys r.entries.items c.args.rest.now mark.site mark.name.now mark.sides.now mark.length c.in_ok-tile.tile c.in-Ok.sides mark.rank c.recall_valid.ensures.valid line.plain named.in_range named.named named.index (sym c.in-Ok.ensures.value) line.inside line.entries in
     let after = c.in-Err.ensures in
     record {
       line = front.line;
