@@ -24,6 +24,7 @@ pub(crate) struct PlainMark<'a> {
 
 /// What a text has at its front, if it begins with a `mark` line and the words are those of an
 /// entry.
+// Its loops stand apart, since the loop over the lines leaves them too few registers.
 #[inline(never)]
 pub(crate) fn plain_mark(text: &[u8]) -> Option<PlainMark<'_>>
     ensures { IfSome result (λ mark. BeginsPlain text.now mark.site mark.name.now mark.sides.now
