@@ -10,6 +10,7 @@ pub mod Begun
 pub mod SpanRoom
 pub mod SpanSteps
 pub mod Spans
+pub mod InTurn
 pub mod Rows
 pub mod Rests
 pub mod Ended

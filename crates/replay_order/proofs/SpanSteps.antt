@@ -61,7 +61,7 @@ span_unlisted sys tiles first end old waiting seeds_distinct held same_first sam
     }
 
 -- one place more follows
-goes_on-push : (sys : TileSystem) (tiles before part : List Place) (p : Place) → GoesOn sys tiles before part → IsReady sys tiles (before ++ part) p →
+pub goes_on-push : (sys : TileSystem) (tiles before part : List Place) (p : Place) → GoesOn sys tiles before part → IsReady sys tiles (before ++ part) p →
     ((q : Place) → IsReady sys tiles (before ++ part) q → ¬ IsBefore q.site p.site) → GoesOn sys tiles before (part ++ p ∷ [])
 goes_on-push sys tiles before part p goes_on ready_p least_p = record {
   ready = λ i q there. elim (push_cases part p i q there) [

@@ -161,18 +161,22 @@ module _ (sys : TileSystem) (tiles : List Place) (distinct : HasDistinctSites ti
     on_distinct = subst (λ (l : List Place). HasDistinctSites (before ++ l)) (take-length part) (on_distinct_to (length part)).0
 
   module _ (seeds_distinct : HasDistinctSites sys.seeds) (seeded : IsPartOf sys.seeds tiles) where
-    -- a part of the order follows
-    pub follows_alone : (first end : ℕ) (part : List Place) → IsPartOfOrder sys tiles first end part → FollowsIfFull sys tiles first end part
-    follows_alone first end part is_part =
+    -- what goes on within the span follows
+    pub follows_on : (first end : ℕ) (part : List Place) → GoesOn sys tiles (standing sys tiles first) part → ((p : Place) → Contains part p → IsSiteBetween sys.area first end p.site) → FollowsIfFull sys tiles first end part
+    follows_on first end part goes_on between =
         let before = standing sys tiles first in
         let before_part = standing_part sys.area tiles sys.seeds seeded first in
         let before_distinct = standing_distinct sys.area tiles sys.seeds seeds_distinct first in
         record {
-          placed = on_placed before part before_part before_distinct is_part.goes_on;
-          between = is_part.between;
-          distinct = on_distinct before part before_part before_distinct is_part.goes_on;
-          goes_on = λ _. is_part.goes_on;
+          placed = on_placed before part before_part before_distinct goes_on;
+          between = between;
+          distinct = on_distinct before part before_part before_distinct goes_on;
+          goes_on = λ _. goes_on;
         }
+
+    -- so a part of the order does
+    pub follows_alone : (first end : ℕ) (part : List Place) → IsPartOfOrder sys tiles first end part → FollowsIfFull sys tiles first end part
+    follows_alone first end part is_part = follows_on first end part is_part.goes_on is_part.between
 
     -- two parts one behind the other
     module _ (first middle end : ℕ) (one other : List Place) (below : first ≤ middle) (above : middle ≤ end)
@@ -398,6 +402,27 @@ module _ (sys : TileSystem) (grid : TileGrid) (can : CanList sys grid) where
     follows =
         follows_both sys grid.tiles can.distinct can.valid.distinct_seeds (seeds_part sys grid.tiles can.seeded) first middle end before.part behind.part from within before.follows behind.follows;
   }
+
+  -- the same behind each other in one list
+  pub listed_on : (first middle end : ℕ) → first ≤ middle → middle ≤ end → (old one new : List Place) → IsListedBehind sys grid.tiles first middle old one → IsListedBehind sys grid.tiles middle end one new →
+      IsListedBehind sys grid.tiles first end old new
+  listed_on first middle end from within old one new before behind =
+      listed_both first middle end from within old one behind.part new before (record { part = behind.part; listed = refl; follows = behind.follows }) behind.listed
+
+  -- what was listed of a span is that of a wider one
+  pub listed_wider : (first middle end : ℕ) → middle ≤ end → (old new : List Place) → IsListedBehind sys grid.tiles first middle old new → IsListedBehind sys grid.tiles first end old new
+  listed_wider first middle end within old new listed =
+      let follows = listed.follows in
+      record {
+        part = listed.part;
+        listed = listed.listed;
+        follows = record {
+          placed = follows.placed;
+          between = λ p contains. wider sys.area first middle first end p.site (omega arith) within (follows.between p contains);
+          distinct = follows.distinct;
+          goes_on = λ full. follows.goes_on (λ m between some. full m (wider sys.area first middle first end m (omega arith) within between) some);
+        };
+      }
 
   -- what was listed of a span follows
   pub listed_alone : (first end : ℕ) (old new : List Place) (waiting : Waiting) → IsSpanListed sys grid.tiles first end old new waiting → IsListedBehind sys grid.tiles first end old new

@@ -1,5 +1,5 @@
 -- What stands at the sites below a number: the beginning, and the other tiles there.
-use Rattle.std.proofs.Common.{◌≡◌, ◌≢◌, ◌⊎◌, ◌++◌, ℕ, zero, suc, List, [], ◌∷◌, Option, Some, None, Contains, append-nil, refl, sym, ◌∙◌, ap, subst, inl, inr, arith}
+use Rattle.std.proofs.Common.{◌≡◌, ◌≢◌, ◌⊎◌, ◌++◌, ℕ, zero, suc, ◌+◌, List, [], ◌∷◌, Option, Some, None, Contains, append-nil, add-one, refl, sym, ◌∙◌, ap, subst, inl, inr, arith}
 use Rattle.std.proofs.lemmas.Bool.{cases_lt}
 use Rattle.std.proofs.lemmas.Option.{none-some, same_Some}
 use Rattle.atam.specs.declared.site.Site.{Site}
@@ -14,7 +14,7 @@ use Rattle.assembly.proofs.Cells.{site_at-injective}
 use Rattle.replay_order.specs.Inner.Spans.{place_unless, listed_below, IsSiteBetween}
 
 -- a tile follows where there is one, and none of the beginning
-unless_cases : (begun tile : Option TypeId) (m : Site) →
+pub unless_cases : (begun tile : Option TypeId) (m : Site) →
     (((begun ≢ None) ⊎ (tile ≡ None)) × (place_unless begun tile m ≡ [])) ⊎
     ((t : TypeId) × (begun ≡ None) × (tile ≡ Some t) × (place_unless begun tile m ≡ record { site = m; tile = t } ∷ []))
 unless_cases (Some b) tile m = inl (inl (λ none. none-some b (sym none)), refl)
@@ -58,7 +58,7 @@ module _ (area : BoxArea) (tiles begun : List Place) where
       ]
 
   -- the site with the number itself is empty before, if it isn't the beginning's
-  below_empty : (n : ℕ) → tile_at begun (site_at area n) ≡ None → tile_at (listed_below area tiles begun n) (site_at area n) ≡ None
+  pub below_empty : (n : ℕ) → tile_at begun (site_at area n) ≡ None → tile_at (listed_below area tiles begun n) (site_at area n) ≡ None
   below_empty n none = elim (some_or_none (tile_at (listed_below area tiles begun n) (site_at area n))) [
     | inl empty ↦ empty
     | inr some ↦ elim (standing_from n (site_at area n) some.0 some.1) [
@@ -129,3 +129,29 @@ module _ (area : BoxArea) (tiles begun : List Place) where
               | inr new ↦ subst (Contains tiles) new (tile_at-Contains tiles here some.0 some.2)
             ])
       ]
+
+  -- nothing more stands where there is no tile, or one of the beginning
+  pub standing_same : (n : ℕ) → (tile_at begun (site_at area n) ≢ None) ⊎ (tile_at tiles (site_at area n) ≡ None) → listed_below area tiles begun (n + 1) ≡ listed_below area tiles begun n
+  standing_same n none =
+      let here = site_at area n in
+      let old = listed_below area tiles begun n in
+      let more : listed_below area tiles begun (suc n) ≡ old = elim (unless_cases (tile_at begun here) (tile_at tiles here) here) [
+        | inl nothing ↦ ap (λ (l : List Place). old ++ l) nothing.1 ∙ append-nil old
+        | inr some ↦ elim none [ inl begins ↦ absurd (begins some.1) | inr empty ↦ absurd (none-some some.0 (sym empty ∙ some.2)) ]
+      ]
+      in
+      ap (listed_below area tiles begun) (add-one n) ∙ more
+
+  -- and else the tile does
+  pub standing_more : (n : ℕ) (t : TypeId) → tile_at begun (site_at area n) ≡ None → tile_at tiles (site_at area n) ≡ Some t →
+      listed_below area tiles begun (n + 1) ≡ listed_below area tiles begun n ++ record { site = site_at area n; tile = t } ∷ []
+  standing_more n t none tile =
+      let here = site_at area n in
+      let old = listed_below area tiles begun n in
+      let p : TypeId → Place = λ u. record { site = here; tile = u } in
+      let more : listed_below area tiles begun (suc n) ≡ (old ++ p t ∷ []) = elim (unless_cases (tile_at begun here) (tile_at tiles here) here) [
+        | inl nothing ↦ elim nothing.0 [ inl begins ↦ absurd (begins none) | inr empty ↦ absurd (none-some t (sym empty ∙ tile)) ]
+        | inr some ↦ ap (λ (l : List Place). old ++ l) some.3 ∙ ap (λ u. old ++ p u ∷ []) (same_Some some.0 t (sym some.2 ∙ tile))
+      ]
+      in
+      ap (listed_below area tiles begun) (add-one n) ∙ more

@@ -13,6 +13,7 @@ ghost use Rattle.replay_order.specs.ReplayAnswers.{HoldsSeeds, LacksSeed, IsRepl
 
 use crate::bonds::Bonds;
 use crate::canonical::{holds_seeds, list_span, replay};
+use crate::in_turn::list_in_turn;
 use crate::stop::ReplayStop;
 use assembly::{Grid, PlaceLog, Sequence};
 use fan_out::{Portion, WorkerCount, share_numbers};
@@ -92,7 +93,10 @@ fn list_rows(alloc: Global, sys: &System, grid: &Grid, rows: Portion) -> Result<
     let end = rows.end * width;
     let bonds = Bonds::make(alloc, sys)?;
     let mut log = log_of(alloc, sys, rows.worker, end - first)?;
-    let _waiting = list_span(alloc, &bonds, grid, &mut log, first, end)?;
+    let reached = list_in_turn(alloc, &bonds, grid, &mut log, first, end)?;
+    if reached < end {
+        let _waiting = list_span(alloc, &bonds, grid, &mut log, reached, end)?;
+    }
     Ok(log.into_sequence())
 }
 

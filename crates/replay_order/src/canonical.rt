@@ -1,5 +1,5 @@
 // The canonical order of an assembly.
-ghost use Rattle.std.specs.Prelude.{◌≡◌, ◌≢◌, ◌↔◌, ◌≤◌, ◌+◌, ◌-◌, IsOk, [], length, Some, IfOk};
+ghost use Rattle.std.specs.Prelude.{◌≡◌, ◌≢◌, ◌↔◌, ◌≤◌, ◌+◌, ◌-◌, IsOk, [], length, Some, IfOk, IfSome};
 ghost use Rattle.std.specs.Bool.{OnTrue, OnFalse};
 ghost use Rattle.atam.specs.Placements.{HasDistinctSites, tile_at};
 ghost use Rattle.atam.specs.TileSystem.{IsValid};
@@ -7,10 +7,11 @@ ghost use Rattle.atam.specs.Assembly.{Fits};
 ghost use Rattle.atam.specs.Growth.{IsProducible};
 ghost use Rattle.assembly.specs.Cells.{cell_count};
 ghost use Rattle.replay_order.specs.Inner.Replays.{AreLacks, AreReadySites};
-ghost use Rattle.replay_order.specs.Inner.Spans.{standing, HaveStood, IsSpanListed};
-ghost use Rattle.replay_order.specs.ReplayAnswers.{HoldsSeeds, LacksSeed, IsReplayAnswer};
+ghost use Rattle.replay_order.specs.Inner.Spans.{standing, CanList, HaveStood, IsSpanListed};
+ghost use Rattle.replay_order.specs.ReplayAnswers.{HoldsSeeds, LacksSeed, IsReplayAnswer, IsWholeOrder};
 
 use crate::bonds::Bonds;
+use crate::in_turn::list_in_turn;
 use crate::rest::least_left;
 use crate::stop::ReplayStop;
 use crate::waiting::WaitingSites;
@@ -31,11 +32,15 @@ pub fn replay(alloc: Global, sys: &System, grid: &Grid) -> Result<Sequence, Repl
     ensures producible { result ≢ Err ReplayStop.NoMemory →
         IsOk result ↔ IsProducible sys.now grid.now.tiles }
 {
+    sys.recall_valid();
     let area = grid.area();
     if !holds_seeds(sys, grid) {
         return Err(ReplayStop::NoSeedThere);
     }
     let bonds = Bonds::make(alloc, sys)?;
+    if let Some(order) = order_in_turn(alloc, sys, &bonds, grid)? {
+        return Ok(order);
+    }
     let mut log = PlaceLog::make(alloc, sys)?;
     let sites = area.width() as usize * area.height() as usize;
     let waiting = list_span(alloc, &bonds, grid, &mut log, 0, sites)?;
@@ -57,6 +62,29 @@ pub(crate) fn holds_seeds(sys: &System, grid: &Grid) -> bool
     sys.seeds()
         .iter()
         .all(|seed| grid.at(seed.site) == Some(seed.tile))
+}
+
+// The canonical sequence of a grid that holds the seeds, if all other tiles come by the numbers of
+// their sites.
+fn order_in_turn(
+    alloc: Global,
+    sys: &System,
+    bonds: &Bonds,
+    grid: &Grid,
+) -> Result<Option<Sequence>, NoMemory>
+    requires can { CanList sys.now grid.now }
+    requires bonds { bonds.now ≡ sys.now }
+    ensures { IfOk result (λ found. IfSome found (IsWholeOrder sys.now grid.now.tiles)) }
+{
+    let area = grid.area();
+    let sites = area.width() as usize * area.height() as usize;
+    let mut log = PlaceLog::make(alloc, sys)?;
+    let _reached = list_in_turn(alloc, bonds, grid, &mut log, 0, sites)?;
+    let order = log.into_sequence();
+    if order.len() < grid.count() as usize {
+        return Ok(None);
+    }
+    Ok(Some(order))
 }
 
 // Lists what the canonical order has of the sites with numbers from one to before another, where

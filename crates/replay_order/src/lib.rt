@@ -4,6 +4,7 @@
 mod bonds;
 mod by_rows;
 mod canonical;
+mod in_turn;
 mod legal;
 mod ready;
 mod rest;

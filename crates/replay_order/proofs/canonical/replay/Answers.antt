@@ -30,6 +30,15 @@ returns-then-not-holds_seeds-clause-producible c =
     let lacks : LacksSeed sys tiles = search rules in
     λ _. (λ ok. absurd (search rules), λ producible. absurd (lacks_no_seed sys tiles c.holds_seeds.ensures.distinct c.area-area.ensures.distinct producible lacks))
 
+pub order_in_turn-requires-clause-can : goal.order_in_turn-requires-clause-can
+order_in_turn-requires-clause-can c = record {
+  valid = c.recall_valid.ensures.valid;
+  area = c.requires.area;
+  fits = c.requires.fits;
+  distinct = c.area-area.ensures.distinct;
+  seeded = c.if-not-holds_seeds.ensures.held;
+}
+
 pub list_span-requires-clause-room : goal.list_span-requires-clause-room
 list_span-requires-clause-room c =
     let cells : c.width.result * c.height.result ≡ cell_count c.area-area.result = λ k. c.width.ensures k * c.height.ensures k in
