@@ -13,11 +13,11 @@ use Rattle.atam.specs.declared.area.BoxArea.{BoxArea}
 use Rattle.atam.specs.Sites.{IsBefore, neighbor, width_of}
 use Rattle.atam.specs.Placements.{tile_at}
 use Rattle.atam.specs.TileSystem.{TileSystem}
-use Rattle.atam.specs.Assembly.{bond, pull}
+use Rattle.atam.specs.Assembly.{pull}
 use Rattle.atam.specs.Canonical.{IsReady}
 use Rattle.atam.proofs.Lists.{some_or_none, Contains-push}
 use Rattle.atam.proofs.Placements.{tile_at-Contains, Contains-tile_at}
-use Rattle.assembly.specs.Cells.{cell_count, site_at}
+use Rattle.assembly.specs.Cells.{site_at}
 use Rattle.assembly.specs.Grids.{TileGrid}
 use Rattle.assembly.proofs.Cells.{index_of, not_before}
 use Rattle.replay_order.specs.Inner.Spans.{standing, IsSiteBetween, GoesOn, CanList, IsListedBehind}

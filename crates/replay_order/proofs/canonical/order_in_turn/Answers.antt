@@ -1,5 +1,4 @@
-use Rattle.std.proofs.Common.{◌≡◌, ◌≤◌, ◌*◌, ◌∙◌, ℕ, List, length, refl, ap, sym, subst, arith}
-use Rattle.atam.specs.declared.place.Place.{Place}
+use Rattle.std.proofs.Common.{◌≡◌, ◌≤◌, ◌*◌, ◌∙◌, length, ap, sym, subst, arith}
 use Rattle.atam.specs.TileSystem.{TileSystem}
 use Rattle.assembly.specs.Cells.{cell_count}
 use Rattle.replay_order.specs.Inner.Spans.{IsListedBehind}

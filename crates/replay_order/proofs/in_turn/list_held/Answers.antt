@@ -1,11 +1,8 @@
-use Rattle.std.proofs.Common.{◌≡◌, ◌≢◌, ◌<◌, ◌≤◌, ◌+◌, ◌-◌, ℕ, List, Some, None, length, slice_index, inl, inr, sym, ◌∙◌, ap, subst, arith}
-use Rattle.atam.specs.declared.site.Site.{Site}
+use Rattle.std.proofs.Common.{◌≡◌, ◌<◌, ℕ, Some, None, slice_index, inl, inr, sym, ◌∙◌, ap, subst, arith}
 use Rattle.atam.specs.declared.area.BoxArea.{BoxArea}
-use Rattle.atam.specs.declared.place.TypeId.{TypeId}
 use Rattle.atam.specs.declared.place.Place.{Place}
 use Rattle.atam.specs.Placements.{tile_at}
 use Rattle.assembly.specs.Cells.{site_at}
-use Rattle.replay_order.specs.Inner.Replays.{due_at}
 use Rattle.replay_order.specs.Inner.Spans.{IsListedBehind}
 use Rattle.replay_order.proofs.ReadySites.{Fits-tile}
 use Rattle.replay_order.proofs.InTurn.{due_no_seed, no_due_seed, turn_listed, turn_more, turn_same}

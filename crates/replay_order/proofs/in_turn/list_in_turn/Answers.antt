@@ -1,6 +1,4 @@
-use Rattle.std.proofs.Common.{◌≡◌, ℕ, List, ◌∙◌, ap}
-use Rattle.atam.specs.declared.place.Place.{Place}
-use Rattle.atam.specs.declared.area.BoxArea.{BoxArea}
+use Rattle.std.proofs.Common.{◌≡◌, ◌∙◌, ap}
 use Rattle.assembly.specs.Cells.{site_at}
 use Rattle.replay_order.specs.Inner.Replays.{due_at}
 use Rattle.replay_order.proofs.in_turn.list_in_turn.Goals as goal
