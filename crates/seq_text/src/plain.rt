@@ -1,6 +1,6 @@
 // A `place` line in its plain form, which is read from the front of a text without being cut into
 // words.
-ghost use Rattle.std.specs.Prelude.{◌≡◌, ◌≢◌, ◌≤◌, ◌+◌, ◌∷◌, ◌++◌, ℕ, ℤ, List, All, false, length, take, IfNone, IfSome};
+ghost use Rattle.std.specs.Prelude.{◌≡◌, ◌≢◌, ◌≤◌, ◌+◌, ◌∷◌, ◌++◌, ℕ, ℤ, List, All, false, length, take, codes, IfNone, IfSome};
 ghost use Rattle.tile_io.specs.Checks.{is_digit, starts_with_minus};
 ghost use Rattle.seq_text.specs.PlainCoordinates.{StartsWithCoordinate};
 ghost use Rattle.seq_text.specs.Inner.Plain.{BeginsPlain, HasNoDigits, IsPlainPlace, StartsWithDigits};

@@ -324,6 +324,8 @@ impl<'a> GrowthReader<'a> {
         ensures system { self.new.system.now ≡ self.old.system.now }
         ensures unchanged { OnErr result (self.new ≡ self.old) }
     {
+        // a system is valid
+        self.system.recall_valid();
         self.places.push_near(place)?;
         if let Some(grid) = &mut self.scratch {
             grid.put(place);

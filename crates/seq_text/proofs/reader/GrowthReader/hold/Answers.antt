@@ -17,6 +17,6 @@ returns-clause-grid c =
           let scratch = subst (λ s. HasScratch d.system.now d.places s) w.in-Some.is c.requires.grid in
           let empty = free_is d.scratch old d.places p.site w.in-Some.is c.requires.free in
           let put = scratch_put d.system.now d.places old new p scratch empty w.put.ensures.area w.put.ensures.here w.put.ensures.others w.put.ensures.placements in
-          subst Grid (sym w.self-is) (rw c.in_ok-push.ensures.ok put)
+          subst Grid (sym w.self-is) (rw c.in_ok-push_near.ensures.ok put)
       | in_default w ↦ subst Grid (sym w.self-is) (rw w.in_default.is tt)
     ]
