@@ -1,5 +1,5 @@
 -- An open site outside the box is below it, at the end of a row, or above it.
-use Rattle.std.proofs.Common.{◌≡◌, ◌⊎◌, ◌≤◌, ℤ, pos, ◌+ℤ◌, ◌-ℤ◌, ◌≤ℤ◌, List, Option, Some, None, refl, subst, sym, arith, inl, inr}
+use Rattle.std.proofs.Common.{◌≡◌, ◌⊎◌, ◌≤◌, ◌∙◌, ℤ, pos, ◌+ℤ◌, ◌-ℤ◌, ◌≤ℤ◌, List, Option, Some, None, refl, ap, subst, sym, arith, inl, inr}
 use Rattle.std.proofs.lemmas.Int.{ints}
 use Rattle.std.proofs.Math.Nat.{le_trans}
 use Rattle.atam.specs.declared.site.Site.{Site}
@@ -8,15 +8,64 @@ use Rattle.atam.specs.declared.site.Side.TheVariants.{North, East, South, West}
 use Rattle.atam.specs.declared.place.TypeId.{TypeId}
 use Rattle.atam.specs.declared.place.Place.{Place}
 use Rattle.atam.specs.declared.area.BoxArea.{BoxArea}
-use Rattle.atam.specs.Sites.{InBox, neighbor}
-use Rattle.atam.specs.TileSystem.{TileSystem}
-use Rattle.atam.specs.Assembly.{Fits}
+use Rattle.atam.specs.Placements.{tile_at}
+use Rattle.atam.specs.Sites.{InBox, neighbor, opposite}
+use Rattle.atam.specs.TileSystem.{TileSystem, side_glue}
+use Rattle.atam.specs.Assembly.{Fits, bond, glue_at, interaction, pull}
 use Rattle.atam.specs.Growth.{IsCandidate, IsLeastOpenAmong, IsLeastOpenOutside}
-use Rattle.atam.proofs.Lists.{All-slice_get}
-use Rattle.atam.proofs.Bonds.{beside_a_tile}
+use Rattle.atam.proofs.Lists.{All-slice_get, some_or_none}
+use Rattle.atam.proofs.Bonds.{beside_a_tile, bond-none, interaction-none}
 use Rattle.atam.proofs.Placements.{tile_at-place}
-use Rattle.attach_rule.specs.Inner.Searches.{row_at, IsAtEnds}
+use Rattle.attach_rule.specs.Inner.Searches.{row_at, IsAtEnds, IsBesideBox}
 use Rattle.attach_rule.proofs.Searched.{less_or_not, none_in_parts, least_in_parts, last_part}
+
+-- the tile at a site of an assembly that fits is in the box
+tile_inside : (sys : TileSystem) (tiles : List Place) (m : Site) (t : TypeId) → Fits sys tiles → tile_at tiles m ≡ Some t → InBox sys.area m
+tile_inside sys tiles m t fits there =
+    let q = tile_at-place tiles m t there in
+    let Inside : Site → Type 0 = λ n. InBox sys.area n in
+    subst Inside q.3 (All-slice_get (λ p. InBox sys.area p.site) tiles q.0 q.1 fits.sites q.2)
+
+-- where no glue of the tile towards the box faces a site beside it, no type attaches
+pub none_beside : (sys : TileSystem) (tiles : List Place) (m : Site) (d : Side) → 1 ≤ sys.tau → Fits sys tiles → IsBesideBox sys.area d m →
+    glue_at sys tiles (neighbor m d) (opposite d) ≡ None → (t : TypeId) → ¬ IsCandidate sys tiles m t
+unfolding bond pull
+none_beside sys tiles m d some_tau fits beside none t grows =
+    let Glue : Side → Type 0 = λ e. glue_at sys tiles (neighbor m e) (opposite e) ≡ None in
+    let apart : (e : Side) → bond sys tiles m t e ≡ 0 = λ e. elim (some_or_none (tile_at tiles (neighbor m e))) [
+      | inl empty ↦ bond-none sys tiles m t e empty
+      | inr there ↦
+          let same : e ≡ d = beside e (tile_inside sys tiles (neighbor m e) there.0 fits there.1) in
+          ap (interaction sys (side_glue sys t e)) (subst Glue (sym same) none) ∙ interaction-none sys (side_glue sys t e)
+    ]
+    in
+    let never : ⊥ = omega (arith, some_tau, grows.attaches.held, apart North, apart East, apart South, apart West) in
+    never
+
+-- the rows below and above the box, and the two ends of a row, are beside it
+pub below_beside : (area : BoxArea) (below : ℤ) → below ≡ area.y0 -ℤ pos 1 → (m : Site) → InBox (row_at area below) m → IsBesideBox area North m
+below_beside area below is m of_row North inside = refl
+below_beside area below is m of_row East inside = let never : ⊥ = omega (arith, ints, is, of_row.top, inside.bottom) in absurd never
+below_beside area below is m of_row South inside = let never : ⊥ = omega (arith, ints, is, of_row.top, inside.bottom) in absurd never
+below_beside area below is m of_row West inside = let never : ⊥ = omega (arith, ints, is, of_row.top, inside.bottom) in absurd never
+
+pub above_beside : (area : BoxArea) (above : ℤ) → above ≡ area.y1 +ℤ pos 1 → (m : Site) → InBox (row_at area above) m → IsBesideBox area South m
+above_beside area above is m of_row North inside = let never : ⊥ = omega (arith, ints, is, of_row.bottom, inside.top) in absurd never
+above_beside area above is m of_row East inside = let never : ⊥ = omega (arith, ints, is, of_row.bottom, inside.top) in absurd never
+above_beside area above is m of_row South inside = refl
+above_beside area above is m of_row West inside = let never : ⊥ = omega (arith, ints, is, of_row.bottom, inside.top) in absurd never
+
+pub west_beside : (area : BoxArea) (m : Site) → m.x ≡ area.x0 -ℤ pos 1 → IsBesideBox area East m
+west_beside area m is North inside = let never : ⊥ = omega (arith, ints, is, inside.left) in absurd never
+west_beside area m is East inside = refl
+west_beside area m is South inside = let never : ⊥ = omega (arith, ints, is, inside.left) in absurd never
+west_beside area m is West inside = let never : ⊥ = omega (arith, ints, is, inside.left) in absurd never
+
+pub east_beside : (area : BoxArea) (m : Site) → m.x ≡ area.x1 +ℤ pos 1 → IsBesideBox area West m
+east_beside area m is North inside = let never : ⊥ = omega (arith, ints, is, inside.right) in absurd never
+east_beside area m is East inside = let never : ⊥ = omega (arith, ints, is, inside.right) in absurd never
+east_beside area m is South inside = let never : ⊥ = omega (arith, ints, is, inside.right) in absurd never
+east_beside area m is West inside = refl
 
 -- a site that isn't in the box, beside one that is
 ring_cases : (area : BoxArea) (below above : ℤ) (m : Site) (d : Side) → below ≡ area.y0 -ℤ pos 1 → above ≡ area.y1 +ℤ pos 1 → ¬ InBox area m → InBox area (neighbor m d) →
@@ -44,10 +93,8 @@ module _ (sys : TileSystem) (tiles : List Place) (some_tau : 1 ≤ sys.tau) (fit
       InBox (row_at area below) m ⊎ (IsAtEnds area m ⊎ InBox (row_at area above) m)
   open_cases below above below_is above_is m t grows outside =
       let tile = beside_a_tile sys tiles m t (le_trans some_tau grows.attaches.held) in
-      let q = tile_at-place tiles (neighbor m tile.0) tile.1 tile.2 in
-      let InSystem : Site → Type 0 = λ n. InBox sys.area n in
       let InArea : BoxArea → Type 0 = λ a. InBox a (neighbor m tile.0) in
-      let beside : InBox sys.area (neighbor m tile.0) = subst InSystem q.3 (All-slice_get (λ p. InBox sys.area p.site) tiles q.0 q.1 fits.sites q.2) in
+      let beside = tile_inside sys tiles (neighbor m tile.0) tile.1 fits tile.2 in
       ring_cases area below above m tile.0 below_is above_is outside (subst InArea (sym same_area) beside)
 
   to_outside : (found : Option (Site × TypeId)) → IsLeastOpenAmong sys tiles (λ m. ¬ InBox area m) found → IsLeastOpenOutside sys tiles found

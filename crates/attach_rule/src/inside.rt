@@ -1,5 +1,5 @@
 // The least open site of the box.
-ghost use Rattle.std.specs.Prelude.{◌≡◌, ◌≤ℤ◌, ◌+ℤ◌, ◌-ℤ◌, ◌↔◌, pos, IsTrue};
+ghost use Rattle.std.specs.Prelude.{◌≡◌, ◌≤ℤ◌, ◌↔◌, IsTrue};
 ghost use Rattle.atam.specs.Sites.{IsNearSite, HasCorners, InBox};
 ghost use Rattle.atam.specs.Assembly.{Fits};
 ghost use Rattle.atam.specs.Growth.{IsClosedInBox, IsLeastOpenAmong};
@@ -26,8 +26,8 @@ pub(crate) fn open_at<F: TypeFinder, P: Placed>(
         .map(|tile| (site, tile))
 }
 
-// The least open site in the columns of the box, in a row of the box or beside it.
-pub(crate) fn least_in_row<F: TypeFinder, P: Placed>(
+// The least open site in a row of the box.
+fn least_in_row<F: TypeFinder, P: Placed>(
     finder: &F,
     sys: &System,
     placed: &P,
@@ -36,8 +36,8 @@ pub(crate) fn least_in_row<F: TypeFinder, P: Placed>(
 ) -> Option<(Site, TypeId)>
     requires system { F.serves finder.now sys.now }
     requires corners { HasCorners area.now }
-    requires bottom { (area.now.y0 -ℤ pos 1) ≤ℤ y }
-    requires top { y ≤ℤ (area.now.y1 +ℤ pos 1) }
+    requires bottom { area.now.y0 ≤ℤ y }
+    requires top { y ≤ℤ area.now.y1 }
     requires fits { Fits sys.now (P.placements placed.now) }
     ensures { IsLeastOpenAmong sys.now (P.placements placed.now)
         (InBox (row_at area.now y)) result }
