@@ -5,14 +5,14 @@ ghost use Rattle.tile_io.specs.Chunks.{PassesOn};
 ghost use Rattle.tile_io.specs.declared.chunk.TheConstants.{CHUNK_ROOM};
 ghost use Rattle.tile_io.specs.Prints.{Prints};
 ghost use Rattle.cert_check.specs.Certificates.{places_of};
-ghost use Rattle.cert_text.specs.CertificateLines.{mark_line, mark_lines, mark_words, sides_word};
+ghost use Rattle.cert_text.specs.CertificateLines.{mark_line, mark_lines};
 
 use crate::rank_text::RankText;
 use crate::sides::sides_text;
 use cert_check::{Certificate, Entry};
-use seq_text::NumberTexts;
+use seq_text::{NumberTexts, hold_type_name};
 use tile_io::{Chunk, Failed, Sink};
-use tile_system::{Site, System};
+use tile_system::System;
 
 // Room for a line: a keyword, two numbers of 32 bits, a name, a word of sides and a rank, behind
 // each a space or the newline.
@@ -67,35 +67,30 @@ fn put_mark<K: Sink>(
     ensures { PassesOn K.written K.faults sink.old sink.new chunk.old chunk.new result
         (mark_line sys.now entry) }
 {
-    // a name has up to forty bytes
-    sys.recall_valid();
     chunk.make_room(sink, LONGEST_MARK_LINE)?;
-    let Entry { place, sides, rank } = entry;
-    let name = sys.type_name(place.tile);
-    hold_words(place.site, name, sides, rank, numbers, ranks, chunk);
+    hold_mark(sys, entry, numbers, ranks, chunk);
     Ok(())
 }
 
-// Adds a line with these words, for which there is room.
-fn hold_words(
-    site: Site,
-    name: &[u8],
-    sides: u8,
-    rank: u32,
+// Adds the line of an entry, for which there is room.
+fn hold_mark(
+    sys: &System,
+    entry: Entry,
     numbers: &mut NumberTexts,
     ranks: &mut RankText,
     chunk: &mut Chunk,
 )
+    requires known { IsType sys.now entry.place.tile }
+    requires sides { entry.sides < 16 }
     requires room { length chunk.old + 96 ≤ CHUNK_ROOM }
-    requires name { length name.now ≤ 40 }
-    requires sides { sides < 16 }
-    ensures { chunk.new ≡ chunk.old ++ mark_words site name.now (sides_word sides) rank }
+    ensures { chunk.new ≡ chunk.old ++ mark_line sys.now entry }
 {
+    let Entry { place, sides, rank } = entry;
     let (sides, sides_len) = sides_text(sides);
     chunk.hold_front(b"mark    ", 5);
-    numbers.hold(site.x, chunk);
-    numbers.hold(site.y, chunk);
-    chunk.hold(name);
+    numbers.hold(place.site.x, chunk);
+    numbers.hold(place.site.y, chunk);
+    hold_type_name(sys, place.tile, chunk);
     chunk.hold_front(b" ", 1);
     chunk.hold_front(sides, sides_len);
     ranks.hold(rank, chunk);

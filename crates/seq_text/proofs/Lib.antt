@@ -2,7 +2,6 @@ pub mod Fields
 pub mod Fitting
 pub mod Growths
 pub mod HeldLines
-pub mod LineEnds
 pub mod KeptNumbers
 mod Keyword
 pub mod NamedTypes

@@ -1,14 +1,14 @@
 // The lines of a sequence, in large pieces.
-ghost use Rattle.std.specs.Prelude.{All, ◌≡◌, ◌≤◌, ◌+◌, ◌++◌, length};
-ghost use Rattle.atam.specs.TileSystem.{IsType};
+ghost use Rattle.std.specs.Prelude.{All, ◌≡◌, ◌≤◌, ◌+◌, ◌++◌, ◌∷◌, [], length};
+ghost use Rattle.atam.specs.TileSystem.{IsType, type_name};
 ghost use Rattle.tile_io.specs.Prints.{Prints};
 ghost use Rattle.tile_io.specs.Chunks.{PassesOn};
 ghost use Rattle.tile_io.specs.declared.chunk.TheConstants.{CHUNK_ROOM};
 ghost use Rattle.seq_text.specs.declared.places.TheConstants.{LONGEST_PLACE_LINE};
 ghost use Rattle.seq_text.specs.GrowthLines.{place_line, place_lines};
 
-use crate::line_ends::LineEnds;
 use crate::number_texts::NumberTexts;
+use crate::type_name::hold_type_name;
 use assembly::Sequence;
 use std::marker::Model;
 use tile_io::{Chunk, Failed, Sink};
@@ -18,22 +18,20 @@ use tile_system::{Place, System, TypeId};
 // space or the newline.
 const LONGEST_PLACE_LINE: usize = 5 + 1 + 11 + 1 + 11 + 1 + 40 + 1;
 
-/// The pieces of `place` lines: the names of a system's first types, and numbers as they were last
-/// written, kept ready on the stack.
+/// The pieces of `place` lines: a system's names, and numbers as they were last written, kept ready
+/// on the stack.
 #[derive(Drop)]
 pub struct PlacePieces<'a> {
-    ends: LineEnds<'a>,
+    sys: &'a System,
     numbers: NumberTexts,
 }
 
 impl<'a> Model for PlacePieces<'a> {
-    ghost use Rattle.atam.specs.TileSystem.{TileSystem, IsValid};
+    ghost use Rattle.atam.specs.TileSystem.{TileSystem};
 
     ghost Value = { TileSystem };
 
-    ghost view = { λ pieces. pieces.ends };
-
-    ghost invariant = { λ pieces. IsValid pieces.ends };
+    ghost view = { λ pieces. pieces.sys.now };
 }
 
 impl<'a> PlacePieces<'a> {
@@ -41,21 +39,17 @@ impl<'a> PlacePieces<'a> {
     pub fn new(sys: &'a System) -> PlacePieces<'a>
         ensures { result ≡ sys.now }
     {
-        sys.recall_valid();
-        let mut pieces = PlacePieces {
-            ends: LineEnds::none(sys),
+        PlacePieces {
+            sys,
             numbers: NumberTexts::new(),
-        };
-        pieces.ends.turn_to(sys);
-        pieces
+        }
     }
 
-    /// Turns to another system, in time that grows with the number of its first types alone.
+    /// Turns to another system, and keeps the numbers.
     pub fn turn_to(&mut self, sys: &'a System)
         ensures { self.new ≡ sys.now }
     {
-        sys.recall_valid();
-        self.ends.turn_to(sys);
+        self.sys = sys;
     }
 
     /// Adds the `place` line of one tile to what is held.
@@ -84,17 +78,28 @@ impl<'a> PlacePieces<'a> {
         ensures same { self.new ≡ self.old }
         ensures line { chunk.new ≡ chunk.old ++ place_line self.old place }
     {
-        if let Some(column) = self.numbers.known(place.site) {
-            if let Some(end) = self.ends.known(place.tile) {
+        match self.numbers.known(place.site) {
+            Some(column) => {
                 column.hold(chunk);
                 self.numbers.hold_row(chunk);
-                return end.hold(chunk);
+                self.hold_end(place.tile, chunk);
             }
+            None => self.hold_anew(place.site.x, place.site.y, place.tile, chunk),
         }
-        self.hold_anew(place.site.x, place.site.y, place.tile, chunk);
     }
 
-    // The same where not all of its pieces are ready.
+    // A type's name and the newline.
+    #[inline(always)]
+    fn hold_end(&self, tile: TypeId, chunk: &mut Chunk)
+        requires known { IsType self.now tile }
+        requires room { length chunk.old + 41 ≤ CHUNK_ROOM }
+        ensures { chunk.new ≡ chunk.old ++ type_name self.now tile ++ 10 ∷ [] }
+    {
+        hold_type_name(self.sys, tile, chunk);
+        chunk.hold_front(b"\n", 1);
+    }
+
+    // The line where its numbers are not ready.
     #[inline(never)]
     fn hold_anew(&mut self, column: i32, row: i32, tile: TypeId, chunk: &mut Chunk)
         requires known { IsType self.old tile }
@@ -106,7 +111,7 @@ impl<'a> PlacePieces<'a> {
         self.numbers.turn_to_row(row);
         self.numbers.hold_column(column, chunk);
         self.numbers.hold_row(chunk);
-        self.ends.hold(tile, chunk);
+        self.hold_end(tile, chunk);
     }
 }
 

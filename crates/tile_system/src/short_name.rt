@@ -1,5 +1,5 @@
 // A name in an entry.
-ghost use Rattle.std.specs.Prelude.{◌≡◌, ◌≤◌, length};
+ghost use Rattle.std.specs.Prelude.{◌≡◌, ◌≤◌, ◌<◌, length, take, IfSome, IfNone};
 ghost use Rattle.atam.specs.declared.limits.TheConstants.{LONGEST_NAME};
 
 use std::marker::Model;
@@ -40,5 +40,20 @@ impl ShortName {
         ensures { result.now ≡ self.now }
     {
         &self.bytes[..usize::from(self.length)]
+    }
+
+    // The first sixteen bytes, and the name's length, where the name has no more.
+    #[inline(always)]
+    pub fn front(&self) -> Option<(&[u8; 16], usize)>
+        ensures front { IfSome result (λ f. take f.1 f.0.now ≡ self.now) }
+        ensures short { IfSome result (λ f. f.1 ≡ length self.now) }
+        ensures within { IfSome result (λ f. f.1 ≤ 16) }
+        ensures none { IfNone result (16 < length self.now) }
+    {
+        let length = usize::from(self.length);
+        match self.bytes.first_chunk::<16>() {
+            Some(front) if length <= 16 => Some((front, length)),
+            _ => None,
+        }
     }
 }

@@ -1,5 +1,5 @@
 use Rattle.std.proofs.Common.{◌≡◌, take}
-use Rattle.tile_system.proofs.name.is_same_name.Given as goal
+use Rattle.tile_system.proofs.name.has_same_bytes.Given as goal
 
 abbrev pub invariant-loop-index : goal.invariant-loop-index
 invariant-loop-index l = take l.index l.one ≡ take l.index l.other
