@@ -21,7 +21,7 @@ use crate::looks::{Look, Looks};
 use crate::{CertVerdict, Entry};
 use assembly::Grid;
 use attach_rule::{FacingGlues, Strengths, TypeFinder, glues_beside};
-use tile_system::{GlueId, Place, Placed, Side, Site, System, TypeId};
+use tile_system::{GlueId, Place, Side, Site, System, TypeId};
 use type_index::TypeIndex;
 
 // The first check that an entry fails. Each site beside it is looked at once, and its rivals are
@@ -69,7 +69,7 @@ fn check_own(
     ensures verdict { IsOwnVerdict sys.now listing.now.entries entry.now result }
     ensures known { AreLooks sys.now looks.new }
 {
-    if !is_seed(seeds, entry) {
+    if !is_seed(listing, seeds, entry) {
         return check_attached(sys, listing, types, looks, entry, beside);
     }
     if states_none(entry) {
@@ -80,11 +80,14 @@ fn check_own(
 }
 
 // Whether its place is a seed's.
-fn is_seed(seeds: &Grid, entry: &Entry) -> bool
+#[inline(always)]
+fn is_seed(listing: &Listing<'_>, seeds: &Grid, entry: &Entry) -> bool
+    requires area { seeds.now.area ≡ listing.now.area }
+    requires inside { InBox listing.now.area entry.now.place.site }
     ensures { IsTrue result ↔
         (tile_at seeds.now.tiles entry.now.place.site ≡ Some entry.now.place.tile) }
 {
-    seeds.at(entry.place.site) == Some(entry.place.tile)
+    seeds.tile(listing.number(entry.place.site)) == Some(entry.place.tile)
 }
 
 // Whether it states no side.

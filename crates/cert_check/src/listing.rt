@@ -44,7 +44,7 @@ impl EntriesBeside {
 
 // The type of an entry's tile, if there is an entry.
 #[inline(always)]
-fn tile_of(entry: Option<Entry>) -> Option<TypeId>
+pub(crate) fn tile_of(entry: Option<Entry>) -> Option<TypeId>
     ensures { result ≡ option_map (λ e. e.place.tile) entry }
 {
     match entry {
@@ -129,6 +129,16 @@ impl<'a> Listing<'a> {
         self.cert.recall_entries();
     }
 
+    // The number of a site of the box.
+    #[inline(always)]
+    pub(crate) fn number(&self, site: Site) -> usize
+        requires { InBox self.now.area site }
+        ensures site { site_at self.now.area result ≡ site }
+        ensures within { result < cell_count self.now.area }
+    {
+        site_index(&self.area, site)
+    }
+
     // The entry at the site with this number.
     #[inline(always)]
     fn numbered(&self, index: usize) -> Option<Entry>
@@ -149,7 +159,7 @@ impl<'a> Listing<'a> {
         if !self.area.holds(site) {
             return None;
         }
-        self.numbered(site_index(&self.area, site))
+        self.numbered(self.number(site))
     }
 
     // The entries beside a site of the box.
@@ -158,7 +168,7 @@ impl<'a> Listing<'a> {
         requires { InBox self.now.area site }
         ensures { AreBeside self.now.entries site result }
     {
-        let number = site_index(&self.area, site);
+        let number = self.number(site);
         EntriesBeside {
             north: self.entry_beside(site, number, Side::North),
             east: self.entry_beside(site, number, Side::East),

@@ -11,7 +11,7 @@ ghost use Rattle.cert_check.specs.Inner.Checks.{waiting_sides};
 ghost use Rattle.cert_check.specs.Inner.Looks.{LooksLike, PassesLooking, AreLooks};
 
 use crate::Entry;
-use crate::listing::{EntriesBeside, Listing, waits};
+use crate::listing::{EntriesBeside, Listing, tile_of, waits};
 use attach_rule::FacingGlues;
 use std::alloc::Global;
 use std::marker::Model;
@@ -73,10 +73,7 @@ fn code_beside(sys: &System, types: &TypeIndex, beside: &Option<Entry>, side: Si
         (option_and_then (λ e. side_glue sys.now e.place.tile side) beside.now) }
     ensures small { result < 65536 }
 {
-    match beside {
-        Some(entry) => types.side_code(sys, Some(entry.place.tile), side),
-        None => 0,
-    }
+    types.side_code(sys, tile_of(*beside), side)
 }
 
 // The sides of a site on which the entries beside it wait.

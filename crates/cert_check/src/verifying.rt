@@ -70,7 +70,8 @@ fn check_listing<R: Threads + Sync, G: Gate>(
 
 // The seeds alone, in a grid of the box.
 fn grid_of_seeds(alloc: Global, sys: &System) -> Result<Grid, NoMemory>
-    ensures { IfOk result (λ grid. SamePlacements sys.now.seeds grid.tiles) }
+    ensures area { IfOk result (λ grid. grid.area ≡ sys.now.area) }
+    ensures seeds { IfOk result (λ grid. SamePlacements sys.now.seeds grid.tiles) }
 {
     sys.recall_valid();
     let mut grid = Grid::make(alloc, sys.area())?;

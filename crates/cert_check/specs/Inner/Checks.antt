@@ -27,6 +27,7 @@ pub record CanCheck (sys : TileSystem) (listing : EntryTable) (seeds : TileGrid)
   pub valid : IsValid sys
   pub area : listing.area ≡ sys.area
   pub fits : Fits sys (places_of listing.entries)
+  pub grid : seeds.area ≡ sys.area
   pub seeded : SamePlacements sys.seeds seeds.tiles
   pub index : IsIndexOf sys types
 

@@ -1,8 +1,19 @@
-use Rattle.std.proofs.Common.{◌∙◌, true≢false, sym}
+use Rattle.std.proofs.Common.{◌∙◌, true≢false, sym, subst}
+use Rattle.atam.specs.declared.area.BoxArea.{BoxArea}
+use Rattle.atam.specs.Sites.{InBox}
 use Rattle.cert_check.specs.Certificates.{IsSeed}
+use Rattle.cert_check.proofs.Beside.{entry_in_box}
 use Rattle.cert_check.proofs.EntryChecks.{seed_is, seed_at}
 use Rattle.cert_check.proofs.EntryVerdicts.{own_attached, own_bare, own_stated}
 use Rattle.cert_check.proofs.checks.check_own.Goals as goal
+
+pub is_seed-requires-clause-area : goal.is_seed-requires-clause-area
+is_seed-requires-clause-area c = c.requires.can.grid ∙ sym c.requires.can.area
+
+pub is_seed-requires-clause-inside : goal.is_seed-requires-clause-inside
+is_seed-requires-clause-inside c =
+    let In : BoxArea → Type 0 = λ area. InBox area c.args.entry.now.place.site in
+    subst In (sym c.requires.can.area) (entry_in_box c.args.sys.now c.args.listing.now.entries c.args.entry.now c.requires.can.fits c.requires.listed)
 
 pub check_attached-requires-clause-valid : goal.check_attached-requires-clause-valid
 check_attached-requires-clause-valid c = c.requires.can.valid

@@ -5,6 +5,7 @@ check_all-requires-clause-can g c κs within = record {
   valid = c.recall_valid.ensures.valid;
   area = c.requires.area;
   fits = c.requires.fits;
-  seeded = c.in_ok-seeds.ensures;
+  grid = c.in_ok-seeds.ensures.area;
+  seeded = c.in_ok-seeds.ensures.seeds;
   index = c.in_ok-types.ensures;
 }
