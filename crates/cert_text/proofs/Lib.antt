@@ -1,6 +1,5 @@
 pub mod Keeping
 pub mod PlainLines
 pub mod Printed
-pub mod RankDigits
 pub mod RankTexts
 pub mod SidesWords

@@ -1,13 +1,16 @@
 -- A `mark` line in its plain form reads as its entry.
-use Rattle.std.proofs.Common.{◌≡◌, ℕ, ◌+◌, ◌-◌, ◌≤◌, ◌<◌, ◌==◌, true, List, [], ◌∷◌, ◌++◌, length, codes, pos, Option, Some, None, Ok, refl, sym, ap, subst, ◌∙◌, append_assoc, length-append, arith}
-use Rattle.std.specs.Prelude.{nat_abs, is_none, find, bytes_eq, position, ok_or}
+use Rattle.std.proofs.Common.{◌≡◌, ℕ, ◌+◌, ◌-◌, ◌^◌, ◌≤◌, ◌<◌, ◌==◌, true, List, [], ◌∷◌, ◌++◌, length, codes, pos, Option, Some, None, Ok, refl, sym, ap, subst, ◌∙◌, append_assoc, length-append, arith}
+use Rattle.std.specs.Prelude.{nat_abs, int_le, is_none, find, bytes_eq, position, ok_or}
+use Rattle.std.proofs.lemmas.Bool.{le-leb}
 use Rattle.std.proofs.lemmas.List.Quantifiers.{position-Some}
 use Rattle.std.proofs.lemmas.List.Elements.{All-from_recursion}
 use Rattle.std.proofs.lemmas.Slice.Eq.{bytes_eq-Decides}
 use Rattle.tile_io.specs.declared.fault.Cause.TheVariants.{BadName}
 use Rattle.tile_io.specs.Lines.{words_of, BeginsWithLine}
-use Rattle.tile_io.specs.Checks.{◌>>=◌, number_in, check_line, field}
+use Rattle.tile_io.specs.Checks.{◌>>=◌, are_digits, number_in, number_value, without_minus, check_line, field}
+use Rattle.tile_io.specs.FrontDigits.{StartsWithDigits}
 use Rattle.tile_io.proofs.Checking.{bind_ok}
+use Rattle.tile_io.proofs.Digits.{number_within, unsigned}
 use Rattle.tile_io.proofs.Rows.{check_line_by}
 use Rattle.tile_io.proofs.Spelled.{IsWord, IsSpelled, words_of-join, begins_spelled}
 use Rattle.atam.specs.declared.site.Site.{Site}
@@ -162,6 +165,16 @@ module _ (text : List ℕ) (m : Site) (name sides fields rank behind : List ℕ)
 
   pub front_within : length behind ≤ length text
   front_within = let size : length text ≡ length front_line + 1 + length behind = front_size in omega (arith, size)
+
+-- so few digits read as a rank
+pub rank_reads : (bytes rest : List ℕ) (rank : ℕ) (h : StartsWithDigits 10 8 bytes rank rest) → rank < 10 ^ 8 → rank_field h.word ≡ Ok rank
+rank_reads bytes rest rank h small =
+    let no_minus = unsigned h.word h.digits in
+    let digits : are_digits (without_minus h.word) ≡ true = rw no_minus h.digits in
+    let value : number_value h.word ≡ pos rank = rw no_minus (ap (λ n. pos n) h.value) in
+    let high : int_le (pos rank) (pos 4294967295) ≡ true = le-leb rank 4294967295 (omega (arith, small)) in
+    let read : number_in (pos 0) (pos 4294967295) h.word ≡ Ok (pos rank) = number_within _ _ h.word (pos rank) digits value (le-leb 0 rank (omega arith)) high in
+    ap (λ n. n >>= (λ z. Ok (nat_abs z))) read
 
 -- a `mark` line that passes its checks is taken as its entry
 pub mark_taken : (sys : TileSystem) (items : List Entry) (words : List (List ℕ)) (e : Entry) → IsMarkLine sys items words e → check_line (certificate_table sys).keywords items words ≡ Ok e

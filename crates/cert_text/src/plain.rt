@@ -1,11 +1,11 @@
 // A `mark` line in its plain form, which is read from the front of a text without being cut into
 // words.
-ghost use Rattle.std.specs.Prelude.{◌≡◌, ◌++◌, ◌∷◌, IfNone, IfSome};
-ghost use Rattle.tile_io.specs.Checks.{is_digit};
-ghost use Rattle.cert_text.specs.Inner.Plain.{BeginsPlain, HasNoRank, IsPlainMark, StartsWithRank};
+ghost use Rattle.std.specs.Prelude.{◌≡◌, ◌++◌, ◌∷◌, IfSome};
+ghost use Rattle.cert_text.specs.Inner.Plain.{BeginsPlain, IsPlainMark};
 
 use atam::LONGEST_NAME;
 use seq_text::plain_coordinate;
+use tile_io::leading_digits;
 use tile_system::Site;
 
 // How many digits a rank may have in this form: each such number is a rank.
@@ -31,7 +31,7 @@ pub(crate) fn plain_mark(text: &[u8]) -> Option<PlainMark<'_>>
         mark.rank mark.length) }
 {
     let (site, name, sides, fields) = plain_fields(text)?;
-    let (rank, behind) = plain_rank(fields)?;
+    let (rank, behind) = leading_digits(fields, b'\n', MOST_PLAIN_DIGITS)?;
     let length = text.len() - behind.len();
     Some(PlainMark {
         site,
@@ -70,34 +70,4 @@ fn plain_word(bytes: &[u8]) -> Option<(&[u8], &[u8])>
         }
     }
     None
-}
-
-// The rank that the digits at the front write, and what stands behind the newline after them.
-#[inline(always)]
-fn plain_rank(bytes: &[u8]) -> Option<(u32, &[u8])>
-    ensures starts { IfSome result (λ found. StartsWithRank bytes.now found.0 found.1.now) }
-    ensures none { IfNone result (HasNoRank bytes.now) }
-{
-    let mut rank = 0;
-    for index in 0..bytes.len().min(MOST_PLAIN_DIGITS + 1) {
-        let byte = bytes[index];
-        if byte == b'\n' {
-            if index > 0 {
-                return Some((rank, &bytes[index + 1..]));
-            }
-            return None;
-        }
-        if !is_digit(byte) {
-            return None;
-        }
-        rank = 10 * rank + u32::from(byte - b'0');
-    }
-    None
-}
-
-#[inline(always)]
-fn is_digit(byte: u8) -> bool
-    ensures { result ≡ is_digit byte }
-{
-    byte.is_ascii_digit()
 }

@@ -1,20 +1,17 @@
 -- A `place` line in its plain form reads as its place.
-use Rattle.std.proofs.Common.{◌≡◌, ◌≢◌, All, min, ℕ, zero, suc, ◌+◌, ◌-◌, ◌*◌, ◌^◌, ◌≤◌, ◌<◌, ◌==◌, Bool, true, false, cond, List, [], ◌∷◌, ◌++◌, length, take, drop, get_or, codes, pos, Option, Some, None, Ok, inl, inr, refl, sym, ap, subst, ◌∙◌, append_assoc, length-append, arith, length-take-le, length-drop}
-use Rattle.std.specs.Prelude.{ℤ, neg_ℤ, int_le, nat_le, find, bytes_eq, option_map}
-use Rattle.std.proofs.Math.ListN.{get_or-append}
-use Rattle.std.proofs.Math.Nat.{pow-le-pow_right}
-use Rattle.std.proofs.Math.Seq.{get_or-append_seam}
-use Rattle.std.proofs.lemmas.Bool.{cases_order, eqb-true, ne_eqb, le-leb, leb-true, and_parts}
-use Rattle.std.proofs.lemmas.List.{take-append-drop, drop_more, take_all, get_or-take, length-take}
+use Rattle.std.proofs.Common.{◌≡◌, ◌≢◌, All, min, ℕ, zero, suc, ◌+◌, ◌-◌, ◌^◌, ◌≤◌, ◌<◌, ◌==◌, Bool, true, false, cond, List, [], ◌∷◌, ◌++◌, length, take, get_or, codes, pos, Option, Some, None, Ok, refl, sym, ap, subst, ◌∙◌, append_assoc, length-append, arith}
+use Rattle.std.specs.Prelude.{ℤ, neg_ℤ, int_le, find, bytes_eq, option_map}
+use Rattle.std.proofs.lemmas.Bool.{eqb-true, le-leb}
+use Rattle.std.proofs.lemmas.List.{get_or-take, length-take}
 use Rattle.std.proofs.lemmas.List.Elements.{All-cons, All-from_get_or, All-from_recursion}
-use Rattle.std.proofs.lemmas.List.Sums.{fold_more}
 use Rattle.tile_io.specs.declared.fault.Cause.TheVariants.{BadNumber}
 use Rattle.tile_io.specs.Lines.{words_of, BeginsWithLine}
-use Rattle.tile_io.specs.Checks.{◌>>=◌, require, is_digit, are_digits, digits_value, without_minus, starts_with_minus, number_in, number_value, in_range, coordinate, check_line, field, last_of}
+use Rattle.tile_io.specs.FrontDigits.{StartsWithDigits, HasNoDigits}
+use Rattle.tile_io.specs.Checks.{◌>>=◌, require, is_digit, are_digits, without_minus, starts_with_minus, number_in, number_value, in_range, check_line, field, last_of}
 use Rattle.tile_io.specs.declared.limits.TheConstants.{LEAST_COORDINATE, GREATEST_COORDINATE}
 use Rattle.tile_io.proofs.Checking.{bind_ok, require_ok}
 use Rattle.tile_io.proofs.Cuts.{is_space, is_newline}
-use Rattle.tile_io.proofs.Digits.{digits_parts, digits_each, digit_at, number_of_digits}
+use Rattle.tile_io.proofs.Digits.{digits_parts, number_within, unsigned}
 use Rattle.tile_io.proofs.Spelled.{IsWord, IsSpelled, words_of-join, begins_spelled}
 use Rattle.tile_io.proofs.WordsSpelled.{word_from}
 use Rattle.atam.specs.declared.site.Site.{Site}
@@ -37,32 +34,7 @@ use Rattle.seq_text.proofs.Fields.{place_of_found}
 use Rattle.seq_text.proofs.Growths.{row_named}
 use Rattle.tile_text.proofs.PlainWords.{keyword_word, name_word, name_short}
 use Rattle.seq_text.specs.PlainCoordinates.{StartsWithCoordinate}
-use Rattle.seq_text.specs.Inner.Plain.{StartsWithDigits, HasNoDigits, IsPlainPlace, BeginsPlain}
-
--- what a digit is
-pub digit_bounds : (b : ℕ) → is_digit b ≡ true → (48 ≤ b) × (b ≤ 57)
-digit_bounds b e = let p = and_parts (nat_le 48 b) (nat_le b 57) e in (leb-true 48 b p.0, leb-true b 57 p.1)
-
--- one digit more
-pub value_more : (bytes : List ℕ) (i size : ℕ) → i < length bytes → digits_value (take i bytes) ≡ size → digits_value (take (i + 1) bytes) ≡ 10 * size + (get_or bytes i 0 - 48)
-unfolding digits_value
-value_more bytes i size within value = fold_more (λ n digit. 10 * n + (digit - 48)) 0 bytes i 0 within ∙ ap (λ n. 10 * n + (get_or bytes i 0 - 48)) value
-
-pub value_none : (bytes : List ℕ) → digits_value (take 0 bytes) ≡ 0
-unfolding digits_value
-value_none bytes = refl
-
--- a number of so few digits is small
-pub small_digits : (size i : ℕ) → size < 10 ^ i → i ≤ 6 → size < 10 ^ 6
-small_digits size i small few = let most : 10 ^ i ≤ 10 ^ 6 = pow-le-pow_right (omega arith) few in omega (arith, small, most)
-
--- what stands in front of a byte, and behind it
-pub byte_at : (bytes : List ℕ) (byte i : ℕ) → i < length bytes → get_or bytes i 0 ≡ byte → bytes ≡ take i bytes ++ byte ∷ take (length bytes - (i + 1)) (drop (i + 1) bytes)
-byte_at bytes byte i within is =
-    let rest = drop (i + 1) bytes in
-    let back : drop i bytes ≡ byte ∷ rest = drop_more bytes i 0 within ∙ ap (λ b. b ∷ rest) is in
-    let whole : take (length bytes - (i + 1)) rest ≡ rest = take_all (length bytes - (i + 1)) rest (omega (arith, length-drop (i + 1) bytes)) in
-    sym (take-append-drop i bytes) ∙ ap (λ l. take i bytes ++ l) (back ∙ ap (λ l. byte ∷ l) (sym whole))
+use Rattle.seq_text.specs.Inner.Plain.{IsPlainPlace, BeginsPlain}
 
 -- no such byte among the first ones, where none up to an index is one
 pub none_before : (bytes : List ℕ) (byte n i : ℕ) → ((k : ℕ) → k < n → k < length bytes → k < i) → ((k : ℕ) → k < i → get_or bytes k 0 ≡ byte → ⊥) → All (λ b. b ≢ byte) (take n bytes)
@@ -73,77 +45,14 @@ none_before bytes byte n i up_to before =
     let inside : k < length bytes = omega (arith, less, size) in
     λ same. before k (up_to k first inside) (sym (get_or-take n bytes k 0 first) ∙ same))
 
--- the digits in front of a space
-pub digits_before : (bytes : List ℕ) (i size : ℕ) → 0 < i → i ≤ 6 → i < length bytes → get_or bytes i 0 ≡ 32 → ((k : ℕ) → k < i → is_digit (get_or bytes k 0) ≡ true) →
-    digits_value (take i bytes) ≡ size → size < 10 ^ i → StartsWithDigits bytes size (take (length bytes - (i + 1)) (drop (i + 1) bytes))
-digits_before bytes i size some few within space digits value small =
-    let word = take i bytes in
-    let size_is : length word ≡ i = length-take-le i bytes (omega (arith, within)) in
-    record {
-      word = word;
-      cut = byte_at bytes 32 i within space;
-      digits = digits_each word (omega (arith, size_is, some)) (omega (arith, size_is, few)) (λ k less. let before : k < i = omega (arith, less, size_is) in ap is_digit (get_or-take i bytes k 0 before) ∙ digits k before);
-      few = omega (arith, size_is, few);
-      value = value;
-      small = small_digits size i small few;
-    }
-
-module _ (bytes word rest : List ℕ) (cut : bytes ≡ word ++ 32 ∷ rest) (digits : are_digits word ≡ true) where
-  -- what digits in front of a space are, and the space
-  digit_of : (k : ℕ) → k < length word → is_digit (get_or bytes k 0) ≡ true
-  digit_of k less =
-      let p = digit_at word ((digits_parts word digits).2) k less in
-      let digit : is_digit (get_or word k 0) ≡ true = rw (le-leb 48 (get_or word k 0) p.0, le-leb (get_or word k 0) 57 p.1) refl in
-      ap (λ l. is_digit (get_or l k 0)) cut ∙ ap is_digit (get_or-append word (32 ∷ rest) 0 k less) ∙ digit
-
-  space_behind : get_or bytes (length word) 0 ≡ 32
-  space_behind = ap (λ l. get_or l (length word) 0) cut ∙ get_or-append_seam word 32 rest 0
-
-  -- which is no digit
-  never_a_digit : is_digit (get_or bytes (length word) 0) ≡ true → ⊥
-  never_a_digit e = let digit : is_digit 32 ≡ true = ap is_digit (sym space_behind) ∙ e in absurd (cc digit)
-
--- digits, and behind them a byte that is neither a digit nor a space behind one
-pub no_digits_at : (bytes : List ℕ) (i : ℕ) → ((k : ℕ) → k < i → is_digit (get_or bytes k 0) ≡ true) → is_digit (get_or bytes i 0) ≡ false → (get_or bytes i 0 ≡ 32 → i ≡ 0) → HasNoDigits bytes
-no_digits_at bytes i before other space = λ word rest cut digits few.
-    let n = length word in
-    let behind : get_or bytes n 0 ≡ 32 = space_behind bytes word rest cut digits in
-    let some : 1 ≤ n = (digits_parts word digits).0 in
-    elim (cases_order i n) [
-      | inl same ↦ let first : i ≡ 0 = space (ap (λ k. get_or bytes k 0) same ∙ behind) in absurd (omega (arith, first, same, some))
-      | inr apart ↦ elim apart [
-        | inl less ↦ let clash : true ≡ false = sym (digit_of bytes word rest cut digits i less) ∙ other in absurd (cc clash)
-        | inr more ↦ never_a_digit bytes word rest cut digits (before n more)
-      ]
-    ]
-
--- digits up to the end, or more than six
-pub no_digits_to : (bytes : List ℕ) (i : ℕ) → ((k : ℕ) → k < i → is_digit (get_or bytes k 0) ≡ true) → ((n : ℕ) → n ≤ 6 → n < length bytes → n < i) → HasNoDigits bytes
-no_digits_to bytes i before to = λ word rest cut digits few.
-    let n = length word in
-    let whole : length bytes ≡ n + length (32 ∷ rest) = ap length cut ∙ length-append word (32 ∷ rest) in
-    never_a_digit bytes word rest cut digits (before n (to n few (omega (arith, whole))))
-
-in_bounds : (word : List ℕ) (z : ℤ) → are_digits (without_minus word) ≡ true → number_value word ≡ z → int_le LEAST_COORDINATE z ≡ true → int_le z GREATEST_COORDINATE ≡ true → coordinate word ≡ Ok z
-in_bounds word z digits value low high = sym (number_of_digits _ _ word digits) ∙ ap (in_range LEAST_COORDINATE GREATEST_COORDINATE) value ∙ rw (low, high) refl
-
-unsigned : (word : List ℕ) → are_digits word ≡ true → starts_with_minus word ≡ false
-unsigned word digits =
-    let p = digits_parts word digits in
-    let some : 1 ≤ length word = p.0 in
-    let first = digit_at word p.2 0 (omega (arith, some)) in
-    let low : 48 ≤ get_or word 0 0 = first.0 in
-    ne_eqb (get_or word 0 0) 45 (λ e. omega (arith, low, e))
-
 -- a number of few digits is a coordinate
-pub plain_number : (bytes rest : List ℕ) (size : ℕ) → StartsWithDigits bytes size rest → StartsWithCoordinate bytes (pos size) rest
-plain_number bytes rest size h =
+pub plain_number : (bytes rest : List ℕ) (size : ℕ) → StartsWithDigits 32 6 bytes size rest → size < 10 ^ 6 → StartsWithCoordinate bytes (pos size) rest
+plain_number bytes rest size h small =
     let no_minus = unsigned h.word h.digits in
-    let small : size < 10 ^ 6 = h.small in
     let digits : are_digits (without_minus h.word) ≡ true = rw no_minus h.digits in
     let value : number_value h.word ≡ pos size = rw no_minus (ap (λ n. pos n) h.value) in
     let few : length (without_minus h.word) ≤ 6 = rw no_minus h.few in
-    record { word = h.word; cut = h.cut; few = few; reads = in_bounds h.word (pos size) digits value refl (le-leb size 1000000 (omega (arith, small))) }
+    record { word = h.word; cut = h.cut; few = few; reads = number_within _ _ h.word (pos size) digits value refl (le-leb size 1000000 (omega (arith, small))) }
 
 minus_low : (size : ℕ) → size < 10 ^ 6 → int_le LEAST_COORDINATE (neg_ℤ (pos size)) ≡ true
 minus_low zero small = refl
@@ -154,12 +63,12 @@ minus_high zero = refl
 minus_high (suc n) = refl
 
 -- so is its opposite
-pub minus_number : (digits rest : List ℕ) (size : ℕ) → StartsWithDigits digits size rest → StartsWithCoordinate (45 ∷ digits) (neg_ℤ (pos size)) rest
-minus_number digits rest size h = record {
+pub minus_number : (digits rest : List ℕ) (size : ℕ) → StartsWithDigits 32 6 digits size rest → size < 10 ^ 6 → StartsWithCoordinate (45 ∷ digits) (neg_ℤ (pos size)) rest
+minus_number digits rest size h small = record {
   word = 45 ∷ h.word;
   cut = ap (λ l. 45 ∷ l) h.cut;
   few = h.few;
-  reads = in_bounds (45 ∷ h.word) (neg_ℤ (pos size)) h.digits (ap (λ n. neg_ℤ (pos n)) h.value) (minus_low size h.small) (minus_high size);
+  reads = number_within _ _ (45 ∷ h.word) (neg_ℤ (pos size)) h.digits (ap (λ n. neg_ℤ (pos n)) h.value) (minus_low size small) (minus_high size);
 }
 
 digits_word : (word : List ℕ) → are_digits word ≡ true → IsWord word
@@ -182,7 +91,7 @@ number_digits least most word z e =
     let one = bind_ok (require (are_digits (without_minus word)) BadNumber) (λ _. in_range least most (number_value word)) z e in
     require_ok (are_digits (without_minus word)) BadNumber one.0 one.1
 
-module _ (bytes : List ℕ) (none : HasNoDigits bytes) where
+module _ (bytes : List ℕ) (none : HasNoDigits 32 6 bytes) where
   no_minus_by : (word rest : List ℕ) → 45 ∷ bytes ≡ word ++ 32 ∷ rest → are_digits (without_minus word) ≡ true → length (without_minus word) ≤ 6 → ⊥
   no_minus_by [] rest cut digits few = absurd (cc digits)
   no_minus_by (b ∷ bs) rest cut digits few =

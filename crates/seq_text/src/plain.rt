@@ -1,11 +1,12 @@
 // A `place` line in its plain form, which is read from the front of a text without being cut into
 // words.
 ghost use Rattle.std.specs.Prelude.{◌≡◌, ◌≢◌, ◌≤◌, ◌+◌, ◌∷◌, ◌++◌, ℕ, ℤ, List, All, false, length, take, codes, IfNone, IfSome};
-ghost use Rattle.tile_io.specs.Checks.{is_digit, starts_with_minus};
+ghost use Rattle.tile_io.specs.Checks.{starts_with_minus};
 ghost use Rattle.seq_text.specs.PlainCoordinates.{StartsWithCoordinate};
-ghost use Rattle.seq_text.specs.Inner.Plain.{BeginsPlain, HasNoDigits, IsPlainPlace, StartsWithDigits};
+ghost use Rattle.seq_text.specs.Inner.Plain.{BeginsPlain, IsPlainPlace};
 
 use atam::LONGEST_NAME;
+use tile_io::leading_digits;
 use tile_system::Site;
 
 // How many digits a number may have in this form: each such number is a coordinate.
@@ -86,11 +87,11 @@ pub fn plain_coordinate(bytes: &[u8]) -> Option<(i32, &[u8])>
 {
     match after_minus(bytes) {
         Some(digits) => {
-            let (size, rest) = plain_digits(digits)?;
+            let (size, rest) = leading_digits(digits, b' ', MOST_PLAIN_DIGITS)?;
             Some((-(size as i32), rest))
         }
         None => {
-            let (size, rest) = plain_digits(bytes)?;
+            let (size, rest) = leading_digits(bytes, b' ', MOST_PLAIN_DIGITS)?;
             Some((size as i32, rest))
         }
     }
@@ -106,34 +107,4 @@ fn after_minus(bytes: &[u8]) -> Option<&[u8]>
         Some((first, rest)) if *first == b'-' => Some(rest),
         _ => None,
     }
-}
-
-// The number that the digits at the front write, and what stands behind the space after them.
-#[inline(always)]
-fn plain_digits(bytes: &[u8]) -> Option<(u32, &[u8])>
-    ensures starts { IfSome result (λ found. StartsWithDigits bytes.now found.0 found.1.now) }
-    ensures none { IfNone result (HasNoDigits bytes.now) }
-{
-    let mut size = 0;
-    for index in 0..bytes.len().min(MOST_PLAIN_DIGITS + 1) {
-        let byte = bytes[index];
-        if byte == b' ' {
-            if index > 0 {
-                return Some((size, &bytes[index + 1..]));
-            }
-            return None;
-        }
-        if !is_digit(byte) {
-            return None;
-        }
-        size = 10 * size + u32::from(byte - b'0');
-    }
-    None
-}
-
-#[inline(always)]
-fn is_digit(byte: u8) -> bool
-    ensures { result ≡ is_digit byte }
-{
-    byte.is_ascii_digit()
 }

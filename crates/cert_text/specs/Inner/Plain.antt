@@ -1,21 +1,8 @@
 -- A `mark` line in its plain form.
-use Rattle.std.specs.Prelude.{◌≡◌, ℕ, ◌+◌, ◌<◌, ◌≤◌, ◌^◌, true, List, length, ◌∷◌, ◌++◌, codes, Ok}
-use Rattle.tile_io.specs.Checks.{are_digits, coordinate, digits_value}
+use Rattle.std.specs.Prelude.{◌≡◌, ℕ, ◌+◌, List, length, ◌∷◌, ◌++◌, codes, Ok}
+use Rattle.tile_io.specs.Checks.{coordinate}
 use Rattle.atam.specs.declared.site.Site.{Site}
 use Rattle.cert_text.specs.CertificateText.{rank_field}
-
--- up to eight digits that write this rank, and a newline, and then the rest
-pub record StartsWithRank (bytes : List ℕ) (rank : ℕ) (rest : List ℕ) : Type 0 where
-  pub word : List ℕ
-  pub cut : bytes ≡ word ++ 10 ∷ rest
-  pub digits : are_digits word ≡ true
-  pub few : length word ≤ 8
-  pub value : digits_value word ≡ rank
-  pub small : rank < 10 ^ 8
-
--- no such digits
-abbrev pub HasNoRank : List ℕ → Type 0
-HasNoRank bytes = (word rest : List ℕ) → bytes ≡ word ++ 10 ∷ rest → are_digits word ≡ true → length word ≤ 8 → ⊥
 
 -- the keyword, the coordinates of a site and two words, each with a space behind it, and then the rest
 pub record IsPlainMark (line : List ℕ) (m : Site) (name sides rank : List ℕ) : Type 0 where

@@ -1,20 +1,7 @@
 -- A `place` line in its plain form.
-use Rattle.std.specs.Prelude.{◌≡◌, ℕ, ◌+◌, ◌<◌, ◌≤◌, ◌^◌, true, List, length, ◌∷◌, ◌++◌, codes, Ok}
-use Rattle.tile_io.specs.Checks.{are_digits, coordinate, digits_value}
+use Rattle.std.specs.Prelude.{◌≡◌, ℕ, ◌+◌, List, length, ◌∷◌, ◌++◌, codes, Ok}
+use Rattle.tile_io.specs.Checks.{coordinate}
 use Rattle.atam.specs.declared.site.Site.{Site}
-
--- up to six digits that write this number, and a space, and then the rest
-pub record StartsWithDigits (bytes : List ℕ) (size : ℕ) (rest : List ℕ) : Type 0 where
-  pub word : List ℕ
-  pub cut : bytes ≡ word ++ 32 ∷ rest
-  pub digits : are_digits word ≡ true
-  pub few : length word ≤ 6
-  pub value : digits_value word ≡ size
-  pub small : size < 10 ^ 6
-
--- no such digits
-abbrev pub HasNoDigits : List ℕ → Type 0
-HasNoDigits bytes = (word rest : List ℕ) → bytes ≡ word ++ 32 ∷ rest → are_digits word ≡ true → length word ≤ 6 → ⊥
 
 -- the keyword and the coordinates of a site, each with a space behind it, and then the rest
 pub record IsPlainPlace (line : List ℕ) (m : Site) (name : List ℕ) : Type 0 where

@@ -1,5 +1,5 @@
 use Rattle.std.proofs.Common.{◌<◌, length, arith}
-use Rattle.seq_text.proofs.PlainLines.{byte_at}
+use Rattle.tile_io.proofs.Cuts.{byte_at}
 use Rattle.cert_text.proofs.plain.plain_word.Goals as goal
 
 pub returns-then-byte-eq32 : goal.returns-then-byte-eq32

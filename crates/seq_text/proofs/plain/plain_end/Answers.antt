@@ -1,5 +1,6 @@
 use Rattle.std.proofs.Common.{◌≤◌, ◌<◌, length, arith, length-take-le}
-use Rattle.seq_text.proofs.PlainLines.{byte_at, none_before}
+use Rattle.tile_io.proofs.Cuts.{byte_at}
+use Rattle.seq_text.proofs.PlainLines.{none_before}
 use Rattle.seq_text.proofs.plain.plain_end.Goals as goal
 
 pub loop-index-init : goal.loop-index-init
