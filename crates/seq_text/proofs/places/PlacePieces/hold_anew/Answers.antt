@@ -11,7 +11,7 @@ returns-clause-line c =
     let x = signed_decimal c.args.column in
     let y = signed_decimal c.args.row in
     let name = type_name c.args.self.now c.args.tile in
-    let k : c.hold.new.chunk ≡ ((held ++ codes "place " ++ x ++ 32 ∷ []) ++ y ++ 32 ∷ []) ++ name ++ 10 ∷ [] =
-    rw (c.hold.ensures, c.hold_row.ensures.bytes, c.hold_column.ensures.bytes) (grind (arith, ints, to_z-of_z))
+    let k : c.hold_end.new.chunk ≡ ((held ++ codes "place " ++ x ++ 32 ∷ []) ++ y ++ 32 ∷ []) ++ name ++ 10 ∷ [] =
+    rw (c.hold_end.ensures, c.hold_row.ensures.bytes, c.hold_column.ensures.bytes) (grind (arith, ints, to_z-of_z))
     in
     k ∙ place_held held x y name
