@@ -2,7 +2,6 @@ pub mod Fields
 pub mod Fitting
 pub mod Growths
 pub mod HeldLines
-pub mod KeptNumbers
 mod Keyword
 pub mod NamedTypes
 pub mod Printed

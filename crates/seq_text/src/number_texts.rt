@@ -11,8 +11,8 @@ use tile_system::Site;
 // As many as a box has columns or rows: then no two of either have the same place.
 const KEPT_NUMBERS: i32 = 1024;
 
-// Longer numbers find no room behind the keyword. No box has one.
-const LONGEST_COLUMN: usize = 10;
+// The most bytes of a number and a space that are kept.
+const LONGEST_COLUMN: usize = 8;
 
 // A number and the space behind it, at the front of a text.
 #[derive(Clone, Copy)]
@@ -53,57 +53,67 @@ impl NumberText {
     }
 }
 
-// The keyword, a number, and the space behind each, at the front of a text, or nothing yet.
+// A number and the space behind it, at the front of a short text, or nothing yet.
 #[derive(Clone, Copy)]
 pub struct ColumnText {
-    text: [u8; 16],
+    text: [u8; 8],
     number: i32,
     len: u32,
     ghost made: { number ≢ pos 0 → 0 < len },
-    ghost long: { 0 < len → 6 ≤ len },
-    ghost short: { len ≤ 16 },
-    ghost spelled: { 0 < len → take len text ≡ codes "place " ++ signed_decimal number ++ 32 ∷ [] },
+    ghost short: { len ≤ 8 },
+    ghost spelled: { 0 < len → take len text ≡ signed_decimal number ++ 32 ∷ [] },
 }
 
 impl ColumnText {
-    // All bytes are zero, so that a table of them is cleared in place.
+    // All bytes are zero, and the text fits a word, so that a table of them is cleared in place.
     #[inline(always)]
     fn none() -> ColumnText {
         ColumnText {
-            text: [0; 16],
+            text: [0; 8],
             number: 0,
             len: 0,
         }
     }
 
-    // A number behind the keyword.
+    #[inline(always)]
     fn of(number: &NumberText) -> ColumnText
         requires { number.now.len ≤ LONGEST_COLUMN }
         ensures number { result.number ≡ number.now.number }
         ensures made { 0 < result.len }
     {
-        let mut text = *b"place           ";
-        text[6..].copy_from_slice(&number.text[..10]);
+        let mut text = [b' '; 8];
+        text.copy_from_slice(&number.text[..8]);
         ColumnText {
             text,
             number: number.number,
-            len: number.len as u32 + 6,
+            len: number.len as u32,
         }
     }
 
-    // The number without the keyword.
+    // The same in a longer text.
     #[inline(always)]
     fn number_text(&self) -> NumberText
         requires { 0 < self.now.len }
         ensures { result.number ≡ self.now.number }
     {
         let mut text = [b' '; 16];
-        text[..10].copy_from_slice(&self.text[6..]);
+        text[..8].copy_from_slice(&self.text);
         NumberText {
             text,
             number: self.number,
-            len: self.len as usize - 6,
+            len: self.len as usize,
         }
+    }
+
+    // Adds the number and the space to what is held.
+    #[inline(always)]
+    fn hold_number(&self, chunk: &mut Chunk)
+        requires made { 0 < self.now.len }
+        requires room { length chunk.old + 8 ≤ CHUNK_ROOM }
+        ensures bytes { chunk.new ≡ chunk.old ++ signed_decimal self.now.number ++ 32 ∷ [] }
+        ensures len { length chunk.new ≤ length chunk.old + 8 }
+    {
+        chunk.hold_front(&self.text, self.len as usize);
     }
 
     // Adds the keyword, the number, and the space behind each to what is held.
@@ -115,18 +125,18 @@ impl ColumnText {
             ≡ chunk.old ++ codes "place " ++ signed_decimal self.now.number ++ 32 ∷ [] }
         ensures len { length chunk.new ≤ length chunk.old + 16 }
     {
-        chunk.hold_front(&self.text, self.len as usize);
+        chunk.hold_front(b"place   ", 6);
+        self.hold_number(chunk);
     }
 }
 
 /// Numbers as they were last written, each at the place of its remainder by 1024, so that those of a
 /// box's columns all find a place of their own, and the row that was written last.
-// The place of 0 has a text from the first line on.
+// The place of 0 has a text from the start on.
 #[derive(Drop)]
 pub struct NumberTexts {
-    kept: [ColumnText; 1024],
     row: NumberText,
-    begun: bool,
+    kept: [ColumnText; 1024],
 }
 
 // It is seen as the row that was written last.
@@ -138,17 +148,16 @@ impl Model for NumberTexts {
 
     ghost view = { λ texts. texts.row.number };
 
-    ghost invariant = { λ texts. IsBegun texts.begun texts.kept };
+    ghost invariant = { λ texts. IsBegun texts.kept };
 }
 
 impl NumberTexts {
     #[inline(always)]
     pub fn new() -> NumberTexts {
-        NumberTexts {
-            kept: [ColumnText::none(); 1024],
-            row: NumberText::new(0),
-            begun: false,
-        }
+        let row = NumberText::new(0);
+        let mut kept = [ColumnText::none(); 1024];
+        kept[0] = ColumnText::of(&row);
+        NumberTexts { row, kept }
     }
 
     // The text of a column, where it is kept and the row is the one that was written last.
@@ -158,7 +167,7 @@ impl NumberTexts {
             (text.now.number ≡ site.x) × (0 < text.now.len) × (self.now ≡ site.y)) }
     {
         let kept = &self.kept[place_of(site.x)];
-        if self.begun && self.row.number == site.y && kept.number == site.x {
+        if self.row.number == site.y && kept.number == site.x {
             return Some(kept);
         }
         None
@@ -197,7 +206,7 @@ impl NumberTexts {
     {
         let kept = &self.kept[place_of(number)];
         if kept.number == number && kept.len > 0 {
-            return kept.number_text().hold(chunk);
+            return kept.hold_number(chunk);
         }
         self.hold_anew(number, chunk);
     }
@@ -217,19 +226,8 @@ impl NumberTexts {
     pub fn turn_to_row(&mut self, row: i32)
         ensures { self.new ≡ row }
     {
-        self.begin();
         let number = self.number(row);
         self.row = number;
-    }
-
-    // Makes the text of 0.
-    fn begin(&mut self)
-        ensures { self.new ≡ self.old }
-    {
-        if !self.begun {
-            self.kept[0] = ColumnText::of(&NumberText::new(0));
-            self.begun = true;
-        }
     }
 
     // A number, which is kept from then on where it is short enough.

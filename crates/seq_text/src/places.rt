@@ -120,8 +120,8 @@ pub fn print_places<K: Sink>(sys: &System, places: &Sequence, sink: &mut K) -> R
     requires { All (λ p. IsType sys.now p.tile) places.now }
     ensures { Prints K.written K.faults sink.old sink.new result (place_lines sys.now places.now) }
 {
-    let mut pieces = PlacePieces::new(sys);
     let mut chunk = Chunk::new();
+    let mut pieces = PlacePieces::new(sys);
     put_places(places, &mut pieces, &mut chunk, sink)?;
     chunk.flush(sink)
 }
