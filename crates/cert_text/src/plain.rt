@@ -5,7 +5,7 @@ ghost use Rattle.cert_text.specs.Inner.Plain.{BeginsPlain, IsPlainMark};
 
 use atam::LONGEST_NAME;
 use seq_text::plain_coordinate;
-use tile_io::leading_digits;
+use tile_io::{leading_digits, leading_word};
 use tile_system::Site;
 
 // How many digits a rank may have in this form: each such number is a rank.
@@ -63,11 +63,5 @@ fn plain_fields(text: &[u8]) -> Option<(Site, &[u8], &[u8], &[u8])>
 fn plain_word(bytes: &[u8]) -> Option<(&[u8], &[u8])>
     ensures { IfSome result (λ found. bytes.now ≡ found.0.now ++ 32 ∷ found.1.now) }
 {
-    for index in 0..bytes.len().min(LONGEST_NAME + 1) {
-        let byte = bytes[index];
-        if byte == b' ' {
-            return Some((&bytes[..index], &bytes[index + 1..]));
-        }
-    }
-    None
+    leading_word(bytes, b' ', LONGEST_NAME)
 }

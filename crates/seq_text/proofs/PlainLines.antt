@@ -1,9 +1,8 @@
 -- A `place` line in its plain form reads as its place.
-use Rattle.std.proofs.Common.{◌≡◌, ◌≢◌, All, min, ℕ, zero, suc, ◌+◌, ◌-◌, ◌^◌, ◌≤◌, ◌<◌, ◌==◌, Bool, true, false, cond, List, [], ◌∷◌, ◌++◌, length, take, get_or, codes, pos, Option, Some, None, Ok, refl, sym, ap, subst, ◌∙◌, append_assoc, length-append, arith}
+use Rattle.std.proofs.Common.{◌≡◌, ℕ, zero, suc, ◌+◌, ◌-◌, ◌^◌, ◌≤◌, ◌<◌, ◌==◌, Bool, true, false, cond, List, [], ◌∷◌, ◌++◌, length, codes, pos, Option, Some, None, Ok, refl, sym, ap, subst, ◌∙◌, append_assoc, length-append, arith}
 use Rattle.std.specs.Prelude.{ℤ, neg_ℤ, int_le, find, bytes_eq, option_map}
 use Rattle.std.proofs.lemmas.Bool.{eqb-true, le-leb}
-use Rattle.std.proofs.lemmas.List.{get_or-take, length-take}
-use Rattle.std.proofs.lemmas.List.Elements.{All-cons, All-from_get_or, All-from_recursion}
+use Rattle.std.proofs.lemmas.List.Elements.{All-cons, All-from_recursion}
 use Rattle.tile_io.specs.declared.fault.Cause.TheVariants.{BadNumber}
 use Rattle.tile_io.specs.Lines.{words_of, BeginsWithLine}
 use Rattle.tile_io.specs.FrontDigits.{StartsWithDigits, HasNoDigits}
@@ -35,15 +34,6 @@ use Rattle.seq_text.proofs.Growths.{row_named}
 use Rattle.tile_text.proofs.PlainWords.{keyword_word, name_word, name_short}
 use Rattle.seq_text.specs.PlainCoordinates.{StartsWithCoordinate}
 use Rattle.seq_text.specs.Inner.Plain.{IsPlainPlace, BeginsPlain}
-
--- no such byte among the first ones, where none up to an index is one
-pub none_before : (bytes : List ℕ) (byte n i : ℕ) → ((k : ℕ) → k < n → k < length bytes → k < i) → ((k : ℕ) → k < i → get_or bytes k 0 ≡ byte → ⊥) → All (λ b. b ≢ byte) (take n bytes)
-none_before bytes byte n i up_to before =
-    All-from_get_or (λ b. b ≢ byte) (take n bytes) 0 (λ k less.
-    let size : length (take n bytes) ≡ min n (length bytes) = length-take n bytes in
-    let first : k < n = omega (arith, less, size) in
-    let inside : k < length bytes = omega (arith, less, size) in
-    λ same. before k (up_to k first inside) (sym (get_or-take n bytes k 0 first) ∙ same))
 
 -- a number of few digits is a coordinate
 pub plain_number : (bytes rest : List ℕ) (size : ℕ) → StartsWithDigits 32 6 bytes size rest → size < 10 ^ 6 → StartsWithCoordinate bytes (pos size) rest

@@ -6,7 +6,7 @@ ghost use Rattle.seq_text.specs.PlainCoordinates.{StartsWithCoordinate};
 ghost use Rattle.seq_text.specs.Inner.Plain.{BeginsPlain, IsPlainPlace};
 
 use atam::LONGEST_NAME;
-use tile_io::leading_digits;
+use tile_io::{leading_digits, leading_word};
 use tile_system::Site;
 
 // How many digits a number may have in this form: each such number is a coordinate.
@@ -68,13 +68,7 @@ pub fn plain_end(bytes: &[u8]) -> Option<(&[u8], &[u8])>
     ensures few { IfSome result (λ found. length found.0.now ≤ LONGEST_NAME) }
     ensures none { IfNone result (All (λ byte. byte ≢ 10) (take (LONGEST_NAME + 1) bytes.now)) }
 {
-    for index in 0..bytes.len().min(LONGEST_NAME + 1) {
-        let byte = bytes[index];
-        if byte == b'\n' {
-            return Some((&bytes[..index], &bytes[index + 1..]));
-        }
-    }
-    None
+    leading_word(bytes, b'\n', LONGEST_NAME)
 }
 
 /// The coordinate in its plain form at the front, and what stands behind the space after it.

@@ -8,8 +8,11 @@ use tile_system::{System, TypeId, is_same_name};
 // Of so many types hardly a line finds its own kept, so that it costs more than it saves.
 const MANY_TYPES: u32 = 4096;
 
+// Spreads two bytes over the upper half of their product.
+const SPREAD: u16 = 0x71b;
+
 /// The types that were last found, for a text whose lines name few types. A type has a place by the
-/// last two bytes of its name, and is found there by one comparison of names. Where a system has
+/// last three bytes of its name, and is found there by one comparison of names. Where a system has
 /// very many types, nothing is kept.
 #[derive(Drop)]
 pub struct FoundTypes {
@@ -50,14 +53,17 @@ impl FoundTypes {
     }
 }
 
-// By the last two bytes: the names that programs give differ most there.
+// By the last three bytes: the names that programs give differ most there.
 #[inline(always)]
 fn place_of(name: &[u8]) -> usize
     ensures { result < 256 }
 {
     match name {
-        [.., before, last] => usize::from(before.wrapping_mul(27).wrapping_add(*last)),
-        [last] => usize::from(*last),
+        [.., third, before, last] => {
+            let pair = u16::from_le_bytes([*third, *before]).wrapping_mul(SPREAD);
+            usize::from(((pair >> 8) as u8).wrapping_add(*last))
+        }
+        [.., last] => usize::from(*last),
         [] => 0,
     }
 }
