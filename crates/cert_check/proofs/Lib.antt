@@ -11,4 +11,5 @@ pub mod Beside
 pub mod EntryChecks
 pub mod EntryVerdicts
 pub mod Certifying
+pub mod InOrder
 pub mod Looking

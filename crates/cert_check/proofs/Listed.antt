@@ -120,7 +120,7 @@ states-bits p sides rank has is d = ap (λ n. states (record { place = p; sides 
     each West = states-entry p rank West (has North) (has East) (has South) (has West)
 
 -- the index of what follows a list
-pub last_index : (c : List Entry) (x : Entry) (i : ℕ) (e : Entry) → slice_get (c ++ x ∷ []) i ≡ Some e → take i (c ++ x ∷ []) ≡ c → i ≡ length c
+pub last_index : {X : Type 0} (c : List X) (x : X) (i : ℕ) (e : X) → slice_get (c ++ x ∷ []) i ≡ Some e → take i (c ++ x ∷ []) ≡ c → i ≡ length c
 last_index c x i e there all =
     let within = slice_get_within (c ++ x ∷ []) i e there in
     sym (length-take-le i (c ++ x ∷ []) (omega (arith, within))) ∙ ap length all

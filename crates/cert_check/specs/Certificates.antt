@@ -1,6 +1,6 @@
 -- Certificates: for each place of an assembly the sides that are stated to hold it, and a rank.
 use Rattle.std.specs.Prelude.{◌≡◌, ◌≢◌, ℕ, ◌+◌, ◌<◌, ◌≤◌, Bool, true, false, not, ◌&&◌, ◌==◌, bit_and, if◌then◌else◌, List, map, Option, Some, slice_get, find, filter, Contains, All}
-use Rattle.std.specs.List.{list_any}
+use Rattle.std.specs.List.{list_any, enumerate_from, zip}
 use Rattle.std.specs.Option.{option_map_or}
 use Rattle.atam.specs.declared.site.Side.{Side}
 use Rattle.atam.specs.declared.site.Side.TheVariants.{North, East, South, West}
@@ -28,6 +28,10 @@ states e d = not (bit_and e.sides (bit_of d) == 0)
 
 abbrev pub places_of : List Entry → List Place
 places_of c = map (λ e. e.place) c
+
+-- the entries of these places, each with the sides at its index, and with its index as its rank
+unfoldable pub entries_in_order : List Place → List ℕ → List Entry
+entries_in_order order sides = map (λ e. record { place = e.1.0; sides = e.1.1; rank = e.0 }) (enumerate_from 0 (zip order sides))
 
 -- no two entries have one site, and they state no sides but the four
 pub record AreEntries (c : List Entry) : Type 0 where

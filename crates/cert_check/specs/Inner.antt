@@ -2,3 +2,4 @@ pub mod Bits
 pub mod Listings
 pub mod Checks
 pub mod Looks
+pub mod Ordered

@@ -1,4 +1,4 @@
-// The certificate of a sequence.
+// The certificates of a sequence.
 ghost use Rattle.std.specs.Prelude.{◌≡◌, ◌<◌, ◌≤◌, IfOk, length};
 ghost use Rattle.atam.specs.declared.site.Side.TheVariants.{North, East, South, West};
 ghost use Rattle.atam.specs.Assembly.{Fits};
@@ -8,7 +8,7 @@ ghost use Rattle.local_check.specs.SideSets.{AreSidesOf, input_at};
 ghost use Rattle.cert_check.specs.Certificates.{IsCertificateOf, IsGood};
 ghost use Rattle.cert_check.specs.Inner.Bits.{bit as bit_or_none, bits};
 
-use crate::{Certificate, Entry};
+use crate::{Certificate, Entry, OrderedCertificate};
 use assembly::Sequence;
 use local_check::SideSets;
 use std::alloc::Global;
@@ -38,6 +38,28 @@ pub fn certificate_of(
         });
     }
     Ok(Certificate::of(entries))
+}
+
+/// The same, with its entries made from the sequence when they are asked for. It takes a byte a
+/// place beside the sequence.
+pub fn certificate_in_order(
+    alloc: Global,
+    sys: &System,
+    order: Sequence,
+    sides: &SideSets<'_>,
+) -> Result<OrderedCertificate, NoMemory>
+    requires legal { IsLegal sys.now order }
+    requires fits { Fits sys.now order }
+    requires sides { AreSidesOf sys.now order sides.now }
+    ensures certificate { IfOk result (IsCertificateOf sys.now order) }
+    ensures good { IsLocallyDeterministic sys.now order → IfOk result (IsGood sys.now) }
+{
+    sys.recall_valid();
+    let mut stated = Vec::with_capacity(alloc, order.len())?;
+    for index in 0..order.len() {
+        stated.push_reserved(input_bits(sides, index));
+    }
+    Ok(OrderedCertificate::of(order, stated))
 }
 
 // The input sides of a place, as an entry states them.

@@ -11,6 +11,6 @@ mod sides;
 mod verdict;
 
 pub use laws::law_certificate_reads_printed;
-pub use printing::print_certificate;
-pub use reader::read_certificate;
+pub use printing::{print_certificate, print_entries};
+pub use reader::{read_certificate, read_certificate_in_blocks};
 pub use verdict::print_cert_verdict;

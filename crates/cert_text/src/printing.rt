@@ -9,7 +9,7 @@ ghost use Rattle.cert_text.specs.CertificateLines.{mark_line, mark_lines};
 
 use crate::rank_text::RankText;
 use crate::sides::sides_text;
-use cert_check::{Certificate, Entry};
+use cert_check::{Certificate, Entry, EntryList};
 use seq_text::{NumberTexts, hold_type_name};
 use tile_io::{Chunk, Failed, Sink};
 use tile_system::System;
@@ -27,21 +27,34 @@ pub fn print_certificate<K: Sink>(
     requires { All (λ p. IsType sys.now p.tile) (places_of cert.now) }
     ensures { Prints K.written K.faults sink.old sink.new result (mark_lines sys.now cert.now) }
 {
+    print_entries(sys, cert, sink)
+}
+
+/// The same of any list of entries, each of which may be made when it is asked for.
+pub fn print_entries<C: EntryList, K: Sink>(
+    sys: &System,
+    cert: &C,
+    sink: &mut K,
+) -> Result<(), Failed>
+    requires { All (λ p. IsType sys.now p.tile) (places_of (C.entries cert.now)) }
+    ensures { Prints K.written K.faults sink.old sink.new result
+        (mark_lines sys.now (C.entries cert.now)) }
+{
     let mut chunk = Chunk::new();
     put_marks(sys, cert, &mut chunk, sink)?;
     chunk.flush(sink)
 }
 
 // Adds the lines to what is held.
-fn put_marks<K: Sink>(
+fn put_marks<C: EntryList, K: Sink>(
     sys: &System,
-    cert: &Certificate,
+    cert: &C,
     chunk: &mut Chunk,
     sink: &mut K,
 ) -> Result<(), Failed>
-    requires { All (λ p. IsType sys.now p.tile) (places_of cert.now) }
+    requires { All (λ p. IsType sys.now p.tile) (places_of (C.entries cert.now)) }
     ensures { PassesOn K.written K.faults sink.old sink.new chunk.old chunk.new result
-        (mark_lines sys.now cert.now) }
+        (mark_lines sys.now (C.entries cert.now)) }
 {
     // no entry states other sides than the four
     cert.recall_entries();

@@ -1,10 +1,12 @@
 // A certificate is read from its text.
-ghost use Rattle.std.specs.Prelude.{◌≡◌, ◌≤◌, ◌<◌, ◌++◌, ◌∷◌, [], IfOk, IfSome, IsTrue, OnOk, OnErr, length, is_none, true};
+ghost use Rattle.std.specs.Prelude.{◌≡◌, ◌≤◌, ◌<◌, ◌++◌, ◌∷◌, [], ℕ, List, IfOk, IfSome, IsTrue, OnOk, OnErr, length, is_none, true};
 ghost use Rattle.atam.specs.declared.limits.TheConstants.{MOST_TYPES};
 ghost use Rattle.atam.specs.Sites.{InBox};
 ghost use Rattle.atam.specs.Assembly.{Fits};
 ghost use Rattle.atam.specs.Placements.{tile_at};
 ghost use Rattle.atam.specs.TileSystem.{IsType};
+ghost use Rattle.std.specs.Io.KnownBytes.{IsAtEnd};
+ghost use Rattle.tile_io.specs.Blocks.{ReadsInBlocks};
 ghost use Rattle.tile_io.specs.NextLine.{IsMark};
 ghost use Rattle.tile_io.specs.Formats.{ReadsOrStops};
 ghost use Rattle.cert_check.specs.Certificates.{places_of};
@@ -19,8 +21,8 @@ use assembly::Grid;
 use cert_check::{Certificate, Entry};
 use std::alloc::Global;
 use tile_io::{
-    Cause, Front, LineReader, LineStop, LineWords, MOST_INPUT, Mark, TextStop, read_count,
-    read_text,
+    Begun, Cause, Front, InputStop, LineReader, LineStop, LineWords, MOST_INPUT, Mark, Source,
+    TextStop, read_count, read_text, read_text_in_blocks,
 };
 use tile_system::{NoMemory, Place, Placed, Site, System};
 use tile_text::{FoundTypes, read_place};
@@ -42,6 +44,28 @@ pub fn read_certificate(
 {
     let mut reader = CertificateReader::new(alloc, sys)?;
     read_text(&mut reader, text, from)?;
+    Ok(Certificate::of(reader.entries))
+}
+
+/// The same for a text that was begun, and goes on with all that is left of a source
+/// (`read_text_in_blocks`).
+pub fn read_certificate_in_blocks<S: Source>(
+    alloc: Global,
+    sys: &System,
+    source: &mut S,
+    begun: Begun,
+    from: Mark,
+) -> Result<Certificate, InputStop>
+    requires short { length begun.text.items ≤ MOST_INPUT }
+    requires whole { begun.is_whole ≡ true → IsAtEnd (S.left source.old) }
+    requires mark { (rest : List ℕ) → IsMark (begun.text.items ++ rest) from }
+    ensures read { ReadsInBlocks S.left S.faults (certificate_format sys.now) begun.text.items from
+        (λ whole. ReadsCertificate sys.now whole from) source.old source.new result }
+    ensures later { S.faults source.old ≤ S.faults source.new }
+    ensures fits { IfOk result (λ c. Fits sys.now (places_of c)) }
+{
+    let mut reader = CertificateReader::new(alloc, sys)?;
+    read_text_in_blocks(source, &mut reader, begun, from)?;
     Ok(Certificate::of(reader.entries))
 }
 

@@ -25,7 +25,7 @@ pub use legality::print_legality;
 pub use number_texts::NumberTexts;
 pub use places::{PlacePieces, print_places, put_places};
 pub use plain::{plain_coordinate, plain_end};
-pub use reader::{read_grid, read_grid_once, read_sequence, read_sequence_once};
+pub use reader::{read_grid, read_grid_in_blocks, read_sequence, read_sequence_in_blocks};
 pub use schedule::read_events;
 pub use seen::{print_replies, print_seen, put_seen};
 pub use stuck::{print_stuck, print_stuck_seed};

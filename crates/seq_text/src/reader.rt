@@ -1,8 +1,10 @@
 // A growth is read from its text.
-ghost use Rattle.std.specs.Prelude.{◌≡◌, ◌≤◌, ◌<◌, ◌^◌, ◌++◌, ◌∷◌, [], List, true, false, Some, length, is_some, IfOk, IfErr, IfSome, OnOk, OnErr};
+ghost use Rattle.std.specs.Prelude.{◌≡◌, ◌≤◌, ◌<◌, ◌^◌, ◌++◌, ◌∷◌, [], ℕ, List, true, false, Some, length, is_some, IfOk, IfErr, IfSome, OnOk, OnErr};
 ghost use Rattle.atam.specs.Sites.{InBox};
 ghost use Rattle.atam.specs.Assembly.{Fits};
 ghost use Rattle.atam.specs.Placements.{HasDistinctSites};
+ghost use Rattle.std.specs.Io.KnownBytes.{IsAtEnd};
+ghost use Rattle.tile_io.specs.Blocks.{ReadsInBlocks};
 ghost use Rattle.tile_io.specs.NextLine.{IsMark};
 ghost use Rattle.tile_io.specs.Formats.{ReadsOrStops};
 ghost use Rattle.tile_io.specs.LineReader.{TakesItem};
@@ -19,8 +21,8 @@ use assembly::{Grid, Sequence};
 use atam::MOST_TYPES;
 use std::alloc::Global;
 use tile_io::{
-    Cause, Front, LineReader, LineStop, LineWords, MOST_INPUT, Mark, TextStop, read_text,
-    read_text_once,
+    Begun, Cause, Front, InputStop, LineReader, LineStop, LineWords, MOST_INPUT, Mark, Source,
+    TextStop, read_text, read_text_in_blocks,
 };
 use tile_system::{NoMemory, Place, Placed, Site, System};
 use tile_text::{FoundTypes, read_place, read_site};
@@ -45,22 +47,26 @@ pub fn read_sequence(
     Ok(reader.places)
 }
 
-/// The same for a text that is handed over, whose memory is given back on the way.
-pub fn read_sequence_once(
+/// The same for a text that was begun, and goes on with all that is left of a source
+/// (`read_text_in_blocks`).
+pub fn read_sequence_in_blocks<S: Source>(
     alloc: Global,
     sys: &System,
-    text: Vec<u8>,
+    source: &mut S,
+    begun: Begun,
     from: Mark,
-) -> Result<Sequence, TextStop>
-    requires short { length text.items ≤ MOST_INPUT }
-    requires mark { IsMark text.items from }
-    ensures read { ReadsOrStops (sequence_format sys.now) text.items from
-        (ReadsSequence sys.now text.items from) result }
+) -> Result<Sequence, InputStop>
+    requires short { length begun.text.items ≤ MOST_INPUT }
+    requires whole { begun.is_whole ≡ true → IsAtEnd (S.left source.old) }
+    requires mark { (rest : List ℕ) → IsMark (begun.text.items ++ rest) from }
+    ensures read { ReadsInBlocks S.left S.faults (sequence_format sys.now) begun.text.items from
+        (λ whole. ReadsSequence sys.now whole from) source.old source.new result }
+    ensures later { S.faults source.old ≤ S.faults source.new }
     ensures fits { IfOk result (Fits sys.now) }
     ensures count { IfOk result (λ sequence. length sequence < 2 ^ 32) }
 {
     let mut reader = GrowthReader::of_sequence(alloc, sys);
-    read_text_once(&mut reader, text, from)?;
+    read_text_in_blocks(source, &mut reader, begun, from)?;
     Ok(reader.places)
 }
 
@@ -81,22 +87,26 @@ pub fn read_grid(alloc: Global, sys: &System, text: &[u8], from: Mark) -> Result
     Ok(grid)
 }
 
-/// The same for a text that is handed over, whose memory is given back on the way.
-pub fn read_grid_once(
+/// The same for a text that was begun, and goes on with all that is left of a source
+/// (`read_text_in_blocks`).
+pub fn read_grid_in_blocks<S: Source>(
     alloc: Global,
     sys: &System,
-    text: Vec<u8>,
+    source: &mut S,
+    begun: Begun,
     from: Mark,
-) -> Result<Grid, TextStop>
-    requires short { length text.items ≤ MOST_INPUT }
-    requires mark { IsMark text.items from }
-    ensures read { ReadsOrStops (grid_format sys.now) text.items from
-        (ReadsGrid sys.now text.items from) result }
+) -> Result<Grid, InputStop>
+    requires short { length begun.text.items ≤ MOST_INPUT }
+    requires whole { begun.is_whole ≡ true → IsAtEnd (S.left source.old) }
+    requires mark { (rest : List ℕ) → IsMark (begun.text.items ++ rest) from }
+    ensures read { ReadsInBlocks S.left S.faults (grid_format sys.now) begun.text.items from
+        (λ whole. ReadsGrid sys.now whole from) source.old source.new result }
+    ensures later { S.faults source.old ≤ S.faults source.new }
     ensures fits { IfOk result (λ grid. Fits sys.now grid.tiles) }
     ensures distinct { IfOk result (λ grid. HasDistinctSites grid.tiles) }
 {
     let mut reader = GrowthReader::of_grid(alloc, sys)?;
-    read_text_once(&mut reader, text, from)?;
+    read_text_in_blocks(source, &mut reader, begun, from)?;
     let grid = reader.scratch.unwrap();
     prove!(grid.area() == sys.area());
     Ok(grid)

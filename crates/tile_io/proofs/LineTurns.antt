@@ -1,19 +1,19 @@
 -- One step of a reader of lines.
-use Rattle.std.proofs.Common.{◌≡◌, ℕ, ◌+◌, Bool, true, false, List, [], ◌∷◌, ◌++◌, length, Ok, Err, Result, refl, sym, ap, subst}
+use Rattle.std.proofs.Common.{◌≡◌, ℕ, ◌+◌, Bool, true, false, List, [], ◌∷◌, ◌++◌, Ok, Err, Result, refl, subst}
 use Rattle.tile_io.specs.declared.fault.Cause.{Cause}
 use Rattle.tile_io.specs.declared.fault.Cause.TheVariants.{NoEnd}
 use Rattle.tile_io.specs.declared.mark.Mark.{Mark}
 use Rattle.tile_io.specs.declared.reading.Line.{Line}
 use Rattle.tile_io.specs.declared.line_reader.LineStop.{LineStop}
 use Rattle.tile_io.specs.declared.line_reader.LineStop.TheVariants as stops
-use Rattle.tile_io.specs.Lines.{lines_from, mark_after, words_of, AreSkipped}
+use Rattle.tile_io.specs.Lines.{lines_from, words_of}
 use Rattle.tile_io.specs.NextLine.{IsNextLine, line_bytes}
-use Rattle.tile_io.specs.Formats.{Fault, missing_cause}
+use Rattle.tile_io.specs.Formats.{FailsAtLine, missing_cause}
 use Rattle.tile_io.specs.Checks.{Table, table_format, check_line}
-use Rattle.tile_io.specs.LineReader.{TakesItem, ReadsInto}
+use Rattle.tile_io.specs.LineReader.{TakesItem}
 use Rattle.tile_io.specs.Inner.Headers.{first_cause, stop_at}
-use Rattle.tile_io.specs.Inner.Stretches.{Progress, IsStretch}
-use Rattle.tile_io.proofs.Progress.{progress_item, progress_end, progress_fault, progress_missing, progress_complete}
+use Rattle.tile_io.specs.Inner.Stretches.{Progress, EndsInto, IsStretch}
+use Rattle.tile_io.proofs.Progress.{progress_item, progress_end, progress_fault}
 use Rattle.tile_io.proofs.Rows.{header_passes, header_fails}
 
 module _ {Item : Type 0} where
@@ -33,30 +33,21 @@ module _ {Item : Type 0} where
     pub item_step : (took : Takes table Holds items (words_of (line_bytes text line)) (Ok false)) → Progress (table_format table) text from (items ++ took.0 ∷ []) line.next
     item_step took = progress_item (table_format table) text from at items took.0 line h next (header_passes table.has_header items _ took.0 took.1) took.2
 
-    pub end_step : Takes table Holds items (words_of (line_bytes text line)) (Ok true) → ReadsInto (table_format table) text from Holds line.next
+    pub end_step : Takes table Holds items (words_of (line_bytes text line)) (Ok true) → EndsInto (table_format table) text from Holds line.next
     end_step took =
         record { items = items ++ took.0 ∷ []; held = took.3; reads = progress_end (table_format table) text from at items took.0 line h next (header_passes table.has_header items _ took.0 took.1) took.2 }
 
     fault_step : (missing cause : Cause) → missing ≡ missing_cause items → Takes table Holds items (words_of (line_bytes text line)) (Err (stops.Fault cause)) →
-        Fault (table_format table) text from line.number (first_cause table.has_header missing cause)
+        FailsAtLine (table_format table) (lines_from text from) from line.number (first_cause table.has_header missing cause)
     fault_step missing cause m took = progress_fault (table_format table) text from at items (first_cause table.has_header missing cause) line h next (header_fails table.has_header items _ missing cause m took.0)
 
     pub stop_step : (missing : Cause) (number bytes lines : ℕ) (stop : LineStop) → missing ≡ missing_cause items → line.number ≡ lines + number → Takes table Holds items (words_of (line_bytes text line)) (Err stop) →
         IsStretch (table_format table) text from bytes lines Holds (Err (stop_at number table.has_header missing stop))
     stop_step missing number bytes lines (stops.Fault cause) m place took =
-        let Fails : ℕ → Type 0 = λ n. Fault (table_format table) text from n (first_cause table.has_header missing cause) in
+        let Fails : ℕ → Type 0 = λ n. FailsAtLine (table_format table) (lines_from text from) from n (first_cause table.has_header missing cause) in
         subst Fails place (fault_step missing cause m took)
     stop_step missing number bytes lines stops.NoMemory m place took = tt
 
   pub missing-push : (items : List Item) (item : Item) → NoEnd ≡ missing_cause (items ++ item ∷ [])
   missing-push [] item = refl
   missing-push (first ∷ items) item = refl
-
-  module _ (table : Table Item) (text : List ℕ) (from at to : Mark) (items : List Item) (h : Progress (table_format table) text from items at) (skipped : AreSkipped (lines_from text at)) (place : to ≡ mark_after (lines_from text at) at (length (lines_from text at))) where
-    pub complete_step : (Holds : List Item → Type 0) → Holds items → table.is_complete items ≡ true → ReadsInto (table_format table) text from Holds to
-    complete_step Holds held complete =
-        let Into : Mark → Type 0 = λ m. ReadsInto (table_format table) text from Holds m in
-        subst Into (sym place) (record { items = items; held = held; reads = progress_complete (table_format table) text from at items h skipped complete })
-
-    pub missing_step : (missing : Cause) → missing ≡ missing_cause items → table.is_complete items ≡ false → Fault (table_format table) text from to.line missing
-    missing_step missing m incomplete = progress_missing (table_format table) text from at items to.line missing h skipped incomplete (ap (λ m. m.line) place) m

@@ -1,31 +1,48 @@
 -- Why a source was not read whole.
-use Rattle.std.proofs.Common.{◌≡◌, ℕ, List, Option, Err, arith}
-use Rattle.tile_io.specs.declared.whole.ReadStop.TheVariants.{TooLong, NoMemory}
-use Rattle.tile_io.specs.Whole.{ConsumesExactly, ConsumesAtMost, ReadsWhole}
+use Rattle.std.proofs.Common.{◌≡◌, ◌<◌, ◌≤◌, ◌+◌, ℕ, List, [], ◌++◌, length, length-append, Option, Err, refl, ap, arith}
+use Rattle.tile_io.specs.declared.whole.ReadStop.{ReadStop}
+use Rattle.tile_io.specs.declared.whole.ReadStop.TheVariants.{Failed, TooLong, NoMemory}
+use Rattle.tile_io.specs.Blocks.{ReadsOn, TakesOn}
+use Rattle.tile_io.specs.Faults.{Rose}
+use Rattle.tile_io.specs.Whole.{ReadsWhole}
 
-module _ {S Bytes : Type 0} {left : S → Option (List ℕ)} {faults : S → ℕ} {bytes_of : Bytes → List ℕ} {old new : S} (same : faults new ≡ faults old) where
-  pub read_too_long : ConsumesExactly left old new 67108865 → ReadsWhole left faults bytes_of old new (Err TooLong)
-  read_too_long taken = record {
-    bytes = tt;
-    end = tt;
-    short = tt;
-    too_long = λ _. taken;
-    no_memory = λ is. absurd (cc is);
-    failed = λ is. absurd (cc is);
-    rose = λ is. absurd (cc is);
-    stays = λ _. same;
-    later = omega (arith, same);
-  }
+module _ {S Bytes : Type 0} (left : S → Option (List ℕ)) (faults : S → ℕ) (bytes_of : Bytes → List ℕ) (old new : S) (later : faults old ≤ faults new) (front : List ℕ) (none : front ≡ []) where
+  taken_size : (all taken : List ℕ) → all ≡ front ++ taken → length taken ≡ length all
+  taken_size all taken is =
+      let size : length (front ++ taken) ≡ length front + length taken = length-append front taken in
+      let nothing : length front ≡ 0 = ap length none in
+      let same : length all ≡ length (front ++ taken) = ap length is in
+      omega (arith, size, nothing, same)
 
-  pub read_no_memory : ConsumesAtMost left old new 67108864 → ReadsWhole left faults bytes_of old new (Err NoMemory)
-  read_no_memory taken = record {
-    bytes = tt;
-    end = tt;
-    short = tt;
-    too_long = λ is. absurd (cc is);
-    no_memory = λ _. taken;
-    failed = λ is. absurd (cc is);
-    rose = λ is. absurd (cc is);
-    stays = λ _. same;
-    later = omega (arith, same);
-  }
+  -- it was not read on
+  pub not_whole : (bytes : List ℕ) (stop : ReadStop) → ReadsOn left faults front bytes 67108865 old new (Err stop) → (stop ≡ NoMemory → TakesOn (left old) (left new) front bytes × (length bytes < 67108865)) → ReadsWhole left faults bytes_of old new (Err stop)
+  not_whole bytes Failed read more =
+      let size = taken_size read.0.0 read.0.1.0 read.0.1.2 in
+      let raised : Rose (faults old) (faults new) = read.1 in
+      record {
+        bytes = tt;
+        end = tt;
+        short = tt;
+        too_long = λ is. absurd (cc is);
+        no_memory = λ is. absurd (cc is);
+        failed = λ _. (read.0.1.0, read.0.1.1, (let few = read.0.2 in omega (arith, size, few)));
+        rose = λ _. raised;
+        stays = λ is. absurd (is refl);
+        later = later;
+      }
+  not_whole bytes NoMemory read more =
+      let all = more refl in
+      let size = taken_size bytes all.0.0 all.0.2 in
+      let same : faults new ≡ faults old = read.1 in
+      record {
+        bytes = tt;
+        end = tt;
+        short = tt;
+        too_long = λ is. absurd (cc is);
+        no_memory = λ _. (all.0.0, all.0.1, (let few = all.1 in omega (arith, size, few)));
+        failed = λ is. absurd (cc is);
+        rose = λ is. absurd (cc is);
+        stays = λ _. same;
+        later = later;
+      }
+  not_whole bytes TooLong read more = absurd read

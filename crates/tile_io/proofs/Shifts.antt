@@ -24,6 +24,12 @@ module _ (whole : List ℕ) (bytes lines : ℕ) where
         ap (λ l. take (line.end - line.start) (drop line.start l)) is ∙ ap (λ l. take (line.end - line.start) l) (drop-drop line.start bytes whole)
         ∙ ap (λ n. take n (drop (bytes + line.start) whole)) size
 
+    -- a mark in the rest is one in the text
+    pub moved_within : (from : Mark) → from.at ≤ length rest → (moved bytes lines from).at ≤ length whole
+    moved_within from inside =
+        let size : length rest ≡ length whole - bytes = ap length is ∙ length-drop bytes whole in
+        omega (arith, inside, size, within)
+
     -- where a mark comes to after some lines
     pub moved_after : (from : Mark) (count : ℕ) → moved bytes lines (mark_after (lines_from rest from) from count) ≡ mark_after (lines_from whole (moved bytes lines from)) (moved bytes lines from) count
     moved_after from count =

@@ -1,13 +1,13 @@
 // A stretch of the lines of a text.
 ghost use Rattle.std.specs.Prelude.{◌≡◌, ◌+◌, ◌≤◌, ◌<◌, ℕ, List, length, drop, IfSome, IfNone, IfOk};
 ghost use Rattle.tile_io.specs.declared.mark.Mark.{Mark};
-ghost use Rattle.tile_io.specs.declared.stretch.Stretch.TheVariants.{Open};
+ghost use Rattle.tile_io.specs.declared.stretch.Stretch.TheVariants.{Left};
 ghost use Rattle.tile_io.specs.Lines.{lines_from, mark_after};
 ghost use Rattle.tile_io.specs.NextLine.{IsMark};
 ghost use Rattle.tile_io.specs.Formats.{missing_cause};
 ghost use Rattle.tile_io.specs.Checks.{table_format};
 ghost use Rattle.tile_io.specs.Inner.Headers.{first_cause, stop_at};
-ghost use Rattle.tile_io.specs.Inner.Stretches.{IsStretch, Progress, moved};
+ghost use Rattle.tile_io.specs.Inner.Stretches.{IsStretch, Progress, ReadsRest, moved};
 ghost use Rattle.tile_io.specs.Inner.Turns.{TakesLine, TakesNext, turn_at};
 
 use crate::fault::{Cause, TextFault, TextStop};
@@ -19,10 +19,10 @@ use crate::reading::{Line, end_number, next_line};
 // How far a stretch came.
 #[derive(Clone, Copy)]
 pub(crate) enum Stretch {
-    // To the end of the text, or to its own end line.
+    // To the text's own end line, up to this mark.
     Ended(Mark),
-    // To this mark after a line; others may follow.
-    Open(Mark),
+    // Over all lines, to this mark; where the input ended there, this would be missing.
+    Left(Mark, Cause),
 }
 
 // A line, and what a reader made of it.
@@ -32,13 +32,12 @@ pub(crate) struct Turn {
     done: Result<bool, LineStop>,
 }
 
-// Reads the lines of the rest of a text from a mark on, up to the first that ends so far behind.
+// Reads the lines of the rest of a text from a mark on, up to its own end line or all of them.
 pub(crate) fn read_lines<R: LineReader>(
     reader: &mut R,
     text: &[u8],
     from: Mark,
     first_missing: Cause,
-    until: usize,
 ) -> Result<Stretch, TextStop>
     requires held { (items : List R.Item) × R.holds reader.old items }
     requires short { length text.now ≤ MOST_INPUT }
@@ -53,8 +52,8 @@ pub(crate) fn read_lines<R: LineReader>(
         IsStretch (table_format (R.table (R.context reader.old))) whole start bytes lines
         (R.holds reader.new) result }
     ensures context { R.context reader.new ≡ R.context reader.old }
-    ensures far { (to : Mark) → result ≡ Ok (Open to) →
-        IsMark text.now to × (until ≤ to.at) × (from.at < to.at) }
+    ensures end { (to : Mark) (missing : Cause) → result ≡ Ok (Left to missing) →
+        IsMark text.now to }
 {
     let mut mark = from;
     let mut missing = first_missing;
@@ -63,16 +62,7 @@ pub(crate) fn read_lines<R: LineReader>(
             Some(turn) => turn,
             None => match take_by_bytes(reader, text, mark) {
                 Err(fault) => return Err(TextStop::Fault(fault)),
-                Ok(None) => {
-                    let end = end_mark(text, mark);
-                    if reader.is_complete() {
-                        return Ok(Stretch::Ended(end));
-                    }
-                    return Err(TextStop::Fault(TextFault {
-                        line: end.line,
-                        cause: missing,
-                    }));
-                }
+                Ok(None) => return Ok(Stretch::Left(end_mark(text, mark), missing)),
                 Ok(Some(turn)) => turn,
             },
         };
@@ -80,15 +70,48 @@ pub(crate) fn read_lines<R: LineReader>(
         match done {
             Ok(true) => return Ok(Stretch::Ended(line.next)),
             Ok(false) => {
-                if line.next.at >= until {
-                    return Ok(Stretch::Open(line.next));
-                }
                 mark = line.next;
                 missing = Cause::NoEnd;
             }
             Err(stop) => {
                 return Err(stop_at(line.number, reader.has_header(), missing, stop));
             }
+        }
+    }
+}
+
+// Reads the lines of the rest of a text from a mark on, up to its own end line or the end of the
+// input.
+pub(crate) fn read_last_lines<R: LineReader>(
+    reader: &mut R,
+    text: &[u8],
+    from: Mark,
+    first_missing: Cause,
+) -> Result<Mark, TextStop>
+    requires held { (items : List R.Item) × R.holds reader.old items }
+    requires short { length text.now ≤ MOST_INPUT }
+    requires mark { IsMark text.now from }
+
+    // They are the last ones of each text that has this rest.
+    ensures read { (whole : List ℕ) (bytes lines : ℕ) (start : Mark) (items : List R.Item) →
+        text.now ≡ drop bytes whole → bytes ≤ length whole →
+        Progress (table_format (R.table (R.context reader.old))) whole start items
+        (moved bytes lines from) →
+        R.holds reader.old items → first_missing ≡ missing_cause items →
+        ReadsRest (table_format (R.table (R.context reader.old))) whole start bytes lines
+        (R.holds reader.new) result }
+    ensures context { R.context reader.new ≡ R.context reader.old }
+{
+    match read_lines(reader, text, from, first_missing)? {
+        Stretch::Ended(end) => Ok(end),
+        Stretch::Left(end, missing) => {
+            if reader.is_complete() {
+                return Ok(end);
+            }
+            Err(TextStop::Fault(TextFault {
+                line: end.line,
+                cause: missing,
+            }))
         }
     }
 }

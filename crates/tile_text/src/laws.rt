@@ -1,8 +1,9 @@
 // Laws of system texts.
-ghost use Rattle.std.specs.Prelude.{◌≡◌, ◌⊎◌, ◌++◌, ℕ, List, drop};
+ghost use Rattle.std.specs.Prelude.{◌≡◌, ◌≤◌, ◌⊎◌, ◌++◌, ℕ, List, drop, length};
 ghost use Rattle.tile_io.specs.declared.mark.Mark.{Mark};
 ghost use Rattle.tile_io.specs.declared.fault.Cause.{Cause};
 ghost use Rattle.tile_io.specs.Formats.{Reads, Fault, IsRead, IsFaulty};
+ghost use Rattle.tile_io.specs.NextLine.{IsMark};
 ghost use Rattle.tile_text.specs.SystemText.{SystemItem, IsSystemOf, ReadsVersion, ReadsAny, FaultAny, IsReadAny, IsFaultyAny, system_format, system_items};
 ghost use Rattle.tile_text.specs.declared.version.Version.{Version};
 ghost use Rattle.tile_text.specs.Spelling.{spelling_by, end_of_print};
@@ -49,6 +50,16 @@ pub fn law_reads_valid()
         (sys : TileSystem) × (items ≡ system_items sys) × IsValid sys × IsSystemOf version sys }
     ensures any { (text : List ℕ) (from to : Mark) (sys : TileSystem) →
         ReadsAny text from sys to → IsValid sys }
+{}
+
+/// A text that reads reads so whatever follows it, up to the same mark.
+pub fn law_reads_onward()
+    ensures same { (front behind : List ℕ) (from to : Mark) (sys : TileSystem) →
+        from.at ≤ length front → ReadsAny front from sys to
+        → ReadsAny (front ++ behind) from sys to }
+    ensures mark { (front behind : List ℕ) (from to : Mark) (sys : TileSystem) →
+        from.at ≤ length front → IsMark (front ++ behind) from → ReadsAny front from sys to
+        → IsMark (front ++ behind) to }
 {}
 
 /// The printed text of a valid system reads as this system, up to the end of the print, whatever

@@ -1,5 +1,6 @@
 pub mod Certificates
 pub mod Endings
+pub mod Fronts
 pub mod Growths
 pub mod Headlines
 pub mod Loads

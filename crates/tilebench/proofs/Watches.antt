@@ -1,5 +1,5 @@
 -- What is told of a watched growth, and how it stands to what is told of a growth.
-use Rattle.std.proofs.Common.{◌≡◌, ◌≢◌, ◌⊎◌, ◌∙◌, ◌++◌, ◌+◌, ◌<◌, ◌≤◌, ℕ, zero, suc, Bool, true, All, List, [], ◌∷◌, length, Option, Some, unwrap_or, ap, refl, subst, sym, arith, inl, inr}
+use Rattle.std.proofs.Common.{◌≡◌, ◌≢◌, ◌∙◌, ◌++◌, ◌<◌, ◌≤◌, ℕ, zero, suc, Bool, true, All, List, [], ◌∷◌, length, Option, Some, unwrap_or, ap, refl, subst, sym, arith, inl, inr}
 use Rattle.std.specs.Prelude.{slice_index, sum}
 use Rattle.std.proofs.lemmas.List.Sums.{sum_by-cons}
 use Rattle.atam.specs.declared.place.Place.{Place}
@@ -13,15 +13,14 @@ use Rattle.tile_text.proofs.Eithers.{any_one_system, any_valid}
 use Rattle.grow_workers.specs.Workers.{IsGrownBy, worker_number}
 use Rattle.watch_frames.specs.Frames.{FrameList}
 use Rattle.watch_frames.specs.FrameText.{IsWatchAnswer, frames_text}
-use Rattle.watch_frames.specs.Watched.{GrewBesideWatcher, IsWatched, IsWatchedGrowth}
+use Rattle.watch_frames.specs.Watched.{GrewBesideWatcher, IsWatched}
 use Rattle.tilebench.specs.declared.growth.Growth.{Growth}
 use Rattle.tilebench.specs.Commands.Grow.{IsGrowthText}
 use Rattle.tilebench.specs.Commands.Watch.{TellsWatchedGrowth}
-use Rattle.tilebench.specs.Growing.{TellsGrowth}
 use Rattle.tilebench.specs.Growths.{growth_text, is_unique}
 use Rattle.tilebench.specs.Inputs.{IsSystemAlone}
-use Rattle.tilebench.specs.Inner.Rooms.{GrowsTo, HasTypes, outcome_of}
-use Rattle.tilebench.specs.Laws.{HasFramesBefore, IsGrowAnswerOf, WatchAnswersAsGrow, WatchPrintsAsGrow}
+use Rattle.tilebench.specs.Inner.Rooms.{GrowsTo, outcome_of}
+use Rattle.tilebench.specs.Laws.{HasFramesBefore, WatchAnswersAsGrow, WatchPrintsAsGrow}
 use Rattle.tilebench.proofs.Growths.{growth_told}
 use Rattle.tilebench.proofs.Headlines.{one_text}
 

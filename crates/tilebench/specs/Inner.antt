@@ -1,4 +1,5 @@
 pub mod BatchReadings
+pub mod Fronts
 pub mod Gives
 pub mod Races
 pub mod Readings

@@ -24,7 +24,7 @@ mod verify;
 mod watch;
 
 use crate::resources::{Crew, Resources};
-use crate::run::{run, run_by};
+use crate::run::{run, run_by, run_in_blocks};
 use crate::status::Ran;
 use command_line::Command;
 use std::sync::Wait;
@@ -83,21 +83,17 @@ pub fn run_command<R: Threads + Wait + Sync, G: Gate, S: Source, K: Sink, E: Sin
             { room.answer(resources, input) };
             run_by(resources.alloc, &room, answer, source, out, err)
         }
-        Command::Check => run(resources, &check::Check, source, out, err),
-        Command::Replay => run(resources, &replay::Replay, source, out, err),
+        Command::Check => run_in_blocks(resources.alloc, &check::Check, source, out, err),
+        Command::Replay => run_in_blocks(resources.alloc, &replay::Replay, source, out, err),
         Command::Schedule => run(resources, &schedule::Schedule, source, out, err),
         Command::Format => run(resources, &format::Format, source, out, err),
         Command::Upgrade => run(resources, &upgrade::Upgrade, source, out, err),
         Command::Turing => run(resources, &turing::Turing, source, out, err),
         Command::Quadrant => run(resources, &quadrant::Quadrant, source, out, err),
-        Command::Picture => run(resources, &pictures::Picture, source, out, err),
-        Command::Certify => run(resources, &certify::Certify, source, out, err),
+        Command::Picture => run_in_blocks(resources.alloc, &pictures::Picture, source, out, err),
+        Command::Certify => run_in_blocks(resources.alloc, &certify::Certify, source, out, err),
         Command::Verify { workers } => {
-            let room = verify::Verify { workers };
-            let answer = |input: Vec<u8>|
-                requires { IsSync R.row × IsSync G.row × (length input.items ≤ MOST_INPUT) }
-            { room.answer(resources, input) };
-            run_by(resources.alloc, &room, answer, source, out, err)
+            verify::Verify { workers }.run(resources, source, out, err)
         }
         Command::Counter { bits, start } => {
             run(

@@ -1,9 +1,12 @@
 // The system at the front of an input with what follows it, or the machine, two-input rule or batch that it is.
-ghost use Rattle.std.specs.Prelude.{◌≡◌, ◌<◌, ◌≤◌, ◌^◌, List, length, IfOk};
+ghost use Rattle.std.specs.Prelude.{◌≡◌, ◌<◌, ◌≤◌, ◌^◌, ℕ, true, List, [], length, Option, IfOk};
+ghost use Rattle.std.specs.Io.KnownBytes.{IsAtEnd};
 ghost use Rattle.tile_io.specs.declared.limits.TheConstants.{MOST_INPUT};
 ghost use Rattle.tile_io.specs.NextLine.{IsMark};
 ghost use Rattle.tile_text.specs.SystemText.{FaultAny, ReadsAny};
-ghost use Rattle.tilebench.specs.Inner.Gives.{Gives};
+ghost use Rattle.tile_io.specs.Blocks.{TakesOn};
+ghost use Rattle.tilebench.specs.Inner.Gives.{Gives, GivesBehind, GivesRead, HoldsWhole};
+ghost use Rattle.tilebench.specs.Inner.Fronts.{FailsAtFront, IsFront};
 ghost use Rattle.machine_text.specs.Machines.{IsMachine};
 ghost use Rattle.quadrant_compile.specs.Weaves.{IsWeave};
 ghost use Rattle.job_board.specs.declared.limits.TheConstants.{MOST_JOBS};
@@ -17,13 +20,13 @@ ghost use Rattle.tilebench.specs.Inputs.{FailsBatch, FailsWithin, FailsWithinMac
 use crate::stop::Stop;
 use assembly::{Grid, Sequence};
 use cert_check::Certificate;
-use cert_text::read_certificate;
+use cert_text::read_certificate_in_blocks;
 use job_board::{Job, read_batch};
 use machine_text::{Machine, read_machine};
 use quadrant_compile::{Quadrant, read_quadrant};
-use seq_text::{read_grid_once, read_sequence_once};
+use seq_text::{read_grid_in_blocks, read_sequence_in_blocks};
 use std::alloc::Global;
-use tile_io::{Mark, check_rest};
+use tile_io::{Begun, Mark, Source, begin_text, check_rest, read_rest};
 use tile_system::System;
 use tile_text::read_any;
 
@@ -79,41 +82,89 @@ pub fn read_jobs(alloc: Global, input: &[u8]) -> Result<Vec<Job>, Stop>
     Ok(read_batch(alloc, input, Mark::start())?)
 }
 
-/// The system and the sequence whose texts the input is.
-pub fn system_and_sequence(alloc: Global, input: Vec<u8>) -> Result<(System, Sequence), Stop>
-    requires { length input.items ≤ MOST_INPUT }
-    ensures read { Gives (λ found. IsSystemThenSequence input.items found.0 found.1)
-        (FailsWithin sequence_format input.items) result }
+/// The system and the sequence whose texts are all that is left of a source, which is read in blocks.
+pub fn system_and_sequence<S: Source>(
+    alloc: Global,
+    source: &mut S,
+) -> Result<(System, Sequence), Stop>
+    ensures read { GivesRead S.left S.faults
+        (HoldsWhole (λ input found. IsSystemThenSequence input found.0 found.1))
+        (FailsWithin sequence_format) source.old source.new result }
+    ensures later { S.faults source.old ≤ S.faults source.new }
     ensures fits { IfOk result (λ found. Fits found.0 found.1) }
     ensures short { IfOk result (λ found. length found.1 < 2 ^ 32) }
 {
-    let (sys, end) = read_front(alloc, &input)?;
-    let sequence = read_sequence_once(alloc, &sys, input, end)?;
+    let SystemFront { sys, begun, end } = front_of(alloc, source)?;
+    let sequence = read_sequence_in_blocks(alloc, &sys, source, begun, end)?;
     Ok((sys, sequence))
 }
 
-/// The system and the assembly whose texts the input is.
-pub fn system_and_grid(alloc: Global, input: Vec<u8>) -> Result<(System, Grid), Stop>
-    requires { length input.items ≤ MOST_INPUT }
-    ensures read { Gives (λ found. (places : List Place)
-        × IsSystemThenPlacements input.items found.0 places × IsAssemblyOf places found.1.tiles)
-        (FailsWithin grid_format input.items) result }
+/// The same of a system and an assembly.
+pub fn system_and_grid<S: Source>(alloc: Global, source: &mut S) -> Result<(System, Grid), Stop>
+    ensures read { GivesRead S.left S.faults
+        (HoldsWhole (λ input found. (places : List Place)
+        × IsSystemThenPlacements input found.0 places × IsAssemblyOf places found.1.tiles))
+        (FailsWithin grid_format) source.old source.new result }
+    ensures later { S.faults source.old ≤ S.faults source.new }
     ensures area { IfOk result (λ found. found.1.area ≡ found.0.area) }
     ensures fits { IfOk result (λ found. Fits found.0 found.1.tiles) }
 {
-    let (sys, end) = read_front(alloc, &input)?;
-    let grid = read_grid_once(alloc, &sys, input, end)?;
+    let SystemFront { sys, begun, end } = front_of(alloc, source)?;
+    let grid = read_grid_in_blocks(alloc, &sys, source, begun, end)?;
     Ok((sys, grid))
 }
 
-/// The system and the certificate whose texts the input is.
-pub fn system_and_certificate(alloc: Global, input: &[u8]) -> Result<(System, Certificate), Stop>
-    requires { length input.now ≤ MOST_INPUT }
-    ensures read { Gives (λ found. IsSystemThenCertificate input.now found.0 found.1)
-        (FailsWithin certificate_format input.now) result }
+/// The same of a system and a certificate.
+pub fn system_and_certificate<S: Source>(
+    alloc: Global,
+    source: &mut S,
+) -> Result<(System, Certificate), Stop>
+    ensures read { GivesRead S.left S.faults
+        (HoldsWhole (λ input found. IsSystemThenCertificate input found.0 found.1))
+        (FailsWithin certificate_format) source.old source.new result }
+    ensures later { S.faults source.old ≤ S.faults source.new }
     ensures fits { IfOk result (λ found. Fits found.0 (places_of found.1)) }
 {
-    let (sys, end) = read_front(alloc, input)?;
-    let certificate = read_certificate(alloc, &sys, input, end)?;
+    let SystemFront { sys, begun, end } = front_of(alloc, source)?;
+    let certificate = read_certificate_in_blocks(alloc, &sys, source, begun, end)?;
     Ok((sys, certificate))
+}
+
+// The system that a text begins with, what was read of the text so far, and the mark behind the
+// system.
+struct SystemFront {
+    sys: System,
+    begun: Begun,
+    end: Mark,
+}
+
+// The system that what is left of a source begins with. Where it doesn't end within the first block,
+// all is read first.
+fn front_of<S: Source>(alloc: Global, source: &mut S) -> Result<SystemFront, Stop>
+    ensures read { GivesRead S.left S.faults IsFront FailsAtFront source.old source.new result }
+    ensures later { S.faults source.old ≤ S.faults source.new }
+{
+    let begun = begin_text(alloc, source)?;
+    match read_front(alloc, &begun.text) {
+        Ok((sys, end)) => Ok(SystemFront { sys, begun, end }),
+        // What follows may mend it; and where nothing does, it is told again.
+        Err(_) => front_of_whole(alloc, source, begun),
+    }
+}
+
+// The same behind the first bytes, where all that follows is read first.
+fn front_of_whole<S: Source>(
+    alloc: Global,
+    source: &mut S,
+    begun: Begun,
+) -> Result<SystemFront, Stop>
+    requires short { length begun.text.items ≤ MOST_INPUT }
+    requires whole { begun.is_whole ≡ true → IsAtEnd (S.left source.old) }
+    ensures read { (left : Option (List ℕ)) → TakesOn left (S.left source.old) [] begun.text.items
+        → GivesBehind left S.left S.faults IsFront FailsAtFront source.old source.new result }
+    ensures later { S.faults source.old ≤ S.faults source.new }
+{
+    let begun = read_rest(source, begun)?;
+    let (sys, end) = read_front(alloc, &begun.text)?;
+    Ok(SystemFront { sys, begun, end })
 }

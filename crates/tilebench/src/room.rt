@@ -1,17 +1,19 @@
-// What a command is to the top call: it answers an input, and its answer has a text.
-ghost use Rattle.std.specs.Prelude.{◌≡◌, ◌≤◌, ℕ, Bool, List, length};
+// What a command is to the top call: it answers an input, or what is left of the source, and its
+// answer has a text.
+ghost use Rattle.std.specs.Prelude.{◌≡◌, ◌≤◌, ℕ, Bool, true, List, length};
 ghost use Rattle.std.specs.Thread.{IsSync};
 ghost use Rattle.tile_io.specs.declared.fault.TextFault.{TextFault};
 ghost use Rattle.tile_io.specs.declared.limits.TheConstants.{MOST_INPUT};
 ghost use Rattle.tile_io.specs.Prints.{Prints};
-ghost use Rattle.tilebench.specs.Inner.Gives.{GivesAnswer};
+ghost use Rattle.tilebench.specs.Inner.Gives.{AnswersFrom, GivesAnswer};
 ghost use Rattle.tilebench.specs.Rows.{RoomRow};
 
 use crate::resources::Resources;
 use crate::stop::Stop;
 use site_table::Grown;
+use std::alloc::Global;
 use std::thread::Threads;
-use tile_io::{Failed, Gate, Sink};
+use tile_io::{Failed, Gate, Sink, Source};
 
 /// What a command answers.
 pub trait Reply {
@@ -66,4 +68,21 @@ pub trait PlainRoom: Room {
         requires short { length input.items ≤ MOST_INPUT }
         ensures { GivesAnswer Self.Answer.yes Self.Answer.text Self.Answer.printable
             (Self.room_row self.now) input.items result };
+}
+
+/// A command that reads its source in blocks, so that where the system ends within the first it
+/// never holds its whole input.
+pub trait SourceRoom: Room {
+    /// Its answer to all that is left of a source.
+    fn answer_from<S: Source>(
+        &self,
+        alloc: Global,
+        source: &mut S,
+    ) -> Result<(Self::Answer, Option<Grown>), Stop>
+        ensures answer { AnswersFrom S.left S.faults Self.Answer.yes Self.Answer.text
+            Self.Answer.printable (Self.room_row self.now) source.old source.new result }
+        ensures later { S.faults source.old ≤ S.faults source.new };
+
+    /// It reads the source.
+    ghost reads_source: { (room : Self) → (Self.Room.room_row room).reads ≡ true };
 }

@@ -7,7 +7,7 @@ ghost use Rattle.tilebench.specs.Inner.Runs.{EndsCommand};
 ghost use Rattle.tilebench.specs.Rows.{AnswersLeft, FailsLeft};
 
 use crate::resources::Resources;
-use crate::room::{PlainRoom, Room};
+use crate::room::{PlainRoom, Room, SourceRoom};
 use crate::status::Ran;
 use crate::stop::Stop;
 use crate::telling::tell;
@@ -80,4 +80,19 @@ fn answer_from<C: Room, F: FnOnce(Vec<u8>) -> Result<(C::Answer, Option<Grown>),
     }
     let input = read_whole(alloc, source)?;
     answer(input)
+}
+
+/// Writes the answer of a command that reads its input in blocks, or the refusal.
+pub fn run_in_blocks<C: SourceRoom, S: Source, K: Sink, E: Sink>(
+    alloc: Global,
+    room: &C,
+    source: &mut S,
+    out: &mut K,
+    err: &mut E,
+) -> Ran
+    ensures { EndsCommand S.left S.faults K.written K.faults E.written E.faults
+        (C.room_row room.now)
+        source.old source.new out.old out.new err.old err.new result }
+{
+    tell(room.answer_from(alloc, source), out, err)
 }

@@ -3,7 +3,7 @@ use crate::status::Status;
 use command_line::WordsStop;
 use counter_compile::CounterStop;
 use thiserror::Error;
-use tile_io::{Cause, ReadStop, TextFault, TextStop};
+use tile_io::{Cause, InputStop, ReadStop, TextFault, TextStop};
 use tile_system::NoMemory;
 
 /// Why a command has no answer.
@@ -80,6 +80,20 @@ impl From<ReadStop> for Stop {
                 cause: Cause::TooLong,
             }),
             ReadStop::NoMemory => Stop::NoMemory,
+        }
+    }
+}
+
+impl From<InputStop> for Stop {
+    ghost use Rattle.std.specs.Prelude.{◌≡◌};
+    ghost use Rattle.tilebench.specs.Inner.Stops.{stop_of_input};
+
+    ghost from_gives = { λ input stop. stop ≡ stop_of_input input };
+
+    fn from(input: InputStop) -> Stop {
+        match input {
+            InputStop::Unread(read) => Stop::from(read),
+            InputStop::Refused(fault) => Stop::Text(fault),
         }
     }
 }

@@ -1,5 +1,7 @@
 -- What the stops of the lower crates become, and the statuses that tell them.
 use Rattle.tile_io.specs.declared.fault.Cause.TheVariants.{TooLong}
+use Rattle.tile_io.specs.declared.blocks.InputStop.{InputStop}
+use Rattle.tile_io.specs.declared.blocks.InputStop.TheVariants as input
 use Rattle.tile_io.specs.declared.fault.TextStop.{TextStop}
 use Rattle.tile_io.specs.declared.fault.TextStop.TheVariants as text
 use Rattle.tile_io.specs.declared.whole.ReadStop.{ReadStop}
@@ -29,6 +31,10 @@ abbrev pub stop_of_read : ReadStop → Stop
 stop_of_read read.Failed = stops.ReadFault
 stop_of_read read.TooLong = stops.Text (record { line = 0; cause = TooLong })
 stop_of_read read.NoMemory = stops.NoMemory
+
+abbrev pub stop_of_input : InputStop → Stop
+stop_of_input (input.Unread stop) = stop_of_read stop
+stop_of_input (input.Refused fault) = stops.Text fault
 
 -- the status of a stop, where its line could be written if it has one
 abbrev pub status_of : Stop → Status

@@ -1,5 +1,5 @@
 // `certify`: the certificate of an assembly's canonical order.
-ghost use Rattle.std.specs.Prelude.{◌≡◌, IfOk};
+ghost use Rattle.std.specs.Prelude.{refl, ◌≡◌, IfOk};
 ghost use Rattle.atam.specs.Assembly.{Fits};
 ghost use Rattle.replay_order.specs.ReplayAnswers.{IsWholeOrder};
 ghost use Rattle.local_check.specs.SideSets.{AreSidesOf};
@@ -10,18 +10,16 @@ ghost use Rattle.tilebench.specs.Inner.Readings.{taken_or_faulty};
 
 use crate::input::system_and_grid;
 use crate::reordering::{Reordering, print_reordering, reordering_of};
-use crate::resources::Resources;
-use crate::room::{PlainRoom, Reply, Room};
+use crate::room::{Reply, Room, SourceRoom};
 use crate::stop::Stop;
 use assembly::{Grid, Sequence};
-use cert_check::{Certificate, certificate_of};
-use cert_text::print_certificate;
+use cert_check::{OrderedCertificate, certificate_in_order};
+use cert_text::print_entries;
 use local_check::{SideSets, Verdict, inputs_of_grid, judge};
 use seq_text::print_verdict;
 use site_table::Grown;
 use std::alloc::Global;
-use std::thread::Threads;
-use tile_io::{Failed, Gate, Sink};
+use tile_io::{Failed, Sink, Source};
 use tile_system::{NoMemory, System};
 
 /// The command.
@@ -40,14 +38,16 @@ impl Room for Certify {
     ghost one_of_two = { λ room. taken_or_faulty grid_format };
 }
 
-impl PlainRoom for Certify {
-    fn answer<R: Threads + Sync, G: Gate>(
+impl SourceRoom for Certify {
+    ghost reads_source = { λ room. refl };
+
+    fn answer_from<S: Source>(
         &self,
-        resources: &Resources<'_, R, G>,
-        input: Vec<u8>,
+        alloc: Global,
+        source: &mut S,
     ) -> Result<(Certified, Option<Grown>), Stop> {
-        let (sys, grid) = system_and_grid(resources.alloc, input)?;
-        let certification = certification_of(resources.alloc, &sys, &grid)?;
+        let (sys, grid) = system_and_grid(alloc, source)?;
+        let certification = certification_of(alloc, &sys, &grid)?;
         Ok((Certified { sys, certification }, None))
     }
 }
@@ -72,7 +72,7 @@ impl Drop for Certified {
 #[derive(Drop)]
 pub enum Certification {
     /// That of the canonical order.
-    Given(Certificate),
+    Given(OrderedCertificate),
     /// The verdict on the canonical order, which is a no.
     Refuted(Verdict),
     /// The tiles have no canonical order.
@@ -92,7 +92,7 @@ impl Reply for Certified {
 
     fn print<K: Sink>(&self, out: &mut K) -> Result<(), Failed> {
         match &self.certification {
-            Certification::Given(certificate) => print_certificate(&self.sys, certificate, out),
+            Certification::Given(certificate) => print_entries(&self.sys, certificate, out),
             Certification::Refuted(verdict) => print_verdict(&self.sys, verdict, out),
             Certification::Unordered(reordering) => print_reordering(&self.sys, reordering, out),
         }
@@ -108,7 +108,7 @@ fn certification_of(alloc: Global, sys: &System, grid: &Grid) -> Result<Certific
 {
     let reordering = reordering_of(alloc, sys, grid)?;
     match reordering {
-        Reordering::Whole(order) => certification_by(alloc, sys, grid, &order),
+        Reordering::Whole(order) => certification_by(alloc, sys, grid, order),
         unordered => Ok(Certification::Unordered(unordered)),
     }
 }
@@ -118,14 +118,14 @@ fn certification_by(
     alloc: Global,
     sys: &System,
     grid: &Grid,
-    order: &Sequence,
+    order: Sequence,
 ) -> Result<Certification, NoMemory>
     requires area { grid.now.area ≡ sys.now.area }
-    requires ordered { IsWholeOrder sys.now grid.now.tiles order.now }
+    requires ordered { IsWholeOrder sys.now grid.now.tiles order }
     ensures certified { IfOk result (IsCertification sys.now grid.now.tiles) }
     ensures types { IfOk result (CertifiesTypes sys.now) }
 {
-    let sides = inputs_of_grid(alloc, sys, order, grid)?;
+    let sides = inputs_of_grid(alloc, sys, &order, grid)?;
     certification_with(alloc, sys, grid, order, &sides)
 }
 
@@ -134,17 +134,17 @@ fn certification_with(
     alloc: Global,
     sys: &System,
     grid: &Grid,
-    order: &Sequence,
+    order: Sequence,
     sides: &SideSets,
 ) -> Result<Certification, NoMemory>
-    requires ordered { IsWholeOrder sys.now grid.now.tiles order.now }
-    requires sides { AreSidesOf sys.now order.now sides.now }
+    requires ordered { IsWholeOrder sys.now grid.now.tiles order }
+    requires sides { AreSidesOf sys.now order sides.now }
     ensures certified { IfOk result (IsCertification sys.now grid.now.tiles) }
     ensures types { IfOk result (CertifiesTypes sys.now) }
 {
-    match judge(sys, order, sides) {
+    match judge(sys, &order, sides) {
         Verdict::Yes => {
-            let certificate = certificate_of(alloc, sys, order, sides)?;
+            let certificate = certificate_in_order(alloc, sys, order, sides)?;
             Ok(Certification::Given(certificate))
         }
         refuted => Ok(Certification::Refuted(refuted)),

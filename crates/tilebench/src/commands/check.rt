@@ -1,5 +1,5 @@
 // `check`: whether a sequence is legal, and the verdict on it.
-ghost use Rattle.std.specs.Prelude.{◌<◌, ◌^◌, length, IfOk};
+ghost use Rattle.std.specs.Prelude.{refl, ◌<◌, ◌^◌, length, IfOk};
 ghost use Rattle.atam.specs.Assembly.{Fits};
 ghost use Rattle.local_check.specs.Judged.{IsJudged};
 ghost use Rattle.tile_io.specs.Prints.{Prints};
@@ -11,8 +11,7 @@ ghost use Rattle.tilebench.specs.Inner.Readings.{taken_or_faulty};
 
 use crate::input::system_and_sequence;
 use crate::judged::is_unique;
-use crate::resources::Resources;
-use crate::room::{PlainRoom, Reply, Room};
+use crate::room::{Reply, Room, SourceRoom};
 use crate::stop::Stop;
 use assembly::Sequence;
 use local_check::{Judged, Verdict, judge_once};
@@ -20,8 +19,7 @@ use replay_order::Legality;
 use seq_text::{print_legality, print_verdict};
 use site_table::Grown;
 use std::alloc::Global;
-use std::thread::Threads;
-use tile_io::{Failed, Gate, Sink};
+use tile_io::{Failed, Sink, Source};
 use tile_system::{NoMemory, System};
 
 /// The command.
@@ -40,14 +38,16 @@ impl Room for Check {
     ghost one_of_two = { λ room. taken_or_faulty sequence_format };
 }
 
-impl PlainRoom for Check {
-    fn answer<R: Threads + Sync, G: Gate>(
+impl SourceRoom for Check {
+    ghost reads_source = { λ room. refl };
+
+    fn answer_from<S: Source>(
         &self,
-        resources: &Resources<'_, R, G>,
-        input: Vec<u8>,
+        alloc: Global,
+        source: &mut S,
     ) -> Result<(Checked, Option<Grown>), Stop> {
-        let (sys, sequence) = system_and_sequence(resources.alloc, input)?;
-        let judgement = judgement_of(resources.alloc, &sys, &sequence)?;
+        let (sys, sequence) = system_and_sequence(alloc, source)?;
+        let judgement = judgement_of(alloc, &sys, &sequence)?;
         Ok((Checked { sys, judgement }, None))
     }
 }

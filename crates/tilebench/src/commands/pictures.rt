@@ -1,5 +1,5 @@
 // `picture`: an assembly as text, a character for each site.
-ghost use Rattle.std.specs.Prelude.{◌≡◌, true, All};
+ghost use Rattle.std.specs.Prelude.{◌≡◌, true, refl, All};
 ghost use Rattle.atam.specs.TileSystem.{IsType};
 ghost use Rattle.seq_text.specs.GrowthText.{grid_format};
 ghost use Rattle.picture.specs.Pictures.{picture_text};
@@ -7,14 +7,13 @@ ghost use Rattle.tilebench.specs.Commands.Picture.{picture_row};
 ghost use Rattle.tilebench.specs.Inner.Readings.{taken_or_faulty};
 
 use crate::input::system_and_grid;
-use crate::resources::Resources;
-use crate::room::{PlainRoom, Reply, Room};
+use crate::room::{Reply, Room, SourceRoom};
 use crate::stop::Stop;
 use assembly::Grid;
 use picture::print_picture;
 use site_table::Grown;
-use std::thread::Threads;
-use tile_io::{Failed, Gate, Sink};
+use std::alloc::Global;
+use tile_io::{Failed, Sink, Source};
 use tile_system::System;
 
 /// The command.
@@ -33,13 +32,15 @@ impl Room for Picture {
     ghost one_of_two = { λ room. taken_or_faulty grid_format };
 }
 
-impl PlainRoom for Picture {
-    fn answer<R: Threads + Sync, G: Gate>(
+impl SourceRoom for Picture {
+    ghost reads_source = { λ room. refl };
+
+    fn answer_from<S: Source>(
         &self,
-        resources: &Resources<'_, R, G>,
-        input: Vec<u8>,
+        alloc: Global,
+        source: &mut S,
     ) -> Result<(Pictured, Option<Grown>), Stop> {
-        let (sys, grid) = system_and_grid(resources.alloc, input)?;
+        let (sys, grid) = system_and_grid(alloc, source)?;
         Ok((Pictured { sys, grid }, None))
     }
 }

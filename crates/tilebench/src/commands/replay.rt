@@ -1,4 +1,5 @@
 // `replay`: an assembly in canonical order.
+ghost use Rattle.std.specs.Prelude.{refl};
 ghost use Rattle.seq_text.specs.GrowthText.{grid_format};
 ghost use Rattle.tilebench.specs.Commands.Replay.{is_whole, reordering_text, replay_row};
 ghost use Rattle.tilebench.specs.Inner.Rooms.{OrdersTypes};
@@ -6,12 +7,11 @@ ghost use Rattle.tilebench.specs.Inner.Readings.{taken_or_faulty};
 
 use crate::input::system_and_grid;
 use crate::reordering::{Reordering, print_reordering, reordering_of};
-use crate::resources::Resources;
-use crate::room::{PlainRoom, Reply, Room};
+use crate::room::{Reply, Room, SourceRoom};
 use crate::stop::Stop;
 use site_table::Grown;
-use std::thread::Threads;
-use tile_io::{Failed, Gate, Sink};
+use std::alloc::Global;
+use tile_io::{Failed, Sink, Source};
 use tile_system::System;
 
 /// The command.
@@ -30,14 +30,16 @@ impl Room for Replay {
     ghost one_of_two = { λ room. taken_or_faulty grid_format };
 }
 
-impl PlainRoom for Replay {
-    fn answer<R: Threads + Sync, G: Gate>(
+impl SourceRoom for Replay {
+    ghost reads_source = { λ room. refl };
+
+    fn answer_from<S: Source>(
         &self,
-        resources: &Resources<'_, R, G>,
-        input: Vec<u8>,
+        alloc: Global,
+        source: &mut S,
     ) -> Result<(Replayed, Option<Grown>), Stop> {
-        let (sys, grid) = system_and_grid(resources.alloc, input)?;
-        let reordering = reordering_of(resources.alloc, &sys, &grid)?;
+        let (sys, grid) = system_and_grid(alloc, source)?;
+        let reordering = reordering_of(alloc, &sys, &grid)?;
         Ok((Replayed { sys, reordering }, None))
     }
 }

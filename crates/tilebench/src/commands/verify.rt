@@ -2,26 +2,28 @@
 ghost use Rattle.std.specs.Prelude.{◌≡◌, ◌↔◌, ◌≤◌, List, length, IfOk};
 ghost use Rattle.atam.specs.declared.place.Place.{Place};
 ghost use Rattle.atam.specs.Assembly.{Fits};
-ghost use Rattle.tile_io.specs.declared.limits.TheConstants.{MOST_INPUT};
 ghost use Rattle.cert_check.specs.Certificates.{places_of};
 ghost use Rattle.cert_check.specs.Judgement.{IsVerdict};
 ghost use Rattle.cert_check.specs.Laws.{IsCertified};
 ghost use Rattle.cert_text.specs.CertificateLines.{NamesKnownType, verified_line};
 ghost use Rattle.cert_text.specs.CertificateText.{certificate_format};
 ghost use Rattle.tilebench.specs.Commands.Verify.{is_verified, verify_row};
-ghost use Rattle.tilebench.specs.Inner.Gives.{GivesAnswer};
+ghost use Rattle.tilebench.specs.Inner.Gives.{AnswersFrom};
+ghost use Rattle.tilebench.specs.Inner.Runs.{EndsCommand};
 ghost use Rattle.tilebench.specs.Inner.Readings.{taken_or_faulty};
 
 use crate::input::system_and_certificate;
 use crate::resources::Resources;
 use crate::room::{Reply, Room};
+use crate::status::Ran;
 use crate::stop::Stop;
+use crate::telling::tell;
 use cert_check::{CertVerdict, Certificate, verify};
 use cert_text::print_cert_verdict;
 use fan_out::WorkerCount;
 use site_table::Grown;
 use std::thread::Threads;
-use tile_io::{Failed, Gate, Sink};
+use tile_io::{Failed, Gate, Sink, Source};
 use tile_system::{NoMemory, System};
 
 /// The command.
@@ -43,17 +45,33 @@ impl Room for Verify {
 }
 
 impl Verify {
-    /// Its answer to an input. Nothing is handed out.
-    pub fn answer<R: Threads + Sync, G: Gate>(
+    /// Runs the command on all that is left of a source, which it reads in blocks. Nothing is handed
+    /// out.
+    pub fn run<R: Threads + Sync, G: Gate, S: Source, K: Sink, E: Sink>(
         &self,
         resources: &Resources<'_, R, G>,
-        input: Vec<u8>,
-    ) -> Result<(Verified, Option<Grown>), Stop>
-        requires { length input.items ≤ MOST_INPUT }
-        ensures { GivesAnswer ⟦<Verified as Reply>⟧.yes ⟦<Verified as Reply>⟧.text ⟦<Verified as Reply>⟧.printable
-            verify_row input.items result }
+        source: &mut S,
+        out: &mut K,
+        err: &mut E,
+    ) -> Ran
+        ensures { EndsCommand S.left S.faults K.written K.faults E.written E.faults verify_row
+            source.old source.new out.old out.new err.old err.new result }
     {
-        let (sys, certificate) = system_and_certificate(resources.alloc, &input)?;
+        tell(self.answer_from(resources, source), out, err)
+    }
+
+    // Its answer.
+    fn answer_from<R: Threads + Sync, G: Gate, S: Source>(
+        &self,
+        resources: &Resources<'_, R, G>,
+        source: &mut S,
+    ) -> Result<(Verified, Option<Grown>), Stop>
+        ensures answer { AnswersFrom S.left S.faults ⟦<Verified as Reply>⟧.yes
+            ⟦<Verified as Reply>⟧.text ⟦<Verified as Reply>⟧.printable
+            verify_row source.old source.new result }
+        ensures later { S.faults source.old ≤ S.faults source.new }
+    {
+        let (sys, certificate) = system_and_certificate(resources.alloc, source)?;
         let verdict = verdict_by(resources, &sys, &certificate, self.workers)?;
         Ok((Verified { sys, verdict }, None))
     }

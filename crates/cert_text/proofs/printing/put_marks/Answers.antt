@@ -14,7 +14,7 @@ use Rattle.cert_text.proofs.printing.put_marks.Goals as goal
 pub returns-in_err-put_mark : goal.returns-in_err-put_mark
 returns-in_err-put_mark g c =
     let line = mark_line c.args.sys.now in
-    let entries = c.args.cert.now in
+    let entries = g.C.EntryList.entries c.args.cert.now in
     let p = err_from_is_err_and c.from_residual.result c.from_residual.ensures.1 in
     let within : c.loop-index.index < length entries = omega (arith, c.loop-index-test.true, c.len-index-end.ensures) in
     let there = ap line (sym (get_or_from_slice_get entries c.loop-index.index c.get.result c.get.result c.get.ensures)) in
@@ -23,7 +23,7 @@ returns-in_err-put_mark g c =
 pub loop-index-preserved : goal.loop-index-preserved
 loop-index-preserved g c =
     let line = mark_line c.args.sys.now in
-    let entries = c.args.cert.now in
+    let entries = g.C.EntryList.entries c.args.cert.now in
     let within : c.loop-index.index < length entries = omega (arith, c.loop-index-test.true, c.len-index-end.ensures) in
     let there = ap line (sym (get_or_from_slice_get entries c.loop-index.index c.get.result c.get.result c.get.ensures)) in
     record {
@@ -32,7 +32,7 @@ loop-index-preserved g c =
 
 pub put_mark-requires-clause-known : goal.put_mark-requires-clause-known
 put_mark-requires-clause-known g c =
-    let entries = c.args.cert.now in
+    let entries = g.C.EntryList.entries c.args.cert.now in
     let k = c.loop-index.index in
     let there : slice_get (places_of entries) k ≡ Some c.get.result.place =
     slice_get-map (λ (e : Entry). e.place) entries k ∙ ap (option_map (λ (e : Entry). e.place)) c.get.ensures in
@@ -40,4 +40,4 @@ put_mark-requires-clause-known g c =
 
 pub put_mark-requires-clause-sides : goal.put_mark-requires-clause-sides
 put_mark-requires-clause-sides g c =
-    All-slice_get (λ (e : Entry). e.sides < 16) c.args.cert.now c.loop-index.index c.get.result c.recall_entries.ensures.sides c.get.ensures
+    All-slice_get (λ (e : Entry). e.sides < 16) (g.C.EntryList.entries c.args.cert.now) c.loop-index.index c.get.result c.recall_entries.ensures.sides c.get.ensures

@@ -8,5 +8,5 @@ use Rattle.cert_text.proofs.printing.put_marks.Given as goal
 abbrev pub invariant-loop-index : goal.invariant-loop-index
 invariant-loop-index g l = record {
   passes : PassesOn {T = Unit {0}} {E = Failed} g.K.Sink.written g.K.Sink.faults l.initial.sink l.sink l.initial.chunk l.chunk (Ok tt)
-      (mark_lines l.sys (take l.index l.cert));
+      (mark_lines l.sys (take l.index (g.C.EntryList.entries l.cert)));
 }

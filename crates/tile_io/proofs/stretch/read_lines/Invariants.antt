@@ -3,8 +3,7 @@ use Rattle.tile_io.specs.declared.mark.Mark.{Mark}
 use Rattle.tile_io.specs.NextLine.{IsMark}
 use Rattle.tile_io.specs.Formats.{missing_cause}
 use Rattle.tile_io.specs.Checks.{table_format}
-use Rattle.tile_io.specs.Inner.Stretches.{Progress, moved}
-use Rattle.tile_io.proofs.Stretching.{ReadsSoFar}
+use Rattle.tile_io.specs.Inner.Stretches.{Progress, ReadsSoFar, moved}
 use Rattle.tile_io.proofs.stretch.read_lines.Given as goal
 
 -- the lines before the mark pass, and are items that the reader holds, in each text that has this rest; the context is that of the start
@@ -18,7 +17,6 @@ invariant-lines g l = record {
       g.R.LineReader.holds l.fn.reader before → l.fn.first_missing ≡ missing_cause before →
       ReadsSoFar (table_format (g.R.LineReader.table (g.R.LineReader.context l.fn.reader))) whole start (g.R.LineReader.holds l.reader) (moved bytes lines l.mark) l.missing;
   mark : IsMark l.text l.mark;
-  later : l.fn.from.at ≤ l.mark.at;
 }
 
 abbrev pub decreases-lines : goal.decreases-lines

@@ -16,13 +16,13 @@ pub returns-in-Batch : goal.returns-in-Batch
 returns-in-Batch g c = rw c.in-Batch.is c.run_by-in-Batch.ensures
 
 pub returns-in-Check : goal.returns-in-Check
-returns-in-Check g c = rw c.in-Check.is c.run.ensures
+returns-in-Check g c = rw c.in-Check.is c.run_in_blocks.ensures
 
 pub returns-in-Replay : goal.returns-in-Replay
-returns-in-Replay g c = rw c.in-Replay.is c.run-in-Replay.ensures
+returns-in-Replay g c = rw c.in-Replay.is c.run_in_blocks-in-Replay.ensures
 
 pub returns-in-Schedule : goal.returns-in-Schedule
-returns-in-Schedule g c = rw c.in-Schedule.is c.run-in-Schedule.ensures
+returns-in-Schedule g c = rw c.in-Schedule.is c.run.ensures
 
 pub returns-in-Format : goal.returns-in-Format
 returns-in-Format g c = rw c.in-Format.is c.run-in-Format.ensures
@@ -37,13 +37,13 @@ pub returns-in-Quadrant : goal.returns-in-Quadrant
 returns-in-Quadrant g c = rw c.in-Quadrant.is c.run-in-Quadrant.ensures
 
 pub returns-in-Picture : goal.returns-in-Picture
-returns-in-Picture g c = rw c.in-Picture.is c.run-in-Picture.ensures
+returns-in-Picture g c = rw c.in-Picture.is c.run_in_blocks-in-Picture.ensures
 
 pub returns-in-Certify : goal.returns-in-Certify
-returns-in-Certify g c = rw c.in-Certify.is c.run-in-Certify.ensures
+returns-in-Certify g c = rw c.in-Certify.is c.run_in_blocks-in-Certify.ensures
 
 pub returns-in-Verify : goal.returns-in-Verify
-returns-in-Verify g c = rw c.in-Verify.is c.run_by-in-Verify.ensures
+returns-in-Verify g c = rw c.in-Verify.is c.run-in-Verify.ensures
 
 pub returns-in-Counter : goal.returns-in-Counter
 returns-in-Counter g c = rw c.in-Counter.is c.run-in-Counter.ensures

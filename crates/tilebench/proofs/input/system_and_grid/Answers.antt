@@ -1,32 +1,38 @@
-use Rattle.std.proofs.Common.{ℕ, List, subst}
+use Rattle.std.proofs.Common.{◌∙◌, ℕ, List, Option}
 use Rattle.std.proofs.lemmas.Result.{err_from_is_err_and}
-use Rattle.tile_text.specs.SystemText.{ReadsAny}
 use Rattle.atam.specs.declared.place.Place.{Place}
-use Rattle.atam.specs.TileSystem.{TileSystem}
 use Rattle.assembly.specs.Grids.{TileGrid}
-use Rattle.seq_text.specs.GrowthText.{grid_format, ReadsGrid}
-use Rattle.tilebench.specs.Inputs.{IsAssemblyOf, IsSystemThenPlacements, first_mark}
-use Rattle.tilebench.proofs.Orders.{stops_within}
+use Rattle.atam.specs.TileSystem.{TileSystem}
+use Rattle.seq_text.specs.GrowthText.{grid_format}
+use Rattle.tilebench.specs.Inputs.{IsAssemblyOf, IsSystemThenPlacements}
+use Rattle.tilebench.specs.Inner.Gives.{HoldsWhole}
+use Rattle.tilebench.proofs.Fronts.{blocks_stop, front_mark, front_stop, front_whole}
 use Rattle.tilebench.proofs.input.system_and_grid.Goals as goal
 
+-- what is read of the source
+Holds : Option (List ℕ) → Option (List ℕ) → TileSystem × TileGrid → Type 0
+Holds left left_after value = HoldsWhole (λ input (found : TileSystem × TileGrid). (places : List Place) × IsSystemThenPlacements input found.0 places × IsAssemblyOf places found.1.tiles) left left_after value
+
+pub returns-in_err-sys-clause-read : goal.returns-in_err-sys-clause-read
+returns-in_err-sys-clause-read g c =
+    let p = err_from_is_err_and c.from_residual.result c.from_residual.ensures.1 in
+    rw (p.1, p.2) (front_stop g.S.Source.left g.S.Source.faults Holds grid_format c.args.source.now c.front_of.new.source c.in_err-sys.field-0.0 c.in_err-sys.ensures.read)
+
+pub read_grid_in_blocks-requires-clause-mark : goal.read_grid_in_blocks-requires-clause-mark
+read_grid_in_blocks-requires-clause-mark g c = front_mark g.S.Source.left c.args.source.now c.front_of.new.source c.in_ok-sys.field-0 c.in_ok-sys.ensures.read.0
+
 pub returns-in_err-grid-clause-read : goal.returns-in_err-grid-clause-read
-returns-in_err-grid-clause-read c =
-    let sys = c.in_ok-sys.sys in
+returns-in_err-grid-clause-read g c =
     let p = err_from_is_err_and c.from_residual-in_err-grid.result c.from_residual-in_err-grid.ensures.1 in
-    let Reads : List ℕ → Type 0 = λ input. ReadsAny input first_mark sys c.in_ok-sys.end in
-    let reads = subst Reads c.deref.ensures.value c.in_ok-sys.ensures.read in
-    let Holds : TileSystem × TileGrid → Type 0 = λ found. (places : List Place) × IsSystemThenPlacements c.args.input.items found.0 places × IsAssemblyOf places found.1.tiles in
-    let stops =
-    stops_within {Answer = TileGrid} {T = TileSystem × TileGrid} grid_format c.args.input.items sys c.in_ok-sys.end reads (ReadsGrid sys c.args.input.items c.in_ok-sys.end)
-    c.in_err-grid.field-0.0 c.in_err-grid.ensures.read Holds
-    in
-    rw (p.1, p.2) stops
+    let read = c.in_ok-sys.ensures.read in
+    rw (p.1, p.2) (blocks_stop g.S.Source.left g.S.Source.faults Holds grid_format c.args.source.now c.front_of.new.source c.read_grid_in_blocks.new.source c.in_ok-sys.field-0 c.in_err-grid.field-0.0 read.0 read.1 c.in_err-grid.ensures.read)
 
 pub returns-clause-read : goal.returns-clause-read
-returns-clause-read c =
-    let Reads : List ℕ → Type 0 = λ input. ReadsAny input first_mark c.in_ok-sys.sys c.in_ok-sys.end in
-    let read = c.in_ok-grid.ensures.read in (
-      read.places,
-      record { end = c.in_ok-sys.end; reads = subst Reads c.deref.ensures.value c.in_ok-sys.ensures.read; rest = read.reads },
-      record { same = read.same; distinct = c.in_ok-grid.ensures.distinct },
-    )
+returns-clause-read g c =
+    let read = c.in_ok-sys.ensures.read in
+    let front = c.in_ok-sys.field-0 in
+    let found = c.in_ok-grid.ensures.read in
+    let whole = found.0.0 in
+    let all = front_whole g.S.Source.left c.args.source.now c.front_of.new.source front read.0 c.read_grid_in_blocks.new.source whole found.0.1 in
+    let grid = found.0.2 in
+    ((whole, all.0, (grid.places, record { end = front.end; reads = all.1; rest = grid.reads }, record { same = grid.same; distinct = c.in_ok-grid.ensures.distinct })), found.1 ∙ read.1)

@@ -1,0 +1,37 @@
+use Rattle.std.proofs.Common.{List, refl}
+use Rattle.std.proofs.lemmas.Result.{err_from_is_err_and}
+use Rattle.atam.specs.declared.place.Place.{Place}
+use Rattle.atam.specs.TileSystem.{TileSystem}
+use Rattle.tilebench.specs.Inputs.{IsSystemThenSequence}
+use Rattle.tilebench.specs.declared.commands.check.Checked.{Checked}
+use Rattle.tilebench.specs.Commands.Check.{check_row, is_judged_unique, judgement_text}
+use Rattle.tilebench.specs.Inner.Rooms.{NamesItsTypes}
+use Rattle.tilebench.specs.Inner.Gives.{HoldsWhole}
+use Rattle.tilebench.proofs.Fronts.{input_of, reading_stop}
+use Rattle.tilebench.proofs.commands.check.CheckSourceRoom.answer_from.Goals as goal
+
+pub returns-in_err-sys-clause-answer : goal.returns-in_err-sys-clause-answer
+returns-in_err-sys-clause-answer g c =
+    let p = err_from_is_err_and c.from_residual.result c.from_residual.ensures.1 in
+    rw (p.1, p.2) (reading_stop g.S.Source.left g.S.Source.faults (λ (r : Checked). is_judged_unique r.judgement) (λ (r : Checked). judgement_text r.sys r.judgement) (λ (r : Checked). NamesItsTypes r.sys r.judgement) check_row refl (HoldsWhole (λ input (found : TileSystem × List Place). IsSystemThenSequence input found.0 found.1)) c.args.source.now c.system_and_sequence.new.source c.in_err-sys.field-0.0 c.in_err-sys.ensures.read)
+
+pub returns-in_err-judgement-clause-answer : goal.returns-in_err-judgement-clause-answer
+returns-in_err-judgement-clause-answer g c =
+    let p = err_from_is_err_and c.from_residual-in_err-judgement.result c.from_residual-in_err-judgement.ensures.1 in
+    rw (p.1, p.2) c.in_ok-sys.ensures.read.1
+
+pub returns-clause-answer : goal.returns-clause-answer
+returns-clause-answer g c =
+    let read = c.in_ok-sys.ensures.read in
+    let input = read.0.0 in
+    let found = read.0.2 in (
+      record {
+        answer = record {
+          input = input;
+          read = input_of g.S.Source.left g.S.Source.faults check_row refl (g.S.Source.left c.args.source.now) (g.S.Source.left c.system_and_sequence.new.source) input read.0.1;
+          answer = record { none = refl; told = record { sys = c.in_ok-sys.sys; sequence = c.in_ok-sys.sequence; read = found; judgement = c.in_ok-judgement.judgement; judged = c.in_ok-judgement.ensures.judged; printed = refl; answer = refl } };
+        };
+        prints = c.in_ok-judgement.ensures.types;
+      },
+      read.1,
+    )
