@@ -61,6 +61,7 @@ pub fn read_certificate_in_blocks<S: Source>(
     requires mark { (rest : List ℕ) → IsMark (begun.text.items ++ rest) from }
     ensures read { ReadsInBlocks S.left S.faults (certificate_format sys.now) begun.text.items from
         (λ whole. ReadsCertificate sys.now whole from) source.old source.new result }
+    ensures unread { begun.is_whole ≡ true → source.new ≡ source.old }
     ensures later { S.faults source.old ≤ S.faults source.new }
     ensures fits { IfOk result (λ c. Fits sys.now (places_of c)) }
 {

@@ -61,6 +61,7 @@ pub fn read_sequence_in_blocks<S: Source>(
     requires mark { (rest : List ℕ) → IsMark (begun.text.items ++ rest) from }
     ensures read { ReadsInBlocks S.left S.faults (sequence_format sys.now) begun.text.items from
         (λ whole. ReadsSequence sys.now whole from) source.old source.new result }
+    ensures unread { begun.is_whole ≡ true → source.new ≡ source.old }
     ensures later { S.faults source.old ≤ S.faults source.new }
     ensures fits { IfOk result (Fits sys.now) }
     ensures count { IfOk result (λ sequence. length sequence < 2 ^ 32) }
@@ -101,6 +102,7 @@ pub fn read_grid_in_blocks<S: Source>(
     requires mark { (rest : List ℕ) → IsMark (begun.text.items ++ rest) from }
     ensures read { ReadsInBlocks S.left S.faults (grid_format sys.now) begun.text.items from
         (λ whole. ReadsGrid sys.now whole from) source.old source.new result }
+    ensures unread { begun.is_whole ≡ true → source.new ≡ source.old }
     ensures later { S.faults source.old ≤ S.faults source.new }
     ensures fits { IfOk result (λ grid. Fits sys.now grid.tiles) }
     ensures distinct { IfOk result (λ grid. HasDistinctSites grid.tiles) }

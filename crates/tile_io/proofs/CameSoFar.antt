@@ -12,7 +12,7 @@ use Rattle.tile_io.specs.declared.stretch.Stretch.TheVariants.{Left}
 use Rattle.tile_io.specs.declared.whole.ReadStop.{ReadStop}
 use Rattle.tile_io.specs.declared.whole.ReadStop.TheVariants.{Failed, TooLong, NoMemory}
 use Rattle.tile_io.specs.declared.blocks.InputStop.TheVariants.{Unread}
-use Rattle.tile_io.specs.Blocks.{TakesOn, IsWholeText, ReadsInBlocks}
+use Rattle.tile_io.specs.Blocks.{TakesOn, IsWholeText, ReadsInBlocks, stop_of_text}
 use Rattle.tile_io.specs.Faults.{Rose}
 use Rattle.tile_io.specs.Formats.{Format, ReadsOrStops, missing_cause}
 use Rattle.tile_io.specs.Checks.{Table, table_format}
@@ -20,19 +20,15 @@ use Rattle.tile_io.specs.LineReader.{ReadsInto}
 use Rattle.tile_io.specs.Lines.{lines_of, lines_from, text_of}
 use Rattle.tile_io.specs.NextLine.{IsMark}
 use Rattle.tile_io.specs.Inner.Blocks.{Comes, StopsComing, IsEnded}
-use Rattle.tile_io.specs.Inner.Stops.{IsStopBelow, stop_after, stop_of_text}
+use Rattle.tile_io.specs.Inner.Stops.{IsStopBelow, stop_after}
 use Rattle.tile_io.specs.Inner.Stretches.{Progress, ReadsSoFar, EndsInto, IsStretch, ReadsRest, moved}
 use Rattle.tile_io.proofs.TakenOn.{takes_more}
 use Rattle.tile_io.proofs.Coming.{comes_none}
 use Rattle.tile_io.proofs.Prefixes.{AllEnded, progress_on, end_line_on, fault_on, all_ended, passed_ended}
-use Rattle.tile_io.proofs.Progress.{progress_none, same_marks, rest_of}
+use Rattle.tile_io.proofs.Progress.{progress_none, same_marks, rest_of, start}
 use Rattle.tile_io.proofs.Stretching.{fault_few, told_here, last_ends, last_fails}
 use Rattle.tile_io.proofs.Inputs.{stopped}
 use Rattle.tile_io.proofs.Walks.{mark_within}
-
--- the start of a text
-abbrev pub start : Mark
-start = record { at = 0; line = 1 }
 
 -- the mark behind a part of a text with so many lines
 abbrev pub behind_part : List ℕ → ℕ → Mark

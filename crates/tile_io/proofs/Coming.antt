@@ -1,19 +1,15 @@
 -- Blocks of a text come one after another.
-use Rattle.std.proofs.Common.{◌≡◌, ◌≤◌, ◌+◌, ℕ, List, [], ◌++◌, length, Option, Some, None, refl, subst, ◌∙◌, arith, length-append}
+use Rattle.std.proofs.Common.{◌≡◌, ◌≤◌, ◌+◌, ℕ, List, [], ◌++◌, length, Option, refl, subst, ◌∙◌, arith, length-append}
 use Rattle.std.specs.Io.KnownBytes.{Consumes}
 use Rattle.tile_io.specs.declared.whole.ReadStop.{ReadStop}
 use Rattle.tile_io.specs.declared.whole.ReadStop.TheVariants.{Failed, TooLong, NoMemory}
 use Rattle.tile_io.specs.Faults.{Rose}
 use Rattle.tile_io.specs.Inner.Blocks.{Comes, StopsComing}
-use Rattle.tile_io.proofs.Bytes.{Consumes-then}
-
-consumes_none : (a : Option (List ℕ)) → Consumes a a []
-consumes_none None = tt
-consumes_none (Some bytes) = refl
+use Rattle.tile_io.proofs.Bytes.{Consumes-none, Consumes-then}
 
 module _ {S : Type 0} (left : S → Option (List ℕ)) (faults : S → ℕ) where
   pub comes_none : (came : ℕ) (source : S) → came ≤ 67108864 → Comes left faults came came [] source source
-  comes_none came source short = record { taken = consumes_none (left source); count = omega arith; short = short; stays = refl }
+  comes_none came source short = record { taken = Consumes-none (left source); count = omega arith; short = short; stays = refl }
 
   pub comes_all : (n m : ℕ) (more : List ℕ) (old new : S) → Comes left faults n m more old new → Comes left faults n (n + length more) more old new
   comes_all n m more old new comes = let Here : ℕ → Type 0 = λ k. Comes left faults n k more old new in subst Here comes.count comes

@@ -6,9 +6,8 @@ use Rattle.tile_io.specs.declared.fault.TextStop.TheVariants as stops
 use Rattle.tile_io.specs.declared.mark.Mark.{Mark}
 use Rattle.tile_io.specs.declared.blocks.InputStop.TheVariants.{Unread}
 use Rattle.tile_io.specs.declared.whole.ReadStop.TheVariants.{NoMemory}
-use Rattle.tile_io.specs.Blocks.{ReadsInBlocks, StopsInBlocks, IsWholeText}
+use Rattle.tile_io.specs.Blocks.{ReadsInBlocks, StopsInBlocks, IsWholeText, stop_of_text}
 use Rattle.tile_io.specs.Formats.{Format, ReadsOrStops}
-use Rattle.tile_io.specs.Inner.Stops.{stop_of_text}
 use Rattle.tile_io.proofs.TakenOn.{takes_none}
 
 module _ {S : Type 0} (left : S → Option (List ℕ)) (faults : S → ℕ) {Item Answer : Type 0} (format : Format Item) (front : List ℕ) (from : Mark) (IsReadAs : List ℕ → Answer → Type 0) (old new : S) where

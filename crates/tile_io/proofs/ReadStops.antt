@@ -1,8 +1,8 @@
 -- Why a source was not read whole.
-use Rattle.std.proofs.Common.{◌≡◌, ◌<◌, ◌≤◌, ◌+◌, ℕ, List, [], ◌++◌, length, length-append, Option, Err, refl, ap, arith}
+use Rattle.std.proofs.Common.{◌≡◌, ◌≤◌, ◌+◌, ℕ, List, [], ◌++◌, length, length-append, Option, Err, refl, ap, arith}
 use Rattle.tile_io.specs.declared.whole.ReadStop.{ReadStop}
 use Rattle.tile_io.specs.declared.whole.ReadStop.TheVariants.{Failed, TooLong, NoMemory}
-use Rattle.tile_io.specs.Blocks.{ReadsOn, TakesOn}
+use Rattle.tile_io.specs.Blocks.{StopsBefore}
 use Rattle.tile_io.specs.Faults.{Rose}
 use Rattle.tile_io.specs.Whole.{ReadsWhole}
 
@@ -15,8 +15,8 @@ module _ {S Bytes : Type 0} (left : S → Option (List ℕ)) (faults : S → ℕ
       omega (arith, size, nothing, same)
 
   -- it was not read on
-  pub not_whole : (bytes : List ℕ) (stop : ReadStop) → ReadsOn left faults front bytes 67108865 old new (Err stop) → (stop ≡ NoMemory → TakesOn (left old) (left new) front bytes × (length bytes < 67108865)) → ReadsWhole left faults bytes_of old new (Err stop)
-  not_whole bytes Failed read more =
+  pub not_whole : (stop : ReadStop) → StopsBefore left faults front 67108865 old new stop → ReadsWhole left faults bytes_of old new (Err stop)
+  not_whole Failed read =
       let size = taken_size read.0.0 read.0.1.0 read.0.1.2 in
       let raised : Rose (faults old) (faults new) = read.1 in
       record {
@@ -30,19 +30,18 @@ module _ {S Bytes : Type 0} (left : S → Option (List ℕ)) (faults : S → ℕ
         stays = λ is. absurd (is refl);
         later = later;
       }
-  not_whole bytes NoMemory read more =
-      let all = more refl in
-      let size = taken_size bytes all.0.0 all.0.2 in
+  not_whole NoMemory read =
+      let size = taken_size read.0.0 read.0.1.0 read.0.1.2 in
       let same : faults new ≡ faults old = read.1 in
       record {
         bytes = tt;
         end = tt;
         short = tt;
         too_long = λ is. absurd (cc is);
-        no_memory = λ _. (all.0.0, all.0.1, (let few = all.1 in omega (arith, size, few)));
+        no_memory = λ _. (read.0.1.0, read.0.1.1, (let few = read.0.2 in omega (arith, size, few)));
         failed = λ is. absurd (cc is);
         rose = λ is. absurd (cc is);
         stays = λ _. same;
         later = later;
       }
-  not_whole bytes TooLong read more = absurd read
+  not_whole TooLong read = absurd read

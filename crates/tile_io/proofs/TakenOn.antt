@@ -1,8 +1,8 @@
 -- Bytes that are taken from a source on and on.
-use Rattle.std.proofs.Common.{ℕ, List, [], ◌++◌, Option, Some, None, refl, ap, sym, ◌∙◌, append_assoc, append-nil}
+use Rattle.std.proofs.Common.{ℕ, List, [], ◌++◌, Option, ap, sym, ◌∙◌, append_assoc, append-nil}
 use Rattle.std.specs.Io.KnownBytes.{Consumes}
 use Rattle.tile_io.specs.Blocks.{TakesOn}
-use Rattle.tile_io.proofs.Bytes.{Consumes-then}
+use Rattle.tile_io.proofs.Bytes.{Consumes-none, Consumes-then}
 
 -- more bytes stand behind those that were taken
 pub takes_more : (a b c : Option (List ℕ)) (front whole more : List ℕ) → TakesOn a b front whole → Consumes b c more → TakesOn a c front (whole ++ more)
@@ -10,5 +10,4 @@ takes_more a b c front whole more taken read = (taken.0 ++ more, Consumes-then a
 
 -- nothing was taken yet
 pub takes_none : (left : Option (List ℕ)) (front : List ℕ) → TakesOn left left front front
-takes_none None front = ([], tt, sym (append-nil front))
-takes_none (Some xs) front = ([], refl, sym (append-nil front))
+takes_none left front = ([], Consumes-none left, sym (append-nil front))

@@ -1,9 +1,12 @@
 -- What it is to read on from a source, and to read a text that some bytes begin and a source goes on with.
-use Rattle.std.specs.Prelude.{◌≡◌, ◌≢◌, ◌≤◌, ◌<◌, ◌+◌, ◌++◌, ℕ, Bool, true, false, List, [], length, Option, Result, Ok, Err}
+use Rattle.std.specs.Prelude.{◌≡◌, ◌≤◌, ◌<◌, ◌+◌, ◌++◌, ℕ, Bool, true, false, List, [], length, Option, Result, Ok, Err}
 use Rattle.std.specs.Io.KnownBytes.{Consumes, IsAtEnd}
 use Rattle.tile_io.specs.declared.blocks.Begun.{Begun}
+use Rattle.tile_io.specs.declared.blocks.TheConstants.{BLOCK}
 use Rattle.tile_io.specs.declared.blocks.InputStop.{InputStop}
 use Rattle.tile_io.specs.declared.blocks.InputStop.TheVariants.{Unread, Refused}
+use Rattle.tile_io.specs.declared.fault.TextStop.{TextStop}
+use Rattle.tile_io.specs.declared.fault.TextStop.TheVariants as stops
 use Rattle.tile_io.specs.declared.limits.TheConstants.{MOST_INPUT}
 use Rattle.tile_io.specs.declared.mark.Mark.{Mark}
 use Rattle.tile_io.specs.declared.whole.ReadStop.{ReadStop}
@@ -15,14 +18,27 @@ use Rattle.tile_io.specs.Formats.{Format, Fault}
 abbrev pub TakesOn : Option (List ℕ) → Option (List ℕ) → List ℕ → List ℕ → Type 0
 TakesOn left left_after front whole = (taken : List ℕ) × Consumes left left_after taken × (whole ≡ front ++ taken)
 
--- They were taken up to the source's end, or until there were so many; or the source failed before there were so many; or there was no memory.
+-- what a stop of a text is where the text comes from a source
+abbrev pub stop_of_text : TextStop → InputStop
+stop_of_text (stops.Fault fault) = Refused fault
+stop_of_text stops.NoMemory = Unread NoMemory
+
 module _ {S : Type 0} (left : S → Option (List ℕ)) (faults : S → ℕ) where
+  -- bytes were taken until there were so many, or up to the source's end, where there are fewer
+  abbrev pub ReadsUpTo : List ℕ → List ℕ → ℕ → S → S → Bool → Type 0
+  ReadsUpTo front whole most old new true = TakesOn (left old) (left new) front whole × IsAtEnd (left new) × (length whole < most) × (faults new ≡ faults old)
+  ReadsUpTo front whole most old new false = TakesOn (left old) (left new) front whole × (length whole ≡ most) × (faults new ≡ faults old)
+
+  -- before there were so many, the source failed, or there was no memory
+  abbrev pub StopsBefore : List ℕ → ℕ → S → S → ReadStop → Type 0
+  StopsBefore front most old new Failed = ((all : List ℕ) × TakesOn (left old) (left new) front all × (length all < most)) × Rose (faults old) (faults new)
+  StopsBefore front most old new NoMemory = ((all : List ℕ) × TakesOn (left old) (left new) front all × (length all < most)) × (faults new ≡ faults old)
+  StopsBefore front most old new TooLong = ⊥
+
+  -- one or the other
   abbrev pub ReadsOn : List ℕ → List ℕ → ℕ → S → S → Result Bool ReadStop → Type 0
-  ReadsOn front whole most old new (Ok true) = TakesOn (left old) (left new) front whole × IsAtEnd (left new) × (length whole < most) × (faults new ≡ faults old)
-  ReadsOn front whole most old new (Ok false) = TakesOn (left old) (left new) front whole × (length whole ≡ most) × (faults new ≡ faults old)
-  ReadsOn front whole most old new (Err Failed) = ((all : List ℕ) × TakesOn (left old) (left new) front all × (length all < most)) × Rose (faults old) (faults new)
-  ReadsOn front whole most old new (Err NoMemory) = ((all : List ℕ) × TakesOn (left old) (left new) front all × (length all ≤ most)) × (faults new ≡ faults old)
-  ReadsOn front whole most old new (Err TooLong) = ⊥
+  ReadsOn front whole most old new (Ok is_end) = ReadsUpTo front whole most old new is_end
+  ReadsOn front whole most old new (Err stop) = StopsBefore front most old new stop
 
 -- the text that some bytes begin and all that was left of a source goes on with
 pub record IsWholeText (left left_after : Option (List ℕ)) (front whole : List ℕ) : Type 0 where
@@ -35,18 +51,17 @@ module _ {S : Type 0} (left : S → Option (List ℕ)) (faults : S → ℕ) wher
   abbrev pub IsUnread : List ℕ → S → S → ReadStop → Type 0
   IsUnread front old new Failed = ((all : List ℕ) × TakesOn (left old) (left new) front all × (length all ≤ MOST_INPUT)) × Rose (faults old) (faults new)
   IsUnread front old new TooLong = ((all : List ℕ) × TakesOn (left old) (left new) front all × (length all ≡ MOST_INPUT + 1)) × (faults new ≡ faults old)
-  IsUnread front old new NoMemory = ((all : List ℕ) × TakesOn (left old) (left new) front all × (length all ≤ MOST_INPUT + 1)) × (faults new ≡ faults old)
+  IsUnread front old new NoMemory = ((all : List ℕ) × TakesOn (left old) (left new) front all × (length all ≤ MOST_INPUT)) × (faults new ≡ faults old)
 
-  -- a text was begun by what was taken of a source; or the source failed, or there was no memory
+  -- a text was begun by the first block of what was left of a source, or by all of it where that is less
   abbrev pub Begins : S → S → Result Begun ReadStop → Type 0
-  Begins old new (Ok begun) =
-      TakesOn (left old) (left new) [] begun.text.items × (length begun.text.items ≤ MOST_INPUT) × (begun.is_whole ≡ true → IsAtEnd (left new)) × (faults new ≡ faults old)
-  Begins old new (Err stop) = IsUnread [] old new stop × (stop ≢ TooLong)
+  Begins old new (Ok begun) = ReadsUpTo left faults [] begun.text.items BLOCK old new begun.is_whole
+  Begins old new (Err stop) = StopsBefore left faults [] BLOCK old new stop
 
   -- a text that begins with these bytes was read whole
-  abbrev pub Completes : List ℕ → S → S → Result Begun ReadStop → Type 0
-  Completes front old new (Ok begun) = IsWholeText (left old) (left new) front begun.text.items × (begun.is_whole ≡ true) × (faults new ≡ faults old)
-  Completes front old new (Err stop) = IsUnread front old new stop
+  abbrev pub Completes : {Text : Type 0} → (Text → List ℕ) → List ℕ → S → S → Result Text ReadStop → Type 0
+  Completes bytes front old new (Ok text) = IsWholeText (left old) (left new) front (bytes text) × (faults new ≡ faults old)
+  Completes bytes front old new (Err stop) = IsUnread front old new stop
 
   module _ {Item : Type 0} (format : Format Item) (front : List ℕ) (from : Mark) where
     -- the whole text has this fault, or did not come

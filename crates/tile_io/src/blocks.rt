@@ -20,8 +20,8 @@ use crate::whole_text::read_text;
 use memchr::memrchr;
 use std::alloc::Global;
 
-// How many bytes of a text are read before their lines are taken: 1 MiB.
-const BLOCK: usize = 1_048_576;
+/// How many bytes of a text are read before their lines are taken: 1 MiB.
+pub const BLOCK: usize = 1_048_576;
 
 /// Why a text that comes from a source was not read.
 #[derive(Clone, Copy, Debug, PartialEq, Eq)]
@@ -50,7 +50,7 @@ impl From<ReadStop> for InputStop {
 }
 
 impl From<TextStop> for InputStop {
-    ghost use Rattle.tile_io.specs.Inner.Stops.{stop_of_text};
+    ghost use Rattle.tile_io.specs.Blocks.{stop_of_text};
 
     ghost from_gives = { λ text stop. stop ≡ stop_of_text text };
 
@@ -63,7 +63,7 @@ impl From<TextStop> for InputStop {
 }
 
 /// Begins a text with the first block of what is left of a source, or with all of it where that is
-/// less.
+/// less: then the source has said that it is at its end, and need not be asked again.
 pub fn begin_text<S: Source>(alloc: Global, source: &mut S) -> Result<Begun, ReadStop>
     ensures read { Begins S.left S.faults source.old source.new result }
     ensures later { S.faults source.old ≤ S.faults source.new }
@@ -73,21 +73,20 @@ pub fn begin_text<S: Source>(alloc: Global, source: &mut S) -> Result<Begun, Rea
     Ok(Begun { text, is_whole })
 }
 
-/// All that is left of a source, behind the first bytes of a text.
-pub fn read_rest<S: Source>(source: &mut S, begun: Begun) -> Result<Begun, ReadStop>
+/// The text that was begun, with all that is left of a source.
+pub fn read_rest<S: Source>(source: &mut S, begun: Begun) -> Result<Vec<u8>, ReadStop>
     requires short { length begun.text.items ≤ MOST_INPUT }
     requires whole { begun.is_whole ≡ true → IsAtEnd (S.left source.old) }
-    ensures read { Completes S.left S.faults begun.text.items source.old source.new result }
+    ensures read { Completes S.left S.faults (λ text. text.items) begun.text.items
+        source.old source.new result }
+    ensures unread { begun.is_whole ≡ true → source.new ≡ source.old }
     ensures later { S.faults source.old ≤ S.faults source.new }
 {
     let Begun { mut text, is_whole } = begun;
     if !is_whole && !read_on(source, &mut text, MOST_INPUT + 1)? {
         return Err(ReadStop::TooLong);
     }
-    Ok(Begun {
-        text,
-        is_whole: true,
-    })
+    Ok(text)
 }
 
 /// Reads the lines of a text, up to its own end line or the end of the input. The text was begun,
@@ -110,6 +109,7 @@ pub fn read_text_in_blocks<S: Source, R: LineReader>(
         (λ whole _. (to : Mark) × ReadsInto (table_format (R.table (R.context reader.old)))
         whole from (R.holds reader.new) to)
         source.old source.new result }
+    ensures unread { begun.is_whole ≡ true → source.new ≡ source.old }
     ensures later { S.faults source.old ≤ S.faults source.new }
     ensures context { R.context reader.new ≡ R.context reader.old }
 {
@@ -144,13 +144,14 @@ fn read_blocks<S: Source, R: LineReader>(
     let mut passed = from.line - 1;
     let mut missing = Cause::NoHeader;
     'lines: loop {
+        let kept = text.len();
         if read_block(source, &mut text, &mut came)? {
             return match read_last_lines(reader, &text, Mark::start(), missing) {
                 Ok(_) => Ok(()),
                 Err(stop) => Err(stop_after(passed, stop).into()),
             };
         }
-        let count = whole_lines(&text);
+        let count = whole_lines(&text, kept);
         match read_lines(reader, &text[..count], Mark::start(), missing) {
             Ok(Stretch::Left(end, next)) => {
                 drop_front(&mut text, count);
@@ -210,13 +211,15 @@ fn pass_rest<S: Source>(
     }
 }
 
-// How many bytes the lines have that a newline ends.
-fn whole_lines(text: &[u8]) -> usize
+// How many bytes the lines have up to the last newline behind so many bytes: none where there is none
+// there.
+fn whole_lines(text: &[u8], kept: usize) -> usize
+    requires { kept ≤ length text.now }
     ensures within { result ≤ length text.now }
     ensures ended { IsEnded (take result text.now) }
 {
-    match memrchr(b'\n', text) {
-        Some(last) => last + 1,
+    match memrchr(b'\n', &text[kept..]) {
+        Some(last) => kept + last + 1,
         None => 0,
     }
 }

@@ -8,7 +8,7 @@ use Rattle.tile_io.specs.Faults.{Rose}
 
 -- nothing, or lines that a newline ends
 abbrev pub IsEnded : List ℕ → Type 0
-IsEnded text = (text ≡ []) ⊎ ((most : List ℕ) × (text ≡ most ++ 10 ∷ []))
+IsEnded text = (text ≡ []) ⊎ ((before : List ℕ) × (text ≡ before ++ 10 ∷ []))
 
 -- the source is at its end, or some bytes came
 abbrev pub EndsOrCame : Bool → Option (List ℕ) → List ℕ → Type 0
@@ -20,7 +20,7 @@ module _ {S : Type 0} (left : S → Option (List ℕ)) (faults : S → ℕ) wher
   abbrev pub StopsComing : ℕ → S → S → ReadStop → Type 0
   StopsComing came old new Failed = ((more : List ℕ) × Consumes (left old) (left new) more × (came + length more ≤ MOST_INPUT)) × Rose (faults old) (faults new)
   StopsComing came old new TooLong = ((more : List ℕ) × Consumes (left old) (left new) more × (came + length more ≡ MOST_INPUT + 1)) × (faults new ≡ faults old)
-  StopsComing came old new NoMemory = ((more : List ℕ) × Consumes (left old) (left new) more × (came + length more ≤ MOST_INPUT + 1)) × (faults new ≡ faults old)
+  StopsComing came old new NoMemory = ((more : List ℕ) × Consumes (left old) (left new) more × (came + length more ≤ MOST_INPUT)) × (faults new ≡ faults old)
 
   -- bytes of it that came
   pub record Comes (came came_after : ℕ) (more : List ℕ) (old new : S) : Type 0 where

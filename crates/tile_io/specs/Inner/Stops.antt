@@ -1,14 +1,7 @@
--- What a stop of a text is where the text comes from a source.
+-- What a stop of lines is that stand behind others.
 use Rattle.std.specs.Prelude.{◌+◌, ◌<◌, ℕ}
-use Rattle.tile_io.specs.declared.blocks.InputStop.{InputStop}
-use Rattle.tile_io.specs.declared.blocks.InputStop.TheVariants.{Unread, Refused}
 use Rattle.tile_io.specs.declared.fault.TextStop.{TextStop}
 use Rattle.tile_io.specs.declared.fault.TextStop.TheVariants as stops
-use Rattle.tile_io.specs.declared.whole.ReadStop.TheVariants.{NoMemory}
-
-abbrev pub stop_of_text : TextStop → InputStop
-stop_of_text (stops.Fault fault) = Refused fault
-stop_of_text stops.NoMemory = Unread NoMemory
 
 -- a stop of lines that stand behind so many others
 abbrev pub stop_after : ℕ → TextStop → TextStop

@@ -5,12 +5,11 @@ use Rattle.std.proofs.lemmas.Result.{err_from_is_err_and}
 use Rattle.tile_io.specs.declared.fault.Cause.TheVariants.{NoHeader}
 use Rattle.tile_io.specs.declared.mark.Mark.{Mark}
 use Rattle.tile_io.specs.declared.stretch.Stretch.{Stretch}
-use Rattle.tile_io.specs.Blocks.{ReadsInBlocks}
+use Rattle.tile_io.specs.Blocks.{ReadsInBlocks, stop_of_text}
 use Rattle.tile_io.specs.Checks.{table_format}
 use Rattle.tile_io.specs.LineReader.{ReadsInto}
 use Rattle.tile_io.specs.NextLine.{IsMark}
 use Rattle.tile_io.specs.Inner.Blocks.{EndsOrCame, IsEnded}
-use Rattle.tile_io.specs.Inner.Stops.{stop_of_text}
 use Rattle.tile_io.specs.Inner.Stretches.{IsStretch, ReadsRest, moved}
 use Rattle.tile_io.proofs.CameSoFar.{CameSoFar, nothing_came, block_came, lines_taken, whole_came, rest_came, stops_coming, whole_ends, whole_fails, whole_few, whole_stops, told_behind}
 use Rattle.tile_io.proofs.Stretching.{some_line}
