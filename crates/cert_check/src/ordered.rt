@@ -44,10 +44,12 @@ impl OrderedCertificate {
 impl EntryList for OrderedCertificate {
     ghost entries = { λ c. c };
 
+    #[inline(always)]
     fn len(&self) -> usize {
         self.order.len()
     }
 
+    #[inline(always)]
     fn get(&self, i: usize) -> Entry {
         let place = self.order.get(i);
         let sides = self.sides[i];

@@ -6,8 +6,3 @@ use Rattle.tile_io.specs.Lines.{line_of}
 pub place_held : (held x y name : List ℕ) →
     ((held ++ codes "place " ++ x ++ 32 ∷ []) ++ y ++ 32 ∷ []) ++ name ++ 10 ∷ [] ≡ held ++ line_of (codes "place" ∷ x ∷ y ∷ name ∷ [])
 place_held held x y name = simp append_assoc refl
-
--- a keyword and three words
-pub far_held : (held x y name : List ℕ) →
-    (((held ++ codes "place ") ++ x ++ 32 ∷ []) ++ y ++ 32 ∷ []) ++ name ++ 10 ∷ [] ≡ held ++ line_of (codes "place" ∷ x ∷ y ∷ name ∷ [])
-far_held held x y name = simp append_assoc refl

@@ -147,7 +147,8 @@ fn front_of<S: Source>(alloc: Global, source: &mut S) -> Result<SystemFront, Sto
     let begun = begin_text(alloc, source)?;
     match read_front(alloc, &begun.text) {
         Ok((sys, end)) => Ok(SystemFront { sys, begun, end }),
-        // What follows may mend it; and where nothing does, it is told again.
+        Err(stop) if begun.is_whole => Err(stop),
+        // What follows may mend it.
         Err(_) => front_of_whole(alloc, source, begun),
     }
 }
@@ -164,7 +165,11 @@ fn front_of_whole<S: Source>(
         → GivesBehind left S.left S.faults IsFront FailsAtFront source.old source.new result }
     ensures later { S.faults source.old ≤ S.faults source.new }
 {
-    let begun = read_rest(source, begun)?;
-    let (sys, end) = read_front(alloc, &begun.text)?;
+    let text = read_rest(source, begun)?;
+    let (sys, end) = read_front(alloc, &text)?;
+    let begun = Begun {
+        text,
+        is_whole: true,
+    };
     Ok(SystemFront { sys, begun, end })
 }
