@@ -4,6 +4,8 @@
 #[cfg(test)]
 mod batches;
 #[cfg(test)]
+mod block_ends;
+#[cfg(test)]
 mod blocks;
 #[cfg(test)]
 mod cases;
