@@ -1,6 +1,8 @@
-//! Tests of Turing machines.
+//! Tests of Turing machines, and of the counter.
 #![tactic(auto)]
 
+#[cfg(test)]
+mod counting;
 #[cfg(test)]
 mod machines;
 #[cfg(test)]

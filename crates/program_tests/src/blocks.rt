@@ -1,4 +1,6 @@
 // Inputs of more than one block, which are read block by block.
+use crate::block_ends::{BLOCK, ends_so};
+use crate::limits::items;
 use program_runs::{Failures, Outcome, answered, run};
 use std::alloc::{AllocError, Global};
 use std::sync::Wait;
@@ -128,5 +130,83 @@ fn reads_block_by_block(rt: HostRuntime) -> Result<(), Fail> {
     let again = replayed(&rt, alloc, "\n# a remark\n", &places, "\n", failures)?;
     assert!(rt; again.is(Status::Done, &places, ""));
     assert_eq!(rt; first_unlike_fault(&rt, alloc, &places)?, None);
+    Ok(())
+}
+
+// Two-input rules of one symbol, whose tiles fill a box of 182 by 182 sites in one way.
+const RULES: &str =
+    "quadrant 1\nsymbol abcdefgh\nrule abcdefgh abcdefgh abcdefgh abcdefgh\nsize 181 181\nend\n";
+
+// What a run that ends well prints behind a text.
+fn text_of<R: Threads + Wait + Sync>(
+    rt: &R,
+    alloc: Global,
+    words: &[&str],
+    text: &str,
+    behind: &str,
+) -> Result<String, AllocError> {
+    let whole = format!(in alloc; "{text}{behind}")?;
+    let ran = answered(rt, alloc, words, whole.as_str())?;
+    if ran.status != Status::Done {
+        return Ok(String::new(alloc));
+    }
+    String::from_str(alloc, str::from_utf8(&ran.out).unwrap_or(""))
+}
+
+// Whether the run ends well so on more than a block behind a system.
+fn ends_well_behind<R: Threads + Wait + Sync>(
+    rt: &R,
+    alloc: Global,
+    words: &[&str],
+    system: &str,
+    long: &str,
+    out: &str,
+) -> Result<bool, AllocError> {
+    let text = format!(in alloc; "{system}{long}")?;
+    let is_so = ends_so(rt, alloc, words, text.as_bytes(), Status::Done, out, "")?;
+    Ok(is_so && long.len() > BLOCK)
+}
+
+// A growth and a certificate of more than a block each: what grew is legal, and in one way, and so
+// the certificate is good.
+#[test]
+fn checks_and_verifies_block_by_block(rt: HostRuntime) -> Result<(), Fail> {
+    let alloc = rt.alloc();
+    let system = text_of(&rt, alloc, &["quadrant"], RULES, "")?;
+    let grown = text_of(&rt, alloc, &["grow"], &system, "")?;
+    assert!(rt; grown.ends_with("closed terminal\nunique yes\n"));
+    let judged = "legal yes\nunique yes\n";
+    assert!(rt; ends_well_behind(&rt, alloc, &["check"], &system, &grown, judged)?);
+    let marks = text_of(&rt, alloc, &["certify"], &system, &grown)?;
+    let words = ["verify", "--workers", "4"];
+    assert!(rt; ends_well_behind(&rt, alloc, &words, &system, &marks, "verified yes\n")?);
+    Ok(())
+}
+
+// The sides of a type without glues, with spaces between them.
+const WIDE_SIDES: &str = "-                                                                \
+    -                                                                \
+    -                                                                -";
+
+// A system of more than a block, and what stands behind it.
+#[test]
+fn reads_a_system_of_more_than_a_block(rt: HostRuntime) -> Result<(), Fail> {
+    let alloc = rt.alloc();
+    let mut system = items(alloc, "tile", WIDE_SIDES, 5100)?;
+    system.push_str("box 0 0 0 0\nseed 0 0 n7\nend\n")?;
+    assert!(rt; system.len() > BLOCK);
+    for (behind, status, out, err) in [
+        ("place 0 0 n7\n", Status::Done, "place 0 0 n7\n", ""),
+        ("", Status::No, "stuck seed 0 0\n", ""),
+        (
+            "place 0 0 n7\nplace 0 0 n5100\n",
+            Status::Text,
+            "",
+            "refused text line 5107 UnknownName\n",
+        ),
+    ] {
+        let text = format!(in alloc; "{system}{behind}")?;
+        assert!(rt; ends_so(&rt, alloc, &["replay"], text.as_bytes(), status, out, err)?);
+    }
     Ok(())
 }

@@ -4,7 +4,8 @@ use std::test::Fail;
 use tilebench::Status;
 use worked_systems::{CHAIN, EDGES};
 
-const CHAINED: &str = "place 0 0 S\nplace 1 0 B\nplace 2 0 C\nclosed terminal\nunique yes\n";
+pub(crate) const CHAINED: &str =
+    "place 0 0 S\nplace 1 0 B\nplace 2 0 C\nclosed terminal\nunique yes\n";
 
 // The chain with one line changed, which is refused.
 const REFUSED: [Change; 27] = [

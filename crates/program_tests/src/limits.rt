@@ -50,7 +50,12 @@ fn refuses_each_front_of_a_text(rt: HostRuntime) -> Result<(), Fail> {
 }
 
 // A text of so many items, each with a name of its own.
-fn items(alloc: Global, item: &str, rest: &str, count: u32) -> Result<String, AllocError> {
+pub(crate) fn items(
+    alloc: Global,
+    item: &str,
+    rest: &str,
+    count: u32,
+) -> Result<String, AllocError> {
     let mut text = String::from_str(alloc, "tiles 1\ntau 1\n")?;
     for number in 0..count {
         let line = format!(in alloc; "{item} n{number} {rest}\n")?;

@@ -6,6 +6,8 @@ mod input;
 #[cfg(test)]
 mod sequences;
 #[cfg(test)]
+mod showing;
+#[cfg(test)]
 mod systems;
 #[cfg(test)]
 mod words;

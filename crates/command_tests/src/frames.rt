@@ -1,0 +1,5 @@
+// Frames of a running growth.
+mod answers;
+mod commands;
+mod meetings;
+mod watchers;

@@ -1,0 +1,4 @@
+// Batches: answers, refusals, and workers at one board.
+mod answers;
+mod refusals;
+mod workers;

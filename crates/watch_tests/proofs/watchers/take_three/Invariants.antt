@@ -1,4 +1,0 @@
-use Rattle.watch_tests.proofs.watchers.take_three.Given as goal
-
-abbrev pub ghosts-take_counted : goal.ghosts-take_counted
-ghosts-take_counted a = record { name = a.blank.name; parts = a.blank.parts }
