@@ -6,13 +6,11 @@ use std::alloc::{AllocError, Global};
 use std::sync::Wait;
 use std::test::Fail;
 use std::thread::Threads;
+use tile_io::BLOCK;
 use tilebench::Status;
 use worked_systems::CHAIN;
 
-// How many bytes a block has, and how many of them a call of a source gives: no call goes over a
-// block's end.
-pub(crate) const BLOCK: usize = 1_048_576;
-
+// How many bytes a call of a source gives: none goes over a block's end.
 const PIECE: usize = 4096;
 
 // Whether the run ends so on an input, where the source would fail behind the call that told its

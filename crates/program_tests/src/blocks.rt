@@ -1,11 +1,12 @@
 // Inputs of more than one block, which are read block by block.
-use crate::block_ends::{BLOCK, ends_so};
+use crate::block_ends::ends_so;
 use crate::limits::items;
 use program_runs::{Failures, Outcome, answered, run};
 use std::alloc::{AllocError, Global};
 use std::sync::Wait;
 use std::test::Fail;
 use std::thread::Threads;
+use tile_io::BLOCK;
 use tilebench::Status;
 
 // One type that binds on all sides: what grows of it takes 1.3 MiB as text, some 336 calls of the
