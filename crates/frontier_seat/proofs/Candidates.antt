@@ -1,5 +1,5 @@
 -- All lists of the types that attach at a site are of one length.
-use Rattle.std.proofs.Common.{◌≡◌, ◌≤◌, ◌<◌, ℕ, refl, zero, suc, get_or, ap, List, [], ◌∷◌, length, Contains, arith}
+use Rattle.std.proofs.Common.{◌≤◌, ◌<◌, ℕ, refl, suc, get_or, ap, List, [], ◌∷◌, length, Contains, arith}
 use Rattle.std.specs.List.{AllPairs}
 use Rattle.std.proofs.lemmas.List.Elements.{All-contains}
 use Rattle.std.proofs.lemmas.Map.Made.{Contains-tail}

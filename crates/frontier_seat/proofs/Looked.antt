@@ -1,5 +1,5 @@
 -- One look at a site, and the lists of sites.
-use Rattle.std.proofs.Common.{◌≡◌, ◌≢◌, ◌⊎◌, ◌<◌, ◌≤◌, ◌+◌, ◌-◌, ◌*◌, ◌^◌, ◌++◌, ℕ, List, [], ◌∷◌, length, length-append, Some, None, All, Contains, append-nil, append_assoc, get_or, pos, refl, sym, ◌∙◌, ap, subst, inl, inr, arith}
+use Rattle.std.proofs.Common.{true, ◌≡◌, ◌≢◌, ◌⊎◌, ◌<◌, ◌≤◌, ◌+◌, ◌-◌, ◌*◌, ◌^◌, ◌++◌, ℕ, List, [], ◌∷◌, length, length-append, Some, None, All, Contains, append-nil, append_assoc, get_or, pos, refl, sym, ◌∙◌, ap, subst, inl, inr, arith}
 use Rattle.std.proofs.lemmas.List.Elements.{Contains-append_left, All-nil, All-cons, All-append, Contains-get_or, Contains-push, Contains-append_cases}
 use Rattle.std.proofs.lemmas.Option.{none-some}
 use Rattle.std.proofs.Math.Nat.{le_trans}
@@ -31,7 +31,7 @@ use Rattle.frontier_seat.specs.declared.growing.Growing.{Growing}
 use Rattle.frontier_seat.specs.Growths.{EndsBurst, IsGrowing, GrowsOn}
 use Rattle.frontier_seat.specs.declared.bursting.Burst.{Burst}
 use Rattle.frontier_seat.specs.declared.bursting.Burst.TheVariants.{Quiet, Spent}
-use Rattle.frontier_seat.specs.Inner.Looks.{CatchesUp, Puts, ClaimsAt, IsClosedBut, ListsOpen, LooksAt}
+use Rattle.frontier_seat.specs.Inner.Looks.{CatchesUp, Puts, ClaimsAt, ClaimsPick, IsClosedBut, ListsOpen, LooksAt}
 use Rattle.number_set.specs.Numbers.{Numbers, IsIn, Removes}
 use Rattle.assembly.specs.Cells.{cell_count}
 use Rattle.frontier_seat.specs.declared.work_list.Spot.{Spot}
@@ -87,16 +87,14 @@ goes_by old mid new site t wins goes grid puts mine placer won = record {
   won = puts.won ∙ won;
 }
 
-pub claimed_by : (sys : TileSystem) (old mid new : Growing) (site : Site) (t : TypeId) → mid.grid ≡ old.grid → Puts (place site t) mid new → IsGrowing sys new → GrowsOn old new →
-    (old.seat.scout.owned ≡ 2 ^ 64 - 1 → IsCandidate sys old.grid.tiles site t) → ClaimsAt sys site old new
-claimed_by sys old mid new site t grid puts growing goes sole = record {
+abbrev pub claimed_by : (sys : TileSystem) (old mid new : Growing) (site : Site) (t : TypeId) → mid.grid ≡ old.grid → Puts (place site t) mid new → IsGrowing sys new → GrowsOn old new → ClaimsAt sys site old new
+claimed_by sys old mid new site t grid puts growing goes = record {
   growing = growing;
   goes = goes;
   tile = t;
   tiles = λ m. puts.tiles m ∙ ap (λ g. tile_at (g.tiles ++ place site t ∷ []) m) grid;
   placements = subst (λ g. SamePlacements (g.tiles ++ place site t ∷ []) new.grid.tiles) grid puts.placements;
   count = puts.count ∙ ap (λ g. length g.tiles + 1) grid;
-  sole = sole;
 }
 
 -- a seat that did nothing
@@ -175,25 +173,27 @@ tile_put old grid p area empty here others placements distinct count = record {
 
 -- a claim that is won
 pub claim_won : (sys : TileSystem) (old mid new : Growing) (site : Site) (t : TypeId) → IsGrowing sys old → InBox sys.area site → IsType sys t → GoesOn old.seat mid.seat → mid.grid ≡ old.grid →
-    mid.won ≡ old.won + 1 → Wins old.seat.scout (place site t) mid.seat.scout → Puts (place site t) mid new → IsCandidate sys old.grid.tiles site t → ClaimsAt sys site old new
+    mid.won ≡ old.won + 1 → Wins old.seat.scout (place site t) mid.seat.scout → Puts (place site t) mid new → IsCandidate sys old.grid.tiles site t → ClaimsPick sys site old new true
 claim_won sys old mid new site t growing inside kind goes grid won wins puts grows =
     let few = growing.few_wins in
     let n = least old.seat.scout.owned in
-    claimed_by sys old mid new site t grid puts
-    (grown_by sys old mid new site t growing inside kind goes grid wins.seen puts (omega (arith, won, few)))
-    (goes_by old mid new site t (tile_of (place site t) n ∷ []) goes grid puts wins.mine
-    (All-cons (λ (u : PlacedTile). u.placer ≡ n) (tile_of (place site t) n) [] refl (All-nil (λ (u : PlacedTile). u.placer ≡ n))) (omega (arith, won)))
-    (λ _. grows)
+    record {
+      claim = claimed_by sys old mid new site t grid puts
+          (grown_by sys old mid new site t growing inside kind goes grid wins.seen puts (omega (arith, won, few)))
+          (goes_by old mid new site t (tile_of (place site t) n ∷ []) goes grid puts wins.mine
+          (All-cons (λ (u : PlacedTile). u.placer ≡ n) (tile_of (place site t) n) [] refl (All-nil (λ (u : PlacedTile). u.placer ≡ n))) (omega (arith, won)));
+      attaches = λ _. grows;
+      sole = λ _. refl;
+    }
 
 -- and one that is lost
-pub claim_lost : (sys : TileSystem) (old mid new : Growing) (site : Site) (t : TypeId) → IsGrowing sys old → InBox sys.area site → IsType sys t → GoesOn old.seat mid.seat → mid.grid ≡ old.grid →
-    mid.won ≡ old.won → Sees old.seat.scout (place site t) mid.seat.scout → Puts (place site t) mid new → (old.seat.scout.owned ≢ 2 ^ 64 - 1) → ClaimsAt sys site old new
-claim_lost sys old mid new site t growing inside kind goes grid won sees puts shared =
+abbrev pub claim_lost : (sys : TileSystem) (old mid new : Growing) (site : Site) (t : TypeId) → IsGrowing sys old → InBox sys.area site → IsType sys t → GoesOn old.seat mid.seat → mid.grid ≡ old.grid →
+    mid.won ≡ old.won → Sees old.seat.scout (place site t) mid.seat.scout → Puts (place site t) mid new → ClaimsAt sys site old new
+claim_lost sys old mid new site t growing inside kind goes grid won sees puts =
     let few = growing.few_wins in
     claimed_by sys old mid new site t grid puts
     (grown_by sys old mid new site t growing inside kind goes grid sees.seen puts (omega (arith, won, few)))
     (goes_by old mid new site t [] goes grid puts (sees.mine ∙ sym (append-nil old.seat.scout.mine)) (All-nil (λ (u : PlacedTile). u.placer ≡ least old.seat.scout.owned)) (omega (arith, won)))
-    (λ all. absurd (shared all))
 
 -- who owns all numbers has seen each tile that stands, and no claim is lost
 never_held : (sys : TileSystem) (v w : ScoutState) (m : Site) (t : TypeId) → IsPossible sys v → IsPossible sys w → tile_at v.seen m ≡ None → Sees v (place m t) w → v.owned ≢ 2 ^ 64 - 1

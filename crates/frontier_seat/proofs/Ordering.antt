@@ -1,5 +1,5 @@
 -- Tiles at the least open site, in their order.
-use Rattle.std.proofs.Common.{◌≡◌, ◌<◌, ◌≤◌, ◌+◌, ◌-◌, ◌^◌, ◌++◌, ℕ, Bool, true, length, length-append, List, [], ◌∷◌, map, take, All, Contains, append-nil, append_assoc, sym, ◌∙◌, ap, subst, inl, inr, arith}
+use Rattle.std.proofs.Common.{◌≡◌, ◌<◌, ◌≤◌, ◌+◌, ◌++◌, Bool, true, length, length-append, List, [], ◌∷◌, map, take, All, Contains, append-nil, append_assoc, sym, ◌∙◌, ap, subst, inl, inr, arith}
 use Rattle.std.proofs.lemmas.Int.{ints}
 use Rattle.std.proofs.lemmas.List.{length-map, map_push}
 use Rattle.std.proofs.lemmas.Option.{slice_get_within}
@@ -126,17 +126,17 @@ claims_start sys tiles log valid same none = record {
   seen = seen_start sys tiles (sys.seeds ++ []) log.clean valid same (append-nil sys.seeds);
 }
 
--- one claim more of who owns all numbers
-pub claims_more : (sys : TileSystem) (before after : Growing) (spot : Spot) (old new : LoggedClaims) → IsGrowing sys before → IsSpot sys.area spot → before.seat.scout.owned ≡ 2 ^ 64 - 1 →
+-- one claim more, of a type that attached
+pub claims_more : (sys : TileSystem) (before after : Growing) (spot : Spot) (old new : LoggedClaims) → IsGrowing sys before → IsSpot sys.area spot →
     ((n : Site) (u : TypeId) → InBox sys.area n → IsCandidate sys before.grid.tiles n u → ¬ IsBefore n spot.site) →
-    LogsClaim sys spot before after old new → GrewByLog sys before.grid.tiles old → GrewByLog sys after.grid.tiles new
-claims_more sys before after spot old new growing is all least logs order =
+    (logs : LogsClaim sys spot before after old new) → IsCandidate sys before.grid.tiles spot.site logs.claim.tile → GrewByLog sys before.grid.tiles old → GrewByLog sys after.grid.tiles new
+claims_more sys before after spot old new growing is least logs grows order =
     let claim = logs.claim in
     let longer = logs.numbers in
     let p : Place = place spot.site claim.tile in
     let claims = order.claims in
     let fills : Fills sys spot.site before.grid.tiles after.grid.tiles (sys.seeds ++ claims) (sys.seeds ++ (claims ++ p ∷ [])) =
-    record { tile = claim.tile; grows = claim.sole all; placements = claim.placements; logged = sym (append_assoc sys.seeds claims (p ∷ [])) } in
+    record { tile = claim.tile; grows = grows; placements = claim.placements; logged = sym (append_assoc sys.seeds claims (p ∷ [])) } in
     record {
       claims = claims ++ p ∷ [];
       sites = map_push (λ (q : Place). q.site) claims p ∙ ap (λ (l : List Site). l ++ spot.site ∷ []) order.sites

@@ -7,10 +7,12 @@ use Rattle.atam.specs.Assembly.{Fits}
 use Rattle.atam.specs.Canonical.{IsCanonical}
 use Rattle.assembly.specs.Cells.{cell_count, site_at}
 
--- the numbers of the sites of claims, how many there is room for without more memory, and whether it is clear that each claim came clean, held by exactly the temperature
+-- The numbers of the sites of claims, how many there is room for without more memory, whether each of these sites then had the type for which it was claimed,
+-- so that its tile came in turn, and whether it is clear that each tile came clean, held by exactly the temperature.
 pub record LoggedClaims : Type 0 where
   pub numbers : List ℕ
   pub room : ℕ
+  pub in_order : Bool
   pub clean : Bool
 
 -- Behind the seeds, the tiles at the sites of the box with these numbers are the canonical sequence.

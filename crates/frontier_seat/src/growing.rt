@@ -6,7 +6,7 @@ ghost use Rattle.assembly.specs.Cells.{cell_count, site_at};
 ghost use Rattle.site_table.specs.Seats.{IsSeatOf};
 ghost use Rattle.frontier_seat.specs.Growths.{IsGrowing};
 ghost use Rattle.frontier_seat.specs.Inner.Listings.{IsSpot};
-ghost use Rattle.frontier_seat.specs.Inner.Looks.{ClaimsAt, Puts};
+ghost use Rattle.frontier_seat.specs.Inner.Looks.{ClaimsAt, ClaimsPick, Puts};
 
 use crate::work_list::Spot;
 use assembly::Grid;
@@ -37,7 +37,8 @@ impl Growing {
         self.grid.recall_sites();
     }
 
-    // One claim. The tile that stands there afterwards is seen, whoever has won.
+    // One claim. The tile that stands there afterwards is seen, whoever has won, and it is told
+    // whether it is of this type.
     #[inline(always)]
     pub(crate) fn claim<L: Ledger>(
         &mut self,
@@ -46,13 +47,13 @@ impl Growing {
         spot: Spot,
         tile: TypeId,
         steps: &mut Steps<L>,
-    )
+    ) -> bool
         requires seat { IsSeatOf table.now self.old.seat }
         requires system { table.now.sys ≡ sys.now }
         requires growing { IsGrowing sys.now self.old }
         requires spot { IsSpot sys.now.area spot }
         requires open { IsCandidate sys.now self.old.grid.tiles spot.site tile }
-        ensures claim { ClaimsAt sys.now spot.site self.old self.new }
+        ensures claim { ClaimsPick sys.now spot.site self.old self.new result }
         ensures cost { steps.new ≡ steps.old + 1 }
     {
         self.seat.recall_possible();
@@ -61,11 +62,13 @@ impl Growing {
         match table.claim_at(&mut self.seat, site, number, tile, steps) {
             Claimed::Won => {
                 self.won += 1;
-                self.put(Place { site, tile }, number)
+                self.put(Place { site, tile }, number);
+                true
             }
             Claimed::Held(there) => {
                 self.seat.recall_possible();
-                self.put(Place { site, tile: there }, number)
+                self.put(Place { site, tile: there }, number);
+                there == tile
             }
         }
     }

@@ -13,7 +13,7 @@ ghost use Rattle.type_index.specs.Indexes.{IsIndexOf};
 ghost use Rattle.number_set.specs.Numbers.{IsIn};
 ghost use Rattle.frontier_seat.specs.Inner.Insides.{IsInner};
 ghost use Rattle.frontier_seat.specs.Inner.Listings.{AreEmptySites, IsSpot};
-ghost use Rattle.frontier_seat.specs.Inner.Looks.{ClaimsAt, IsClosedBut, ListsOpen, LooksAt, MayList};
+ghost use Rattle.frontier_seat.specs.Inner.Looks.{ClaimsPick, IsClosedBut, ListsOpen, LooksAt, MayList};
 ghost use Rattle.frontier_seat.specs.Inner.Pickers.{IsPickerOf};
 
 use crate::beside_seeds::list_beside_seeds;
@@ -75,11 +75,13 @@ impl<'i> Model for Scout<'i> {
         × MayList s.growing.seat.sys s.growing.grid.tiles s.listed s.work.numbers };
 }
 
-// What a look at a site was: whether a type attached, and whether it is clear that whichever
-// attached comes clean, held by exactly the temperature.
+// What a look at a site was: whether a type attached, whether one that was picked among those
+// stands there then, and whether it is clear that whichever attached comes clean, held by exactly
+// the temperature.
 #[derive(Clone, Copy)]
 pub(crate) struct Looked {
     pub(crate) claims: bool,
+    pub(crate) picked: bool,
     pub(crate) clean: bool,
 }
 
@@ -111,7 +113,8 @@ pub(crate) fn look<C: Chooser, L: Ledger>(
     requires closed { IsClosedBut sys.now growing.old.grid.tiles
         (λ n. IsIn work.old.numbers n ⊎ (n ≡ spot.number)) }
     ensures looks { LooksAt sys.now growing.old growing.new work.old.numbers work.new.numbers }
-    ensures claims { MatchBool result.claims (ClaimsAt sys.now spot.site growing.old growing.new)
+    ensures claims { MatchBool result.claims
+        (ClaimsPick sys.now spot.site growing.old growing.new result.picked)
         (growing.new ≡ growing.old) }
     ensures clean { IsTrue result.clean → OpensExact sys.now growing.old.grid.tiles spot.site }
     ensures picker { IsPickerOf sys.now picker.new }
@@ -157,7 +160,8 @@ fn look_inside<C: Chooser, L: Ledger>(
     requires closed { IsClosedBut sys.now growing.old.grid.tiles
         (λ n. IsIn work.old.numbers n ⊎ (n ≡ spot.number)) }
     ensures looks { LooksAt sys.now growing.old growing.new work.old.numbers work.new.numbers }
-    ensures claims { MatchBool result.claims (ClaimsAt sys.now spot.site growing.old growing.new)
+    ensures claims { MatchBool result.claims
+        (ClaimsPick sys.now spot.site growing.old growing.new result.picked)
         (growing.new ≡ growing.old) }
     ensures clean { IsTrue result.clean → OpensExact sys.now growing.old.grid.tiles spot.site }
     ensures picker { IsPickerOf sys.now picker.new }
@@ -171,13 +175,15 @@ fn look_inside<C: Chooser, L: Ledger>(
     let Some(tile) = tile else {
         return Looked {
             claims: false,
+            picked: false,
             clean,
         };
     };
-    growing.claim(sys, table, spot, tile, steps);
+    let picked = growing.claim(sys, table, spot, tile, steps);
     work.list_inner(&growing.grid, area, spot, &beside);
     Looked {
         claims: true,
+        picked,
         clean,
     }
 }
@@ -208,7 +214,8 @@ fn look_at_edge<C: Chooser, L: Ledger>(
     requires closed { IsClosedBut sys.now growing.old.grid.tiles
         (λ n. IsIn work.old.numbers n ⊎ (n ≡ number)) }
     ensures looks { LooksAt sys.now growing.old growing.new work.old.numbers work.new.numbers }
-    ensures claims { MatchBool result.claims (ClaimsAt sys.now site growing.old growing.new)
+    ensures claims { MatchBool result.claims
+        (ClaimsPick sys.now site growing.old growing.new result.picked)
         (growing.new ≡ growing.old) }
     ensures clean { IsTrue result.clean → OpensExact sys.now growing.old.grid.tiles site }
     ensures picker { IsPickerOf sys.now picker.new }
@@ -222,14 +229,16 @@ fn look_at_edge<C: Chooser, L: Ledger>(
     let Some(tile) = tile else {
         return Looked {
             claims: false,
+            picked: false,
             clean,
         };
     };
     let spot = Spot { site, number };
-    growing.claim(sys, table, spot, tile, steps);
+    let picked = growing.claim(sys, table, spot, tile, steps);
     work.list_around(&growing.grid, spot, &beside);
     Looked {
         claims: true,
+        picked,
         clean,
     }
 }
@@ -380,10 +389,11 @@ impl<'i> Scout<'i> {
         self.burst(sys, table, chooser, 0, 1, MOST_CLAIMS, steps);
     }
 
-    /// The same for who owns all numbers and has seen the seeds alone: it always claims the least
-    /// open site, and logs it. With the seeds before them, the claims are then the canonical sequence
-    /// of what has grown (`law_least_first`), and the log says whether it is clear that each of them
-    /// came clean.
+    /// The same for a scout that has seen the seeds alone: it always claims the least open site, and
+    /// logs it. A site that another has filled is claimed and logged too. Where each logged site
+    /// holds the type for which it was claimed, as it does for who owns all numbers, the logged
+    /// tiles are, behind the seeds, the canonical sequence of what has grown (`law_least_first`),
+    /// and the log says whether it is clear that each of them came clean.
     pub fn sweep_in_order<C: Chooser, L: Ledger>(
         &mut self,
         sys: &System,
@@ -394,7 +404,6 @@ impl<'i> Scout<'i> {
     )
         requires seat { IsSeatOf table.now self.old.seat }
         requires system { table.now.sys ≡ sys.now }
-        requires sole { self.old.seat.scout.owned ≡ 2 ^ 64 - 1 }
         requires start { SamePlacements sys.now.seeds self.old.grid.tiles }
         requires none { log.old.numbers ≡ [] }
         requires room { cell_count sys.now.area ≤ log.old.room }
@@ -402,8 +411,12 @@ impl<'i> Scout<'i> {
         ensures closed { IsClosedInBox sys.now self.new.grid.tiles }
         ensures seen { SamePlacements self.new.seat.scout.seen self.new.grid.tiles }
         ensures last { IsFinal sys.now self.new.seat.scout }
-        ensures order { AreCanonicalClaims sys.now self.new.grid.tiles log.new.numbers }
-        ensures clean { IsTrue log.new.clean → GrewExact sys.now self.new.grid.tiles }
+        ensures order { IsTrue log.new.in_order →
+            AreCanonicalClaims sys.now self.new.grid.tiles log.new.numbers }
+        ensures clean { IsTrue log.new.in_order → IsTrue log.new.clean →
+            GrewExact sys.now self.new.grid.tiles }
+        ensures sole { self.old.seat.scout.owned ≡ 2 ^ 64 - 1 → IsTrue log.old.in_order →
+            IsTrue log.new.in_order }
         ensures cost { steps.new + length self.old.grid.tiles
             ≡ steps.old + length self.new.grid.tiles }
         ensures few { steps.new < steps.old + cell_count sys.now.area }

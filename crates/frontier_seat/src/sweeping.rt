@@ -1,6 +1,5 @@
-// Claims of one scout that owns all numbers, always at the least open site, each of which is
-// logged.
-ghost use Rattle.std.specs.Prelude.{◌≡◌, ◌⊎◌, ◌<◌, ◌≤◌, ◌+◌, ◌-◌, ◌^◌, ℕ, [], None, length};
+// Claims of one scout, always at the least open site, each of which is logged.
+ghost use Rattle.std.specs.Prelude.{◌≡◌, ◌⊎◌, ◌<◌, ◌≤◌, ◌+◌, ◌-◌, ◌^◌, ℕ, [], None, length, IsTrue};
 ghost use Rattle.atam.specs.Placements.{SamePlacements, tile_at};
 ghost use Rattle.atam.specs.Growth.{IsClosedInBox};
 ghost use Rattle.assembly.specs.Cells.{cell_count};
@@ -41,14 +40,15 @@ pub(crate) fn look_in_order<C: Chooser, L: Ledger>(
     requires picker { IsPickerOf sys.now picker.old }
     requires area { work.old.area ≡ sys.now.area }
     requires lists { ListsOpen sys.now growing.old.grid.tiles work.old.numbers }
-    requires sole { growing.old.seat.scout.owned ≡ 2 ^ 64 - 1 }
     requires start { SamePlacements sys.now.seeds growing.old.grid.tiles }
     requires none { log.old.numbers ≡ [] }
     requires room { cell_count sys.now.area ≤ log.old.room }
     ensures growing { IsGrowing sys.now growing.new }
     ensures goes { GrowsOn growing.old growing.new }
     ensures closed { IsClosedInBox sys.now growing.new.grid.tiles }
-    ensures order { GrewByLog sys.now growing.new.grid.tiles log.new }
+    ensures order { IsTrue log.new.in_order → GrewByLog sys.now growing.new.grid.tiles log.new }
+    ensures sole { growing.old.seat.scout.owned ≡ 2 ^ 64 - 1 → IsTrue log.old.in_order →
+        IsTrue log.new.in_order }
     ensures picker { IsPickerOf sys.now picker.new }
     ensures area { work.new.area ≡ work.old.area }
     ensures lists { ListsOpen sys.now growing.new.grid.tiles work.new.numbers }
@@ -109,5 +109,5 @@ fn look_logged<C: Chooser, L: Ledger>(
     if !seen.claims {
         return;
     }
-    log.push(spot.number as u32, seen.clean);
+    log.push(spot.number as u32, seen.picked, seen.clean);
 }

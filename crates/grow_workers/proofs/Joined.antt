@@ -10,7 +10,7 @@ use Rattle.site_table.specs.Seats.{IsSeatOf, SeatValue, TableValue}
 use Rattle.grow_workers.specs.declared.leavings.Part.{Part}
 use Rattle.grow_workers.specs.declared.shared.Shared.{Shared}
 use Rattle.grow_workers.specs.declared.starts.Start.{Start}
-use Rattle.grow_workers.specs.Inner.Sharing.{AreStartsOf, ArePartedOff, AreWorksOf, HasSeen, IsWorkOf}
+use Rattle.grow_workers.specs.Inner.Sharing.{AreStartsOf, ArePartedOff, AreWorksOf, HasSeen, IsSeenPart, IsWorkOf}
 use Rattle.grow_workers.specs.Inner.Wins.{IsParted, PartedGrowth}
 
 -- what grew from a seat's start is of its table
@@ -138,10 +138,10 @@ prefix_less all left new x first longer =
     sym (ap (take k) (sym whole) ∙ (take-append-le k left (drop n all) (omega (arith, long, both)) ∙ (ap (take k) longer ∙ take-append_seam new (x ∷ []))))
 
 -- what a worker leaves was seen at the table
-ok_seen : {G : Type 0} (shared : Shared G) (start : Start) (r : Result Part NoMemory) → IfOk r (IsWorkOf shared start) → IfOk r (λ part. HasSeen shared part.seat part.grid)
-ok_seen shared start (Ok part) work = work.seen
+ok_seen : {G : Type 0} (shared : Shared G) (start : Start) (r : Result Part NoMemory) → IfOk r (IsWorkOf shared start) → IfOk r (IsSeenPart shared)
+ok_seen shared start (Ok part) work = work.left
 ok_seen shared start (Err e) work = tt
 
 -- and so what each leaves
-pub works_seen : {G : Type 0} (shared : Shared G) (starts : List Start) (done : List (Result Part NoMemory)) (start : Start) → AreWorksOf shared starts done → All (λ (d : Result Part NoMemory). IfOk d (λ part. HasSeen shared part.seat part.grid)) done
+pub works_seen : {G : Type 0} (shared : Shared G) (starts : List Start) (done : List (Result Part NoMemory)) (start : Start) → AreWorksOf shared starts done → All (λ (d : Result Part NoMemory). IfOk d (IsSeenPart shared)) done
 works_seen shared starts done start works = λ k d within. let count = works.count in ok_seen shared (get_or starts k start) (get_or done k d) (works.each k start d (omega (arith, within, count)))

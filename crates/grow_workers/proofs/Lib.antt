@@ -2,3 +2,4 @@ pub mod Winning
 pub mod Numbering
 pub mod Ordering
 pub mod Joined
+pub mod Whole

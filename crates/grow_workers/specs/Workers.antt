@@ -1,12 +1,16 @@
 -- Workers, their numbers and what they win.
-use Rattle.std.specs.Prelude.{◌≡◌, ◌≢◌, ℕ, zero, suc, ◌-◌, ◌^◌, ◌<◌, ◌+◌, ◌≤◌, List, ◌++◌, All, AllPairs, length, slice_index, sum}
+use Rattle.std.specs.Prelude.{◌≡◌, ◌≢◌, ℕ, zero, suc, ◌-◌, ◌^◌, ◌<◌, ◌+◌, ◌≤◌, true, List, ◌++◌, All, AllPairs, length, slice_index, sum}
 use Rattle.atam.specs.TileSystem.{TileSystem}
 use Rattle.atam.specs.Placements.{SamePlacements, HasDistinctSites, IsPartOf}
+use Rattle.atam.specs.declared.place.Place.{Place}
 use Rattle.atam.specs.Growth.{IsClosedInBox, IsProducible}
+use Rattle.atam.specs.Canonical.{IsCanonical}
 use Rattle.assembly.specs.Grids.{TileGrid}
 use Rattle.grow_core.specs.declared.placed_tile.PlacedTile.{PlacedTile}
 use Rattle.grow_core.specs.Core.{Owns, least, greatest, placed_by}
+use Rattle.type_index.specs.Clean.{CameExact}
 use Rattle.site_table.specs.Seats.{SeatValue, GoesOn, GrownValue}
+use Rattle.grow_workers.specs.declared.ordered.SeenOrder.{SeenOrder}
 
 -- at least so many numbers are owned
 pub record OwnsAtLeast (count owned : ℕ) : Type 0 where
@@ -49,6 +53,11 @@ pub record GrewOn (sys : TileSystem) (old : SeatValue) (start : TileGrid) (new :
   pub kept : IsPartOf start.tiles grid.tiles
   pub closed : IsClosedInBox sys grid.tiles
   pub workers_win : WorkersWin old.scout.mine new.scout.mine old.scout.owned wins
+
+-- the canonical order of these tiles, each of which came clean, held by exactly the temperature, if it says so
+pub record IsSeenOrder (sys : TileSystem) (tiles : List Place) (seen : SeenOrder) : Type 0 where
+  pub canonical : IsCanonical sys tiles seen.order
+  pub clean : seen.clean ≡ true → CameExact sys seen.order
 
 -- What `grow` leaves: a producible assembly of the box, closed in it. Only the workers' numbers have placed tiles, and these are all tiles but the seeds.
 pub record IsGrownBy (sys : TileSystem) (workers : ℕ) (grown : GrownValue) : Type 0 where

@@ -1,11 +1,11 @@
 // Worker 0, when it goes on alone.
-ghost use Rattle.std.specs.Prelude.{◌≡◌, ◌<◌, ◌≤◌, length, IfOk};
+ghost use Rattle.std.specs.Prelude.{◌≡◌, ◌<◌, ◌≤◌, length, IfOk, IfSome};
 ghost use Rattle.atam.specs.Placements.{SamePlacements};
 ghost use Rattle.atam.specs.Growth.{IsClosedInBox};
 ghost use Rattle.assembly.specs.Grids.{TileGrid};
 ghost use Rattle.frontier_seat.specs.Growths.{GrowsOn};
 ghost use Rattle.site_table.specs.Seats.{IsSeatOf, SeatValue};
-ghost use Rattle.grow_workers.specs.Inner.Sharing.{HasSeen, IsShared};
+ghost use Rattle.grow_workers.specs.Inner.Sharing.{HasSeen, IsLogOf, IsShared};
 ghost use Rattle.grow_workers.specs.Inner.Wins.{PartedGrowth};
 
 use crate::leavings::{Harvest, Part, part_of, scout_of};
@@ -20,7 +20,8 @@ use std::sync::ledger::{Blank, Ledger};
 use tile_io::{Gate, Steps};
 use tile_system::NoMemory;
 
-// All that is left to be done after all workers, by worker 0: it goes on until the box is closed.
+// All that is left to be done after all workers, by worker 0: it goes on until the box is closed, as
+// it did before if it went in canonical order.
 pub(crate) fn end<G: Gate>(
     alloc: Global,
     shared: &Shared<'_, G>,
@@ -28,11 +29,13 @@ pub(crate) fn end<G: Gate>(
 ) -> Result<Harvest, NoMemory>
     requires shared { IsShared shared.now }
     requires seen { HasSeen shared.now team.seat team.grid }
+    requires log { IfSome team.log (IsLogOf shared.now.sys.now team.grid) }
     requires few { team.first ≤ length team.seat.scout.mine }
     ensures grew { IfOk result (λ h. (old : SeatValue) (start : TileGrid) →
         PartedGrowth shared.now.sys.now old start team.seat team.grid team.first team.others.items →
         PartedGrowth shared.now.sys.now old start h.seat h.grid h.first h.others.items) }
     ensures closed { IfOk result (λ h. IsClosedInBox shared.now.sys.now h.grid.tiles) }
+    ensures log { IfOk result (λ h. IfSome h.log (IsLogOf shared.now.sys.now h.grid)) }
     ensures count { IfOk result (λ h. length h.others.items ≡ length team.others.items) }
 {
     let Harvest {
@@ -40,7 +43,17 @@ pub(crate) fn end<G: Gate>(
         grid,
         first,
         others,
+        log,
     } = team;
+    if let Some(log) = log {
+        return Ok(Harvest {
+            seat,
+            grid,
+            first,
+            others,
+            log: Some(log),
+        });
+    }
     shared.sys.recall_valid();
     seat.recall_possible();
     let part = sweep(alloc, shared, seat, grid)?;
@@ -50,6 +63,7 @@ pub(crate) fn end<G: Gate>(
         grid: part.grid,
         first: first + part.won,
         others,
+        log: None,
     })
 }
 

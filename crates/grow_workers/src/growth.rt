@@ -1,14 +1,14 @@
 // Growth on a table, and a whole growth.
-ghost use Rattle.std.specs.Prelude.{All, ◌≡◌, ◌≤◌, length, IfOk};
+ghost use Rattle.std.specs.Prelude.{All, ◌≡◌, ◌≤◌, length, IfOk, IfSome};
 ghost use Rattle.atam.specs.Placements.{SamePlacements};
 ghost use Rattle.site_table.specs.Seats.{IsSeatOf};
 ghost use Rattle.type_index.specs.Indexes.{IsIndexOf};
 ghost use Rattle.grow_workers.specs.Workers.{OwnsAtLeast, GrewOn, IsGrownBy};
-ghost use Rattle.grow_workers.specs.Inner.Sharing.{AreWorksOf, HasSeen, IsShared, IsStart, IsWorkOf};
+ghost use Rattle.grow_workers.specs.Inner.Sharing.{AreWorksOf, BeginsLog, HasSeen, IsLogOf, IsShared, IsStart, IsWorkOf};
 
 use crate::ending::end;
 use crate::joining::join;
-use crate::leavings::{Harvest, Part};
+use crate::leavings::{Closing, Harvest, Part};
 use crate::member::work;
 use crate::prepared::{Prepared, prepare};
 use crate::shared::Shared;
@@ -16,6 +16,7 @@ use crate::starts::{Start, split};
 use crate::team::Team;
 use assembly::Grid;
 use fan_out::{WorkerCount, share_out};
+use frontier_seat::ClaimLog;
 use site_table::{Grown, SiteSeat, SiteTable};
 use std::alloc::Global;
 use std::thread::Threads;
@@ -68,9 +69,15 @@ pub fn grow_by_index<R: Threads + Sync, G: Gate>(
         gate,
         choice,
         workers,
+        in_order: false,
         team: Team::of(workers),
     };
-    let (seat, mut grid, _wins) = grow_together(rt, alloc, &shared, seat, seen)?;
+    let Closing {
+        seat,
+        mut grid,
+        wins: _wins,
+        log: _log,
+    } = grow_together(rt, alloc, &shared, seat, seen, None)?;
     drop(shared);
     grid.recall_sites();
     grid.clear();
@@ -119,27 +126,39 @@ pub fn grow_on<R: Threads + Sync, G: Gate>(
         gate,
         choice,
         workers,
+        in_order: false,
         team: Team::of(workers),
     };
-    grow_together(rt, alloc, &shared, seat, seen)
+    let Closing {
+        seat,
+        grid,
+        wins,
+        log: _log,
+    } = grow_together(rt, alloc, &shared, seat, seen, None)?;
+    Ok((seat, grid, wins))
 }
 
-// Parts the seat among all workers, lets them work, joins what they leave, and ends the growth.
-fn grow_together<R: Threads + Sync, G: Gate>(
+// Parts the seat among all workers, lets them work, joins what they leave, and ends the growth. With a
+// log worker 0 goes in canonical order.
+pub(crate) fn grow_together<R: Threads + Sync, G: Gate>(
     rt: &R,
     alloc: Global,
     shared: &Shared<'_, G>,
     seat: SiteSeat,
     seen: Grid,
-) -> Result<(SiteSeat, Grid, Vec<u32>), NoMemory>
+    log: Option<ClaimLog>,
+) -> Result<Closing, NoMemory>
     requires shared { IsShared shared.now }
     requires numbers { OwnsAtLeast shared.now.workers.count seat.scout.owned }
     requires seen { HasSeen shared.now seat seen }
-    ensures grew { IfOk result (λ r. GrewOn shared.now.sys.now seat seen r.0 r.1 r.2.items) }
-    ensures count { IfOk result (λ r. length r.2.items ≡ shared.now.workers.count) }
+    requires log { IfSome log (BeginsLog shared.now.sys.now seen) }
+    ensures grew { IfOk result (λ r.
+        GrewOn shared.now.sys.now seat seen r.seat r.grid r.wins.items) }
+    ensures log { IfOk result (λ r. IfSome r.log (IsLogOf shared.now.sys.now r.grid)) }
+    ensures count { IfOk result (λ r. length r.wins.items ≡ shared.now.workers.count) }
 {
     seat.recall_possible();
-    let starts = split(alloc, shared, seat, seen)?;
+    let starts = split(alloc, shared, seat, seen, log)?;
     let done = work_all(rt, alloc, shared, starts)?;
     let team = join(alloc, shared, done)?;
     let Harvest {
@@ -147,9 +166,15 @@ fn grow_together<R: Threads + Sync, G: Gate>(
         grid,
         first,
         others: mut wins,
+        log,
     } = end(alloc, shared, team)?;
     wins.insert(0, first)?;
-    Ok((seat, grid, wins))
+    Ok(Closing {
+        seat,
+        grid,
+        wins,
+        log,
+    })
 }
 
 // All workers at work, each but worker 0 in a thread of its own.

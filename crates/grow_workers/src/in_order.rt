@@ -1,14 +1,10 @@
 // Growth by one worker in canonical order.
-ghost use Rattle.std.specs.Prelude.{◌≡◌, ◌<◌, ◌≤◌, ◌-◌, ◌^◌, [], true, IfOk};
-ghost use Rattle.atam.specs.Placements.{SamePlacements};
+ghost use Rattle.std.specs.Prelude.{◌≡◌, ◌<◌, ◌-◌, ◌^◌, [], true, IfOk, IfSome, IsTrue};
 ghost use Rattle.atam.specs.Canonical.{IsCanonical};
-ghost use Rattle.atam.specs.Growth.{IsClosedInBox};
-ghost use Rattle.assembly.specs.Cells.{cell_count};
-ghost use Rattle.type_index.specs.Clean.{CameExact, GrewExact};
+ghost use Rattle.type_index.specs.Clean.{CameExact};
 ghost use Rattle.type_index.specs.Indexes.{IsIndexOf};
-ghost use Rattle.frontier_seat.specs.Orders.{AreCanonicalClaims};
 ghost use Rattle.grow_workers.specs.Workers.{IsGrownBy};
-ghost use Rattle.grow_workers.specs.Inner.Sharing.{HasSeen, IsShared};
+ghost use Rattle.grow_workers.specs.Inner.Sharing.{BeginsLog, HasSeen, IsLogOf, IsShared};
 ghost use Rattle.grow_workers.specs.Inner.Wins.{PartedGrowth};
 
 use crate::leavings::{Part, part_of, scout_of};
@@ -79,9 +75,12 @@ pub fn grow_in_order_seeing<G: Gate>(
         gate,
         choice: 0,
         workers,
+        in_order: true,
         team: Team::of(workers),
     };
-    let (part, log) = sweep_logged(alloc, &shared, seat, seen)?;
+    let log = ClaimLog::make(alloc, sys.area())?;
+    gate.arrive(0);
+    let (part, log) = sweep_logged(alloc, &shared, seat, seen, log)?;
     drop(shared);
     let mut grid = part.grid;
     grid.recall_sites();
@@ -96,28 +95,25 @@ pub fn grow_in_order_seeing<G: Gate>(
     })
 }
 
-// One sweep of who owns all numbers, from the seeds on, always at the least open site, with a log
-// of its claims. It picks the ledger.
-fn sweep_logged<G: Gate>(
+// One sweep from the seeds on, always at the least open site, with a log of its claims. It picks the
+// ledger.
+pub(crate) fn sweep_logged<G: Gate>(
     alloc: Global,
     shared: &Shared<'_, G>,
     seat: SiteSeat,
     seen: Grid,
+    log: ClaimLog,
 ) -> Result<(Part, ClaimLog), NoMemory>
     requires shared { IsShared shared.now }
     requires seen { HasSeen shared.now seat seen }
-    requires sole { seat.scout.owned ≡ 2 ^ 64 - 1 }
-    requires start { SamePlacements shared.now.sys.now.seeds seen.tiles }
+    requires begins { BeginsLog shared.now.sys.now seen log }
+    ensures seen { IfOk result (λ r. HasSeen shared.now r.0.seat r.0.grid) }
     ensures grew { IfOk result (λ r.
         PartedGrowth shared.now.sys.now seat seen r.0.seat r.0.grid r.0.won []) }
-    ensures closed { IfOk result (λ r. IsClosedInBox shared.now.sys.now r.0.grid.tiles) }
-    ensures order { IfOk result
-        (λ r. AreCanonicalClaims shared.now.sys.now r.0.grid.tiles r.1.numbers) }
-    ensures clean { IfOk result
-        (λ r. r.1.clean ≡ true → GrewExact shared.now.sys.now r.0.grid.tiles) }
+    ensures log { IfOk result (λ r. IsLogOf shared.now.sys.now r.0.grid r.1) }
+    ensures sole { seat.scout.owned ≡ 2 ^ 64 - 1 → IfOk result (λ r. IsTrue r.1.in_order) }
 {
-    let mut log = ClaimLog::make(alloc, shared.sys.area())?;
-    shared.gate.arrive(0);
+    let mut log = log;
     let part = sweep_counted::<Brand, G>(alloc, shared, seat, seen, &mut log, Blank::new(1))?;
     Ok((part, log))
 }
@@ -133,17 +129,12 @@ fn sweep_counted<L: Ledger, G: Gate>(
     requires blank { (blank.name ≡ L.name) × (blank.parts ≡ L.parts) × (0 < blank.parts) }
     requires shared { IsShared shared.now }
     requires seen { HasSeen shared.now seat seen }
-    requires sole { seat.scout.owned ≡ 2 ^ 64 - 1 }
-    requires start { SamePlacements shared.now.sys.now.seeds seen.tiles }
-    requires none { log.old.numbers ≡ [] }
-    requires room { cell_count shared.now.sys.now.area ≤ log.old.room }
+    requires begins { BeginsLog shared.now.sys.now seen log.old }
+    ensures seen { IfOk result (λ r. HasSeen shared.now r.seat r.grid) }
     ensures grew { IfOk result (λ r.
         PartedGrowth shared.now.sys.now seat seen r.seat r.grid r.won []) }
-    ensures closed { IfOk result (λ r. IsClosedInBox shared.now.sys.now r.grid.tiles) }
-    ensures order { IfOk result
-        (λ r. AreCanonicalClaims shared.now.sys.now r.grid.tiles log.new.numbers) }
-    ensures clean { IfOk result
-        (λ r. log.new.clean ≡ true → GrewExact shared.now.sys.now r.grid.tiles) }
+    ensures log { IfOk result (λ r. IsLogOf shared.now.sys.now r.grid log.new) }
+    ensures sole { seat.scout.owned ≡ 2 ^ 64 - 1 → IfOk result (λ _. IsTrue log.new.in_order) }
 {
     let mut scout = scout_of(alloc, shared, seat, seen)?;
     let mut chooser = RngChooser::make(Lcg64Xsh32::new(0, 0));

@@ -1,13 +1,17 @@
 // What several workers leave, joined.
-ghost use Rattle.std.specs.Prelude.{All, ◌≡◌, ◌<◌, ◌+◌, List, [], length, IfOk};
+ghost use Rattle.std.specs.Prelude.{All, ◌≡◌, ◌<◌, ◌+◌, ◌++◌, List, [], length, Some, IfOk, IfSome, IsTrue};
+ghost use Rattle.atam.specs.declared.site.Site.{Site};
+ghost use Rattle.atam.specs.declared.place.TypeId.{TypeId};
+ghost use Rattle.atam.specs.Placements.{SamePlacements, tile_at};
 ghost use Rattle.assembly.specs.Grids.{TileGrid};
 ghost use Rattle.site_table.specs.Seats.{IsSeatOf, SeatValue};
-ghost use Rattle.grow_workers.specs.Inner.Sharing.{AreStartsOf, AreWorksOf, HasSeen, IsShared};
+ghost use Rattle.grow_workers.specs.Inner.Sharing.{AreStartsOf, AreWorksOf, HasSeen, IsLogOf, IsSeenPart, IsShared};
 ghost use Rattle.grow_workers.specs.Inner.Wins.{IsParted, PartedGrowth};
 ghost use Rattle.grow_workers.specs.declared.starts.Start.{Start};
 
 use crate::leavings::{Harvest, Part};
 use crate::shared::Shared;
+use assembly::Grid;
 use std::alloc::Global;
 use tile_io::Gate;
 use tile_system::NoMemory;
@@ -21,12 +25,13 @@ pub(crate) fn join<G: Gate>(
 ) -> Result<Harvest, NoMemory>
     requires shared { IsShared shared.now }
     requires some { 0 < length done.items }
-    requires each { All (λ d. IfOk d (λ part. HasSeen shared.now part.seat part.grid)) done.items }
+    requires each { All (λ d. IfOk d (λ part. IsSeenPart shared.now part)) done.items }
     ensures grew { IfOk result (λ h. (old : SeatValue) (grid : TileGrid) (starts : List Start) →
         IsSeatOf shared.now.table.now old → AreStartsOf old grid starts →
         AreWorksOf shared.now starts done.items →
         PartedGrowth shared.now.sys.now old grid h.seat h.grid h.first h.others.items) }
     ensures seen { IfOk result (λ h. HasSeen shared.now h.seat h.grid) }
+    ensures log { IfOk result (λ h. IfSome h.log (IsLogOf shared.now.sys.now h.grid)) }
     ensures count { IfOk result (λ h. length h.others.items + 1 ≡ length done.items) }
 {
     let mut left = done;
@@ -36,6 +41,7 @@ pub(crate) fn join<G: Gate>(
         grid: first.grid,
         first: first.won,
         others: Vec::new(alloc),
+        log: first.log,
     };
     while let Some(part) = left.pop() {
         team = unite(shared, team, part?)?;
@@ -47,6 +53,7 @@ pub(crate) fn join<G: Gate>(
 fn unite<G: Gate>(shared: &Shared<'_, G>, rest: Harvest, part: Part) -> Result<Harvest, NoMemory>
     requires shared { IsShared shared.now }
     requires first { HasSeen shared.now rest.seat rest.grid }
+    requires log { IfSome rest.log (IsLogOf shared.now.sys.now rest.grid) }
     requires second { HasSeen shared.now part.seat part.grid }
     ensures grew { IfOk result (λ h. (old kept given : SeatValue) (start : TileGrid) →
         IsSeatOf shared.now.table.now old → IsParted old kept given →
@@ -55,6 +62,7 @@ fn unite<G: Gate>(shared: &Shared<'_, G>, rest: Harvest, part: Part) -> Result<H
         PartedGrowth shared.now.sys.now given start part.seat part.grid part.won [] →
         PartedGrowth shared.now.sys.now old start h.seat h.grid h.first h.others.items) }
     ensures seen { IfOk result (λ h. HasSeen shared.now h.seat h.grid) }
+    ensures log { IfOk result (λ h. IfSome h.log (IsLogOf shared.now.sys.now h.grid)) }
     ensures count { IfOk result (λ h.
         length h.others.items ≡ length rest.others.items + 1) }
 {
@@ -63,6 +71,7 @@ fn unite<G: Gate>(shared: &Shared<'_, G>, rest: Harvest, part: Part) -> Result<H
         mut grid,
         first,
         mut others,
+        log,
     } = rest;
     others.insert(0, part.won)?;
     kept.recall_possible();
@@ -70,11 +79,29 @@ fn unite<G: Gate>(shared: &Shared<'_, G>, rest: Harvest, part: Part) -> Result<H
     grid.recall_sites();
     part.grid.recall_sites();
     let seat = shared.table.join(kept, part.seat);
-    grid.merge(&part.grid);
+    take_over(&mut grid, &part.grid, log.is_some());
     Ok(Harvest {
         seat,
         grid,
         first,
         others,
+        log,
     })
+}
+
+// What another has seen comes to a grid, which has it already where it is whole.
+fn take_over(grid: &mut Grid, more: &Grid, is_whole: bool)
+    requires area { more.now.area ≡ grid.old.area }
+    requires agree { (m : Site) (t u : TypeId) → tile_at grid.old.tiles m ≡ Some t →
+        tile_at more.now.tiles m ≡ Some u → t ≡ u }
+    requires whole { IsTrue is_whole →
+        SamePlacements (grid.old.tiles ++ more.now.tiles) grid.old.tiles }
+    ensures area { grid.new.area ≡ grid.old.area }
+    ensures placements { SamePlacements (grid.old.tiles ++ more.now.tiles) grid.new.tiles }
+    ensures whole { IsTrue is_whole → grid.new ≡ grid.old }
+{
+    if is_whole {
+        return;
+    }
+    grid.merge(more);
 }

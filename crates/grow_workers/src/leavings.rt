@@ -1,31 +1,44 @@
 // What workers leave.
-ghost use Rattle.std.specs.Prelude.{◌≡◌, IfOk};
+ghost use Rattle.std.specs.Prelude.{◌≡◌, None, IfOk};
 ghost use Rattle.atam.specs.Placements.{SamePlacements};
 ghost use Rattle.grow_workers.specs.Inner.Sharing.{HasSeen, IsShared};
 
 use crate::shared::Shared;
 use assembly::Grid;
-use frontier_seat::Scout;
+use frontier_seat::{ClaimLog, Scout};
 use site_table::SiteSeat;
 use std::alloc::Global;
 use tile_io::Gate;
 use tile_system::NoMemory;
 
-// What one worker leaves: its seat, what it has seen, and how often it has won.
+// What one worker leaves: its seat, what it has seen, how often it has won, and the log of its
+// claims where it went in canonical order until the box was closed.
 #[derive(Drop)]
 pub(crate) struct Part {
     pub seat: SiteSeat,
     pub grid: Grid,
     pub won: u32,
+    pub log: Option<ClaimLog>,
 }
 
-// What several leave: a seat, what it has seen, and how often worker 0 and the others have won.
+// What several leave: a seat, what it has seen, how often worker 0 and the others have won, and the
+// log of worker 0.
 #[derive(Drop)]
 pub(crate) struct Harvest {
     pub seat: SiteSeat,
     pub grid: Grid,
     pub first: u32,
     pub others: Vec<u32>,
+    pub log: Option<ClaimLog>,
+}
+
+// What all leave once the box is closed: how often each has won, from worker 0 on.
+#[derive(Drop)]
+pub(crate) struct Closing {
+    pub seat: SiteSeat,
+    pub grid: Grid,
+    pub wins: Vec<u32>,
+    pub log: Option<ClaimLog>,
 }
 
 // A scout with what was seen, which looks types up in the index of all.
@@ -50,8 +63,14 @@ pub(crate) fn part_of(scout: Scout<'_>) -> Part
     ensures part { scout.entry
         ≡ record { seat = result.seat; grid = result.grid; won = result.won } }
     ensures seen { SamePlacements result.seat.scout.seen result.grid.tiles }
+    ensures log { result.log ≡ None }
 {
     let won = scout.won();
     let (seat, grid) = scout.end();
-    Part { seat, grid, won }
+    Part {
+        seat,
+        grid,
+        won,
+        log: None,
+    }
 }

@@ -1,16 +1,18 @@
 // A worker's life in its thread.
-ghost use Rattle.std.specs.Prelude.{◌≡◌, ◌<◌, IfOk};
+ghost use Rattle.std.specs.Prelude.{◌≡◌, ◌<◌, [], IfOk};
 ghost use Rattle.site_table.specs.Seats.{IsSeatOf};
 ghost use Rattle.frontier_seat.specs.Growths.{GrowsOn};
-ghost use Rattle.grow_workers.specs.Inner.Sharing.{HasSeen, IsShared, IsStart, IsWorkOf};
+ghost use Rattle.grow_workers.specs.Inner.Sharing.{BeginsLog, HasSeen, IsSeenPart, IsShared, IsStart, IsWorkOf};
+ghost use Rattle.grow_workers.specs.Inner.Wins.{PartedGrowth};
 
+use crate::in_order::sweep_logged;
 use crate::leavings::{Part, part_of, scout_of};
 use crate::picks::Picks;
 use crate::shared::Shared;
 use crate::starts::Start;
 use crate::team::Waiting;
 use assembly::Grid;
-use frontier_seat::{Burst, Scout};
+use frontier_seat::{Burst, ClaimLog, Scout};
 use site_table::SiteSeat;
 use std::alloc::Global;
 use std::marker::Brand;
@@ -30,8 +32,13 @@ const BURST: u32 = 512;
 // The most turns of a worker: more than a box takes.
 const MOST_TURNS: u32 = 1 << 20;
 
-// All that a worker does beside others: it claims in its bands, and where nothing is left there it
-// looks beside them. One worker alone leaves all to `end`.
+// A worker beside one that goes through the whole box ends after so many turns in a row with nothing
+// to do.
+const PATIENCE_BESIDE: u32 = 100;
+
+// All that a worker does beside others: with a log it goes through the whole box, and else it claims
+// in its bands, and where nothing is left there it looks beside them. One worker alone without a log
+// leaves all to `end`.
 pub(crate) fn work<G: Gate>(
     alloc: Global,
     shared: &Shared<'_, G>,
@@ -41,18 +48,51 @@ pub(crate) fn work<G: Gate>(
     requires start { IsStart shared.now start }
     ensures { IfOk result (IsWorkOf shared.now start) }
 {
-    let Start { worker, seat, seen } = start;
+    let Start {
+        worker,
+        seat,
+        seen,
+        log,
+    } = start;
     shared.gate.arrive(worker);
+    if let Some(log) = log {
+        return work_in_order(alloc, shared, seat, seen, log);
+    }
     if shared.workers.get() == 1 {
         return Ok(Part {
             seat,
             grid: seen,
             won: 0,
+            log: None,
         });
     }
     let mut scout = begin(alloc, shared, worker, seat, seen)?;
     take_turns(shared, worker, &mut scout);
     Ok(part_of(scout))
+}
+
+// All that a worker does that goes through the whole box.
+fn work_in_order<G: Gate>(
+    alloc: Global,
+    shared: &Shared<'_, G>,
+    seat: SiteSeat,
+    seen: Grid,
+    log: ClaimLog,
+) -> Result<Part, NoMemory>
+    requires shared { IsShared shared.now }
+    requires seen { HasSeen shared.now seat seen }
+    requires begins { BeginsLog shared.now.sys.now seen log }
+    ensures seen { IfOk result (IsSeenPart shared.now) }
+    ensures grew { IfOk result (λ r.
+        PartedGrowth shared.now.sys.now seat seen r.seat r.grid r.won []) }
+{
+    let (part, log) = sweep_logged(alloc, shared, seat, seen, log)?;
+    Ok(Part {
+        seat: part.seat,
+        grid: part.grid,
+        won: part.won,
+        log: Some(log),
+    })
 }
 
 // A worker's scout. The others are told that it has begun, and where it can't that it has ended.
@@ -90,7 +130,12 @@ fn take_turns<G: Gate>(shared: &Shared<'_, G>, worker: u32, scout: &mut Scout<'_
         FIRST_OF_OTHERS
     };
     let mut is_over = burst(shared, worker, scout, &mut picks, most);
-    let mut waiting = Waiting::of(worker);
+    let patience = if shared.in_order {
+        PATIENCE_BESIDE
+    } else {
+        MOST_TURNS
+    };
+    let mut waiting = Waiting::of(worker, patience);
     for _turn in 0..MOST_TURNS {
         if is_over || waiting.is_over {
             break;

@@ -7,7 +7,8 @@ use tile_system::System;
 use type_index::TypeIndex;
 
 // A system and a table of it, an index of the system's types, the gate that each worker passes, the
-// choice by which all choose, and of how many workers each is one.
+// choice by which all choose, of how many workers each is one, and whether worker 0 goes through the
+// whole box in canonical order, so that the others may end when they have nothing to do.
 #[derive(Drop)]
 pub(crate) struct Shared<'a, G: Gate> {
     pub sys: &'a System,
@@ -16,5 +17,6 @@ pub(crate) struct Shared<'a, G: Gate> {
     pub gate: &'a G,
     pub choice: u64,
     pub workers: WorkerCount,
+    pub in_order: bool,
     pub team: Team,
 }

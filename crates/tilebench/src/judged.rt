@@ -5,14 +5,15 @@ ghost use Rattle.type_index.specs.Clean.{CameExact};
 ghost use Rattle.type_index.specs.Indexes.{IsIndexOf};
 ghost use Rattle.replay_order.specs.ReplayAnswers.{IsWholeOrder};
 ghost use Rattle.local_check.specs.Judgement.{IsVerdict};
-ghost use Rattle.grow_workers.specs.Workers.{IsGrownBy};
+ghost use Rattle.grow_workers.specs.Workers.{IsGrownBy, IsSeenOrder};
 ghost use Rattle.tilebench.specs.Growths.{is_unique};
-ghost use Rattle.tilebench.specs.Inner.Rooms.{IsJudgedGrowth, IsSeenOrder};
+ghost use Rattle.tilebench.specs.Inner.Rooms.{IsJudgedGrowth};
 
-use crate::order::{SeenOrder, grow_ordered, order_of};
+use crate::order::{grow_ordered, order_of};
 use crate::resources::{Crew, Resources};
 use assembly::{Grid, Sequence};
 use fan_out::WorkerCount;
+use grow_workers::SeenOrder;
 use local_check::{Verdict, inputs_by_index, judge_clean, judge_closed, judge_grown};
 use site_table::Grown;
 use std::thread::Threads;

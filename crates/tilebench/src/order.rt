@@ -4,14 +4,15 @@ ghost use Rattle.atam.specs.Assembly.{Fits};
 ghost use Rattle.atam.specs.Growth.{IsProducible};
 ghost use Rattle.type_index.specs.Clean.{CameExact};
 ghost use Rattle.type_index.specs.Indexes.{IsIndexOf};
-ghost use Rattle.grow_workers.specs.Workers.{IsGrownBy};
+ghost use Rattle.grow_workers.specs.Workers.{IsGrownBy, IsSeenOrder};
 ghost use Rattle.replay_order.specs.ReplayAnswers.{IsWholeOrder};
-ghost use Rattle.tilebench.specs.Inner.Rooms.{IsSeenOrder};
 
 use crate::resources::{Crew, Resources};
 use assembly::{Grid, Sequence};
 use fan_out::WorkerCount;
-use grow_workers::{GrownInOrder, grow_by_index, grow_in_order_seeing};
+use grow_workers::{
+    GrownInOrder, SeenOrder, grow_by_index, grow_in_order_seeing, grow_seeing_order,
+};
 use replay_order::{ReplayStop, replay, replay_by};
 use site_table::Grown;
 use std::alloc::Global;
@@ -20,16 +21,12 @@ use tile_io::Gate;
 use tile_system::{NoMemory, System};
 use type_index::TypeIndex;
 
-/// The canonical order of what has grown, and whether it is clear that each tile but the seeds came
-/// clean, held by exactly the temperature.
-#[derive(Drop)]
-pub struct SeenOrder {
-    pub order: Sequence,
-    pub clean: bool,
-}
+// With so few types it takes less to look one up than to go through the box once more for the order
+// and the verdict.
+const FEW_TYPES: u32 = 4096;
 
-/// Grows a system, and tells its canonical order too where growth went in it, as by one worker
-/// with the choice 0. The index of the types is lent.
+/// Grows a system, and tells its canonical order too where growth went in it, as with the choice 0 by
+/// one worker, or by several where the types are few. The index of the types is lent.
 pub fn grow_ordered<R: Threads + Sync, G: Gate>(
     resources: &Resources<'_, R, G>,
     sys: &System,
@@ -45,6 +42,9 @@ pub fn grow_ordered<R: Threads + Sync, G: Gate>(
     let Crew { workers, choice } = crew;
     if workers.get() == 1 && choice == 0 {
         return grow_alone(alloc, sys, types, workers, gate);
+    }
+    if choice == 0 && sys.type_count() <= FEW_TYPES {
+        return grow_seeing_order(resources.rt, alloc, sys, types, workers, gate);
     }
     let grown = grow_by_index(resources.rt, alloc, sys, types, workers, choice, gate)?;
     Ok((grown, None))

@@ -34,17 +34,23 @@ pub record ClaimsAt (sys : TileSystem) (site : Site) (old new : Growing) : Type 
   pub tiles : (m : Site) → tile_at new.grid.tiles m ≡ tile_at (old.grid.tiles ++ place site tile ∷ []) m
   pub placements : SamePlacements (old.grid.tiles ++ place site tile ∷ []) new.grid.tiles
   pub count : length new.grid.tiles ≡ length old.grid.tiles + 1
-  -- who owns all numbers wins it
-  pub sole : old.seat.scout.owned ≡ 2 ^ 64 - 1 → IsCandidate sys old.grid.tiles site tile
+
+-- a claim for a type that attaches there, and whether that type stands there then, as it does for who owns all numbers
+pub record ClaimsPick (sys : TileSystem) (site : Site) (old new : Growing) (picked : Bool) : Type 0 where
+  pub claim : ClaimsAt sys site old new
+  pub attaches : picked ≡ true → IsCandidate sys old.grid.tiles site claim.tile
+  pub sole : old.seat.scout.owned ≡ 2 ^ 64 - 1 → picked ≡ true
 
 -- If it is said that each tile came clean, it was said so before, and whatever attached at the site among these tiles comes clean.
 abbrev pub KeepsClean : TileSystem → List Place → Site → Bool → Bool → Type 0
 KeepsClean sys tiles site old new = new ≡ true → (old ≡ true) × OpensExact sys tiles site
 
--- a claim whose site's number is logged
+-- a claim whose site's number is logged, and whether what stands there attached
 pub record LogsClaim (sys : TileSystem) (spot : Spot) (before after : Growing) (old new : LoggedClaims) : Type 0 where
   pub claim : ClaimsAt sys spot.site before after
   pub numbers : new.numbers ≡ old.numbers ++ spot.number ∷ []
+  pub in_order : new.in_order ≡ true → (old.in_order ≡ true) × IsCandidate sys before.grid.tiles spot.site claim.tile
+  pub sole : before.seat.scout.owned ≡ 2 ^ 64 - 1 → old.in_order ≡ true → new.in_order ≡ true
   pub clean : KeepsClean sys before.grid.tiles spot.site old.clean new.clean
 
 -- or nothing

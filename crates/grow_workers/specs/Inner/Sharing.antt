@@ -1,9 +1,15 @@
 -- What workers share, what each begins with, and what it leaves.
-use Rattle.std.specs.Prelude.{◌≡◌, ℕ, ◌≤◌, ◌<◌, List, [], ◌∷◌, ◌++◌, All, length, Result, IfOk, slice_index_or}
+use Rattle.std.specs.Prelude.{◌≡◌, ℕ, ◌≤◌, ◌<◌, true, List, [], ◌∷◌, ◌++◌, All, length, Result, IfOk, IfSome, slice_index_or}
+use Rattle.atam.specs.declared.place.Place.{Place}
+use Rattle.atam.specs.TileSystem.{TileSystem}
 use Rattle.atam.specs.Placements.{SamePlacements}
+use Rattle.atam.specs.Growth.{IsClosedInBox}
+use Rattle.assembly.specs.Cells.{cell_count}
 use Rattle.assembly.specs.Grids.{TileGrid}
 use Rattle.tile_system.specs.declared.memory.NoMemory.{NoMemory}
+use Rattle.type_index.specs.Clean.{GrewExact}
 use Rattle.type_index.specs.Indexes.{IsIndexOf}
+use Rattle.frontier_seat.specs.Orders.{AreCanonicalClaims, LoggedClaims}
 use Rattle.site_table.specs.Seats.{IsSeatOf, SeatValue}
 use Rattle.grow_workers.specs.declared.leavings.Part.{Part}
 use Rattle.grow_workers.specs.declared.shared.Shared.{Shared}
@@ -21,14 +27,37 @@ pub record HasSeen {G : Type 0} (shared : Shared G) (seat : SeatValue) (grid : T
   pub area : grid.area ≡ shared.sys.now.area
   pub seen : SamePlacements seat.scout.seen grid.tiles
 
+-- an empty log with room for the whole box, where the seeds alone were seen
+pub record BeginsLog (sys : TileSystem) (seen : TileGrid) (log : LoggedClaims) : Type 0 where
+  pub none : log.numbers ≡ []
+  pub in_order : log.in_order ≡ true
+  pub room : cell_count sys.area ≤ log.room
+  pub start : SamePlacements sys.seeds seen.tiles
+
+-- the log of claims whose tiles, where they came in order, are the canonical sequence of these tiles behind the seeds, and came clean where it says so
+pub record IsOrderLog (sys : TileSystem) (tiles : List Place) (log : LoggedClaims) : Type 0 where
+  pub order : log.in_order ≡ true → AreCanonicalClaims sys tiles log.numbers
+  pub clean : log.in_order ≡ true → log.clean ≡ true → GrewExact sys tiles
+
+-- so it is with the tiles of a grid that is closed in the box
+pub record IsLogOf (sys : TileSystem) (grid : TileGrid) (log : LoggedClaims) : Type 0 where
+  pub closed : IsClosedInBox sys grid.tiles
+  pub orders : IsOrderLog sys grid.tiles log
+
+-- a worker's seat and grid, and the log of one that went on until the box was closed
+pub record IsSeenPart {G : Type 0} (shared : Shared G) (part : Part) : Type 0 where
+  pub seen : HasSeen shared part.seat part.grid
+  pub log : IfSome part.log (IsLogOf shared.sys.now part.grid)
+
 -- one of the workers begins with this
 pub record IsStart {G : Type 0} (shared : Shared G) (start : Start) : Type 0 where
   pub worker : start.worker < shared.workers.count
   pub seen : HasSeen shared start.seat start.seen
+  pub log : IfSome start.log (BeginsLog shared.sys.now start.seen)
 
 -- and leaves that
 pub record IsWorkOf {G : Type 0} (shared : Shared G) (start : Start) (part : Part) : Type 0 where
-  pub seen : HasSeen shared part.seat part.grid
+  pub left : IsSeenPart shared part
   pub grew : PartedGrowth shared.sys.now start.seat start.seen part.seat part.grid part.won []
 
 -- the seats of these workers, each parted off from what was left of a seat, and what is left in the end

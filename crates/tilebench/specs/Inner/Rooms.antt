@@ -1,10 +1,8 @@
 -- What the rooms of the commands hand from one step to the next: outcomes that can be printed.
-use Rattle.std.specs.Prelude.{◌≡◌, ℕ, true, List, [], ◌∷◌, string_bytes, All, IfSome}
+use Rattle.std.specs.Prelude.{◌≡◌, ℕ, List, [], ◌∷◌, string_bytes, All, IfSome}
 use Rattle.atam.specs.declared.place.Place.{Place}
 use Rattle.atam.specs.TileSystem.{TileSystem, IsType}
-use Rattle.atam.specs.Canonical.{IsCanonical}
 use Rattle.atam.specs.Growth.{IsLeastOpenOutside}
-use Rattle.type_index.specs.Clean.{CameExact}
 use Rattle.grow_core.specs.declared.event.Event.{Event}
 use Rattle.seq_text.specs.SeenLines.{HasLine}
 use Rattle.seq_text.specs.VerdictLines.{NamesTypes}
@@ -14,7 +12,6 @@ use Rattle.tilebench.specs.declared.commands.certify.Certification.{Certificatio
 use Rattle.tilebench.specs.declared.commands.certify.Certification.TheVariants.{Given, Refuted, Unordered}
 use Rattle.tilebench.specs.declared.growth.Growth.{Growth}
 use Rattle.tilebench.specs.declared.judged.JudgedGrowth.{JudgedGrowth}
-use Rattle.tilebench.specs.declared.order.SeenOrder.{SeenOrder}
 use Rattle.replay_order.specs.ReplayAnswers.{IsWholeOrder}
 use Rattle.local_check.specs.declared.once.Judged.{Judged}
 use Rattle.local_check.specs.declared.once.Judged.TheVariants.{Legal, Breach}
@@ -34,11 +31,6 @@ pub record HasTypes (sys : TileSystem) (outcome : Outcome) : Type 0 where
   pub order : All (λ p. IsType sys p.tile) outcome.order
   pub outside : IfSome outcome.outside (λ found. IsType sys found.1)
   pub verdict : NamesTypes sys outcome.verdict
-
--- the canonical order of these tiles, of which each came clean, held by exactly the temperature, if it is said so
-pub record IsSeenOrder (sys : TileSystem) (tiles : List Place) (seen : SeenOrder) : Type 0 where
-  pub canonical : IsCanonical sys tiles seen.order
-  pub clean : seen.clean ≡ true → CameExact sys seen.order
 
 -- the whole order of these tiles, the verdict on it, and what is open outside the box
 pub record IsJudgedGrowth (sys : TileSystem) (tiles : List Place) (judged : JudgedGrowth) : Type 0 where

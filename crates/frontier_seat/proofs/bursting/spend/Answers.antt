@@ -4,7 +4,7 @@ use Rattle.assembly.specs.Cells.{cell_count}
 use Rattle.number_set.proofs.Counting.{count_below-removes}
 use Rattle.frontier_seat.specs.declared.growing.Growing.{Growing}
 use Rattle.frontier_seat.specs.Inner.Listings.{TakesSpot}
-use Rattle.frontier_seat.specs.Inner.Looks.{ClaimsAt}
+use Rattle.frontier_seat.specs.Inner.Looks.{ClaimsPick}
 use Rattle.frontier_seat.proofs.Looked.{few_tiles, goes_further, goes_nowhere, less_work}
 use Rattle.frontier_seat.proofs.bursting.spend.Goals as goal
 
@@ -49,8 +49,8 @@ loop-left-preserved-then-seen g c =
     let before = inv.cost in
     let made = inv.made in
     let some = c.loop-left-test.true in
-    let claim = subst (λ (b : Bool). MatchBool b (ClaimsAt c.args.sys.now c.in-Some.spot.site c.loop-left.growing c.look-seen.new.growing) (c.look-seen.new.growing ≡ c.loop-left.growing)) c.if-seen.true c.look-seen.ensures.claims in
-    let count = claim.count in
+    let claim = subst (λ (b : Bool). MatchBool b (ClaimsPick c.args.sys.now c.in-Some.spot.site c.loop-left.growing c.look-seen.new.growing c.look-seen.result.picked) (c.look-seen.new.growing ≡ c.loop-left.growing)) c.if-seen.true c.look-seen.ensures.claims in
+    let count = claim.claim.count in
     record {
       growing = looks.growing;
       goes = goes_further c.args.growing.now c.loop-left.growing c.look-seen.new.growing inv.goes looks.goes;
@@ -68,7 +68,7 @@ loop-left-preserved g c =
     let cost = c.look-seen.ensures.cost in
     let before = inv.cost in
     let made = inv.made in
-    let same : c.look-seen.new.growing ≡ c.loop-left.growing = subst (λ (b : Bool). MatchBool b (ClaimsAt c.args.sys.now c.in-Some.spot.site c.loop-left.growing c.look-seen.new.growing) (c.look-seen.new.growing ≡ c.loop-left.growing)) c.if-seen.false c.look-seen.ensures.claims in
+    let same : c.look-seen.new.growing ≡ c.loop-left.growing = subst (λ (b : Bool). MatchBool b (ClaimsPick c.args.sys.now c.in-Some.spot.site c.loop-left.growing c.look-seen.new.growing c.look-seen.result.picked) (c.look-seen.new.growing ≡ c.loop-left.growing)) c.if-seen.false c.look-seen.ensures.claims in
     let count = ap (λ (h : Growing). length h.grid.tiles) same in
     record {
       growing = looks.growing;

@@ -1,13 +1,15 @@
-use Rattle.std.proofs.Common.{◌<◌, ◌∙◌, length, inl, inr, sym, subst, arith}
+use Rattle.std.proofs.Common.{◌<◌, ◌∙◌, [], ◌∷◌, length, length-append, inl, inr, ap, sym, subst, arith}
 use Rattle.atam.specs.declared.area.BoxArea.{BoxArea}
 use Rattle.assembly.specs.Cells.{cell_count}
 use Rattle.number_set.proofs.Counting.{count_below-removes}
 use Rattle.frontier_seat.specs.declared.work_list.Spot.{Spot}
+use Rattle.frontier_seat.specs.declared.growing.Growing.{Growing}
+use Rattle.frontier_seat.specs.Orders.{LoggedClaims}
 use Rattle.frontier_seat.specs.Inner.Listings.{IsSpot, ListedSites}
 use Rattle.frontier_seat.specs.Inner.Looks.{ListsOpen}
 use Rattle.frontier_seat.proofs.Listing.{closed_none, closed_taken, spot_here}
 use Rattle.frontier_seat.proofs.Looked.{few_tiles, goes_further, goes_nowhere, less_work}
-use Rattle.frontier_seat.proofs.Ordering.{claims_more, claims_start, claims_stay, few_claims, least_listed}
+use Rattle.frontier_seat.proofs.Ordering.{claims_more, claims_start, claims_stay, least_listed}
 use Rattle.frontier_seat.proofs.sweeping.look_in_order.Goals as goal
 
 pub loop-number-init : goal.loop-number-init
@@ -18,7 +20,9 @@ loop-number-init g c = record {
   area = λ _. c.args.work.now.area;
   row = c.least-row.ensures;
   lists = c.requires.lists;
-  order = claims_start c.args.sys.now c.args.growing.now.grid.tiles c.args.log.now c.area-area.ensures.valid c.requires.start c.requires.none;
+  order = λ _. claims_start c.args.sys.now c.args.growing.now.grid.tiles c.args.log.now c.area-area.ensures.valid c.requires.start c.requires.none;
+  sole = λ _ said. said;
+  count = let none = ap length c.requires.none in omega (arith, none);
   room = λ _. c.args.log.now.room;
   cost = omega arith;
 }
@@ -27,12 +31,12 @@ pub look_logged-requires-clause-room : goal.look_logged-requires-clause-room
 look_logged-requires-clause-room g c =
     let sys = c.args.sys.now in
     let inv = c.loop-number.invariant in
-    let valid = c.area-area.ensures.valid in
-    let few = few_claims sys c.loop-number.growing.grid.tiles c.loop-number.log valid inv.growing.fits inv.order in
-    let some = valid.some_seed in
+    let few = few_tiles sys c.loop-number.growing inv.growing in
+    let some = c.requires.growing.some_tile in
+    let count = inv.count in
     let room = inv.room in
     let enough = c.requires.room in
-    omega (arith, few, some, room, enough)
+    omega (arith, few, some, count, room, enough)
 
 pub look_logged-requires-clause-closed : goal.look_logged-requires-clause-closed
 look_logged-requires-clause-closed g c =
@@ -74,10 +78,24 @@ loop-number-preserved g c =
       area = c.look_logged.ensures.area ∙ (c.take_least.ensures.area ∙ inv.area);
       row = c.site-site.ensures.row;
       lists = record { empty = looks.listed; all = looks.closed };
-      order = elim c.look_logged.ensures.logs [
-        | inl logged ↦ claims_more sys before after spot old new inv.growing is_own (inv.goes.seat.owned ∙ c.requires.sole)
-            (least_listed sys before.grid.tiles numbers spot c.area-area.ensures.valid.box is_own inv.lists.all c.in-Some.ensures.least) logged inv.order
-        | inr same ↦ claims_stay sys before after old new same.0 same.1 inv.order
+      order = λ said. elim c.look_logged.ensures.logs [
+        | inl logged ↦ claims_more sys before after spot old new inv.growing is_own
+            (least_listed sys before.grid.tiles numbers spot c.area-area.ensures.valid.box is_own inv.lists.all c.in-Some.ensures.least) logged (logged.in_order said).1 (inv.order (logged.in_order said).0)
+        | inr same ↦ claims_stay sys before after old new same.0 same.1 (inv.order (sym (ap (λ (l : LoggedClaims). l.in_order) same.1) ∙ said))
+      ];
+      sole = λ all was. elim c.look_logged.ensures.logs [
+        | inl logged ↦ logged.sole (inv.goes.seat.owned ∙ all) (inv.sole all was)
+        | inr same ↦ ap (λ (l : LoggedClaims). l.in_order) same.1 ∙ inv.sole all was
+      ];
+      count = elim c.look_logged.ensures.logs [
+        | inl logged ↦
+            let longer = ap length logged.numbers ∙ length-append old.numbers (number ∷ []) in
+            let one = logged.claim.count in
+            let all = inv.count in omega (arith, longer, one, all)
+        | inr same ↦
+            let numbers_same = ap (λ (l : LoggedClaims). length l.numbers) same.1 in
+            let tiles_same = ap (λ (h : Growing). length h.grid.tiles) same.0 in
+            let all = inv.count in omega (arith, numbers_same, tiles_same, all)
       ];
       room = c.look_logged.ensures.room ∙ inv.room;
       cost = omega (arith, cost, was);

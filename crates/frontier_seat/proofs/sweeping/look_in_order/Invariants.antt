@@ -1,4 +1,4 @@
-use Rattle.std.proofs.Common.{◌≡◌, ◌+◌, ◌-◌, ◌*◌, length}
+use Rattle.std.proofs.Common.{◌≡◌, ◌+◌, ◌-◌, ◌*◌, ◌^◌, true, length}
 use Rattle.assembly.specs.Cells.{cell_count}
 use Rattle.assembly.specs.Rows.{IsRow}
 use Rattle.number_set.specs.Numbers.{count_below}
@@ -17,7 +17,9 @@ invariant-loop-number g l = record {
   area : l.work.area ≡ l.fn.work.area;
   row : IsRow l.area l.row;
   lists : ListsOpen l.sys l.growing.grid.tiles l.work.numbers;
-  order : GrewByLog l.sys l.growing.grid.tiles l.log;
+  order : l.log.in_order ≡ true → GrewByLog l.sys l.growing.grid.tiles l.log;
+  sole : l.fn.growing.seat.scout.owned ≡ 2 ^ 64 - 1 → l.fn.log.in_order ≡ true → l.log.in_order ≡ true;
+  count : length l.log.numbers + length l.fn.growing.grid.tiles ≡ length l.growing.grid.tiles;
   room : l.log.room ≡ l.fn.log.room;
   cost : l.steps + length l.fn.growing.grid.tiles ≡ l.fn.steps + length l.growing.grid.tiles;
 }

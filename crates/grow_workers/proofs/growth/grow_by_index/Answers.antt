@@ -13,7 +13,7 @@ grow_together-requires-clause-numbers g c κs within =
 pub returns : goal.returns
 returns g c =
     let sys = c.args.sys.now in
-    let closes : Closes sys c.in_ok-seat.seat.scout c.close.result = subst (λ z. Closes z c.in_ok-seat.seat.scout c.close.result) c.in_ok-table.ensures.system c.close.ensures in
+    let closes : Closes sys c.in_ok-seat.field-0.seat.scout c.close.result = subst (λ z. Closes z c.in_ok-seat.field-0.seat.scout c.close.result) c.in_ok-table.ensures.system c.close.ensures in
     let start = c.in_ok-table.ensures.scout in
-    whole_growth sys c.args.workers.count _ c.in_ok-table.field-0.seat c.in_ok-seat.seat c.in_ok-seat.grid _ c.close.result c.recall_valid.ensures.valid
+    whole_growth sys c.args.workers.count _ c.in_ok-table.field-0.seat c.in_ok-seat.field-0.seat c.in_ok-seat.field-0.grid _ c.close.result c.recall_valid.ensures.valid
     start.owned start.mine c.in_ok-seat.ensures.grew c.in_ok-seat.ensures.count c.args.workers.few c.recall_sites.ensures.distinct closes

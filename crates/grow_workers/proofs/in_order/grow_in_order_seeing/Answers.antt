@@ -15,7 +15,7 @@ returns-clause-growth g c =
     let seen = c.in_ok-table.field-0.seen in
     let start = c.in_ok-table.ensures.scout in
     let closes : Closes sys part.seat.scout c.close-grown.result = subst (λ z. Closes z part.seat.scout c.close-grown.result) c.in_ok-table.ensures.system c.close-grown.ensures in
-    let grew = grew_alone sys seen owner part.seat part.grid part.won start.owned c.in_ok-part.ensures.closed c.in_ok-part.ensures.grew in
+    let grew = grew_alone sys seen owner part.seat part.grid part.won start.owned c.in_ok-part.ensures.log.closed c.in_ok-part.ensures.grew in
     whole_growth sys 1 seen owner part.seat part.grid (part.won ∷ []) c.close-grown.result c.recall_valid.ensures.valid
     start.owned start.mine grew refl (omega arith) c.recall_sites.ensures.distinct closes
 
@@ -31,7 +31,7 @@ sequence_of-requires-clause-order g c =
     let grew = c.in_ok-part.ensures.grew in
     let closes : Closes sys part.seat.scout c.close-grown.result = subst (λ z. Closes z part.seat.scout c.close-grown.result) c.in_ok-table.ensures.system c.close-grown.ensures in
     subst (λ (g : TileGrid). AreCanonicalClaims sys g.tiles c.in_ok-part.log.numbers) (sym c.grid.ensures)
-    (claims_left sys part.grid.tiles c.close-grown.result.grid.tiles c.in_ok-part.log.numbers (grid_left sys part.seat part.grid c.close-grown.result c.recall_sites.ensures.distinct grew.seen c.in_ok-part.ensures.closed closes) c.in_ok-part.ensures.order)
+    (claims_left sys part.grid.tiles c.close-grown.result.grid.tiles c.in_ok-part.log.numbers (grid_left sys part.seat part.grid c.close-grown.result c.recall_sites.ensures.distinct grew.seen c.in_ok-part.ensures.log.closed closes) (c.in_ok-part.ensures.log.orders.order (c.in_ok-part.ensures.sole c.in_ok-table.ensures.scout.owned)))
 
 pub returns-clause-clean : goal.returns-clause-clean
 returns-clause-clean g c said =
@@ -39,9 +39,9 @@ returns-clause-clean g c said =
     let part = c.in_ok-part.part in
     let grew = c.in_ok-part.ensures.grew in
     let closes : Closes sys part.seat.scout c.close-grown.result = subst (λ z. Closes z part.seat.scout c.close-grown.result) c.in_ok-table.ensures.system c.close-grown.ensures in
-    let left = grid_left sys part.seat part.grid c.close-grown.result c.recall_sites.ensures.distinct grew.seen c.in_ok-part.ensures.closed closes in
+    let left = grid_left sys part.seat part.grid c.close-grown.result c.recall_sites.ensures.distinct grew.seen c.in_ok-part.ensures.log.closed closes in
     let order = subst (λ (g : TileGrid). IsCanonical sys g.tiles c.in_ok-order.order) c.grid.ensures c.in_ok-order.ensures in
-    exact_left sys part.grid.tiles c.close-grown.result.grid.tiles c.in_ok-order.order left (c.in_ok-part.ensures.clean (sym c.is_clean-clean.ensures ∙ said)) order
+    exact_left sys part.grid.tiles c.close-grown.result.grid.tiles c.in_ok-order.order left (c.in_ok-part.ensures.log.orders.clean (c.in_ok-part.ensures.sole c.in_ok-table.ensures.scout.owned) (sym c.is_clean-clean.ensures ∙ said)) order
 
 pub returns-clause-order : goal.returns-clause-order
 returns-clause-order g c = subst (λ (g : TileGrid). IsCanonical c.args.sys.now g.tiles c.in_ok-order.order) c.grid.ensures c.in_ok-order.ensures

@@ -2,7 +2,7 @@ use Rattle.std.proofs.Common.{◌≡◌, ◌+◌, ◌++◌, [], ◌∷◌, ◌�
 use Rattle.std.proofs.Math.Seq.{take-append_seam}
 use Rattle.tile_system.specs.declared.memory.NoMemory.{NoMemory}
 use Rattle.grow_workers.specs.declared.leavings.Part.{Part}
-use Rattle.grow_workers.specs.Inner.Sharing.{HasSeen}
+use Rattle.grow_workers.specs.Inner.Sharing.{IsSeenPart}
 use Rattle.grow_workers.proofs.Joined.{IsJoined, joined_all, joined_first, joined_more, last_fact, popped, prefix_less, rest_fact}
 use Rattle.grow_workers.proofs.joining.join.Goals as goal
 
@@ -13,7 +13,7 @@ loop-part-init g c =
     let left = c.pop.new.self.items in
     let part : Part = c.in_ok-first.first in
     let last : done ≡ left ++ Ok part ∷ [] = popped done left c.pop.result (Ok part) c.pop.ensures.items (c.unwrap.ensures ∙ ap Some c.in_ok-first.was) in
-    let Seen : Result Part NoMemory → Type 0 = λ d. IfOk d (λ p. HasSeen shared p.seat p.grid) in
+    let Seen : Result Part NoMemory → Type 0 = λ d. IfOk d (IsSeenPart shared) in
     let all = ap length last in
     let both = length-append left (Ok part ∷ []) in
     let none = ap length c.new.ensures.items in
@@ -21,7 +21,8 @@ loop-part-init g c =
       left = sym (ap (take (length left)) last ∙ take-append_seam left (Ok part ∷ []));
       count = omega (arith, all, both, none);
       each = rest_fact Seen done left (Ok part) last c.requires.each;
-      seen = last_fact Seen done left (Ok part) last c.requires.each;
+      seen = (last_fact Seen done left (Ok part) last c.requires.each).seen;
+      log = (last_fact Seen done left (Ok part) last c.requires.each).log;
       grew = λ old grid starts is are works. subst (λ (others : List ℕ). IsJoined shared old grid starts (length left) part.seat part.grid part.won others) (sym c.new.ensures.items)
           (joined_first shared old grid starts done left part last are works);
     }
@@ -31,9 +32,9 @@ unite-requires-clause-second g c κs within =
     let shared = c.args.shared.now in
     let new = c.pop-in-loop-part.new.self.items in
     let part : Part = c.in_ok-part.field-0 in
-    let Seen : Result Part NoMemory → Type 0 = λ d. IfOk d (λ p. HasSeen shared p.seat p.grid) in
+    let Seen : Result Part NoMemory → Type 0 = λ d. IfOk d (IsSeenPart shared) in
     let last : c.loop-part.left.items ≡ new ++ Ok part ∷ [] = c.in-Some.ensures.items ∙ ap (λ r. new ++ r ∷ []) c.in_ok-part.was in
-    last_fact Seen c.loop-part.left.items new (Ok part) last c.loop-part.invariant.each
+    (last_fact Seen c.loop-part.left.items new (Ok part) last c.loop-part.invariant.each).seen
 
 pub loop-part-preserved : goal.loop-part-preserved
 loop-part-preserved g c =
@@ -46,7 +47,7 @@ loop-part-preserved g c =
     let before = c.loop-part.team in
     let after = c.in_ok-team.team in
     let last : left ≡ new ++ Ok part ∷ [] = c.in-Some.ensures.items ∙ ap (λ r. new ++ r ∷ []) c.in_ok-part.was in
-    let Seen : Result Part NoMemory → Type 0 = λ d. IfOk d (λ p. HasSeen shared p.seat p.grid) in
+    let Seen : Result Part NoMemory → Type 0 = λ d. IfOk d (IsSeenPart shared) in
     let long : length left ≡ length new + 1 = ap length last ∙ length-append new (Ok part ∷ []) in
     let count = inv.count in
     let one = c.in_ok-team.ensures.count in
@@ -55,6 +56,7 @@ loop-part-preserved g c =
       count = omega (arith, count, one, long);
       each = rest_fact Seen left new (Ok part) last inv.each;
       seen = c.in_ok-team.ensures.seen;
+      log = c.in_ok-team.ensures.log;
       grew = λ old grid starts is are works.
           joined_more shared old grid starts done new part before.seat after.seat before.grid after.grid before.first after.first before.others.items after.others.items
           (sym last ∙ (inv.left ∙ ap (λ n. take n done) long)) (omega (arith, count, long)) is are works c.in_ok-team.ensures.grew

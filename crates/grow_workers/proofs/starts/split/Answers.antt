@@ -1,57 +1,28 @@
-use Rattle.std.proofs.Common.{◌≡◌, ◌<◌, ◌+◌, ◌-◌, ◌++◌, [], ◌∷◌, List, All, length, length-append, refl, sym, ap, subst, arith}
+use Rattle.std.proofs.Common.{◌≡◌, ◌++◌, [], ◌∷◌, All, refl, sym, subst, arith}
 use Rattle.std.proofs.lemmas.List.Elements.{All-push}
-use Rattle.assembly.specs.Grids.{TileGrid}
 use Rattle.grow_workers.specs.declared.starts.Start.{Start}
-use Rattle.grow_workers.specs.Inner.Sharing.{ArePartedOff, HasSeen, IsStart}
-use Rattle.grow_workers.specs.Inner.Wins.{HasNumbers}
-use Rattle.grow_workers.proofs.Joined.{parted_more}
+use Rattle.grow_workers.specs.Inner.Sharing.{IsStart}
 use Rattle.grow_workers.proofs.starts.split.Goals as goal
-
-pub loop-worker-preserved : goal.loop-worker-preserved
-loop-worker-preserved g c =
-    let inv = c.loop-worker.invariant in
-    let shared = c.args.shared.now in
-    let rest = c.part_off-rest.result.0 in
-    let old = c.loop-worker.starts.items in
-    let start : Start = record { worker = c.loop-worker.worker; seat = c.part_off-rest.result.1; seen = c.in_ok-copy.field-0 } in
-    let longer : c.push.new.self.items ≡ old ++ start ∷ [] = c.in_ok-push.ensures.items in
-    let same : start.seen ≡ c.args.seen = c.in_ok-copy.ensures in
-    let few : c.loop-worker.worker < shared.workers.count = omega (arith, c.loop-worker-test.true, c.get-workers.ensures.count) in
-    let left : c.get-workers.result - c.loop-worker.worker + 1 - 1 ≡ shared.workers.count - (c.loop-worker.worker + 1) + 1 = omega (arith, few, c.get-workers.ensures.count) in
-    let one : IsStart shared start = record { worker = few; seen = subst (λ (seen : TileGrid). HasSeen shared start.seat seen) (sym same) c.part_off-rest.ensures.second } in
-    let count = inv.count in
-    let many = ap length longer in
-    let both = length-append old (start ∷ []) in
-    record {
-      some = omega arith;
-      few = omega (arith, few);
-      numbers = subst (λ n. HasNumbers n rest.scout.owned) left c.part_off-rest.ensures.numbers;
-      seen = c.part_off-rest.ensures.first;
-      parted = subst (λ (l : List Start). ArePartedOff c.args.seat l rest) (sym longer) (parted_more c.args.seat c.loop-worker.kept rest old start inv.parted c.part_off-rest.ensures.parted);
-      grids = subst (All (λ (s : Start). s.seen ≡ c.args.seen)) (sym longer) (All-push (λ (s : Start). s.seen ≡ c.args.seen) old start inv.grids same);
-      each = subst (All (IsStart shared)) (sym longer) (All-push (IsStart shared) old start inv.each one);
-      count = omega (arith, count, many, both);
-    }
 
 pub returns-clause-starts : goal.returns-clause-starts
 returns-clause-starts g c =
-    let old = c.loop-worker.starts.items in
-    let start : Start = record { worker = 0; seat = c.loop-worker.kept; seen = c.args.seen } in
-    let longer : c.push-2.new.self.items ≡ old ++ start ∷ [] = c.in_ok-push-2.ensures.items in
+    let old = c.in_ok-starts.starts.items in
+    let start : Start = record { worker = 0; seat = c.in_ok-starts.kept; seen = c.args.seen; log = c.args.log } in
+    let longer : c.push.new.self.items ≡ old ++ start ∷ [] = c.in_ok-push.ensures.items in
     record {
       others = old;
       first = start;
       all = longer;
-      parted = c.loop-worker.invariant.parted;
-      grids = subst (All (λ (s : Start). s.seen ≡ c.args.seen)) (sym longer) (All-push (λ (s : Start). s.seen ≡ c.args.seen) old start c.loop-worker.invariant.grids refl);
+      parted = c.in_ok-starts.ensures.parted;
+      grids = subst (All (λ (s : Start). s.seen ≡ c.args.seen)) (sym longer) (All-push (λ (s : Start). s.seen ≡ c.args.seen) old start c.in_ok-starts.ensures.grids refl);
     }
 
 pub returns-clause-each : goal.returns-clause-each
 returns-clause-each g c =
     let shared = c.args.shared.now in
-    let old = c.loop-worker.starts.items in
-    let start : Start = record { worker = 0; seat = c.loop-worker.kept; seen = c.args.seen } in
-    let longer : c.push-2.new.self.items ≡ old ++ start ∷ [] = c.in_ok-push-2.ensures.items in
+    let old = c.in_ok-starts.starts.items in
+    let start : Start = record { worker = 0; seat = c.in_ok-starts.kept; seen = c.args.seen; log = c.args.log } in
+    let longer : c.push.new.self.items ≡ old ++ start ∷ [] = c.in_ok-push.ensures.items in
     let some = shared.workers.some in
-    let one : IsStart shared start = record { worker = omega (arith, some); seen = c.loop-worker.invariant.seen } in
-    subst (All (IsStart shared)) (sym longer) (All-push (IsStart shared) old start c.loop-worker.invariant.each one)
+    let one : IsStart shared start = record { worker = omega (arith, some); seen = c.in_ok-starts.ensures.kept; log = c.requires.log } in
+    subst (All (IsStart shared)) (sym longer) (All-push (IsStart shared) old start c.in_ok-starts.ensures.each one)

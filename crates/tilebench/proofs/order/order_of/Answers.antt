@@ -1,6 +1,6 @@
 use Rattle.std.proofs.Common.{subst, Option, IfSome}
-use Rattle.tilebench.specs.declared.order.SeenOrder.{SeenOrder}
-use Rattle.tilebench.specs.Inner.Rooms.{IsSeenOrder}
+use Rattle.grow_workers.specs.declared.ordered.SeenOrder.{SeenOrder}
+use Rattle.grow_workers.specs.Workers.{IsSeenOrder}
 use Rattle.tilebench.proofs.Orders.{canonical_whole}
 use Rattle.tilebench.proofs.order.order_of.Goals as goal
 

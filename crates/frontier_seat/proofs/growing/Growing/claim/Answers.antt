@@ -1,9 +1,11 @@
 use Rattle.std.proofs.Common.{arith, ◌≡◌, ◌<◌, ◌+◌, ◌∙◌, subst, sym, refl}
+use Rattle.std.proofs.lemmas.Bool.{eqb-true}
 use Rattle.atam.specs.declared.area.BoxArea.{BoxArea}
 use Rattle.atam.specs.TileSystem.{TileSystem, IsType}
 use Rattle.frontier_seat.specs.declared.growing.Growing.{Growing}
 use Rattle.assembly.specs.Cells.{cell_count, site_at}
 use Rattle.assembly.proofs.Cells.{cell_count-most}
+use Rattle.atam.specs.Growth.{IsCandidate}
 use Rattle.grow_core.specs.Steps.{Supports}
 use Rattle.site_table.specs.Rule.{IsPossible}
 use Rattle.frontier_seat.proofs.Looked.{supported, few_tiles, claim_won, claim_lost, never_lost}
@@ -35,8 +37,14 @@ returns-in-Held-clause-claim g c =
     let before = subst (λ (z : TileSystem). IsPossible z old.seat.scout) system c.recall_possible.ensures.possible in
     let after = subst (λ (z : TileSystem). IsPossible z c.claim_at.new.seat.scout) (c.in-Held.ensures.seat.sys ∙ system) c.recall_possible-in-Held.ensures.possible in
     let kind = subst (λ (z : TileSystem). IsType z c.in-Held.there) c.requires.system c.in-Held.ensures.kind in
-    claim_lost c.args.sys.now old mid c.put-in-Held.new.self c.args.spot.site c.in-Held.there c.requires.growing c.requires.spot.inside kind c.in-Held.ensures.seat refl refl c.in-Held.ensures.claim c.put-in-Held.ensures
-    (never_lost c.args.sys.now old c.claim_at.new.seat.scout c.args.spot.site c.in-Held.there c.requires.growing before after c.requires.open.attaches.empty c.in-Held.ensures.claim)
+    record {
+      claim = claim_lost c.args.sys.now old mid c.put-in-Held.new.self c.args.spot.site c.in-Held.there c.requires.growing c.requires.spot.inside kind c.in-Held.ensures.seat refl refl c.in-Held.ensures.claim c.put-in-Held.ensures;
+      attaches = λ same.
+          let one : c.args.tile.0 ≡ c.in-Held.there.0 = sym (eqb-true c.in-Held.there.0 c.args.tile.0 (sym c.eq.ensures ∙ same)) in
+          let own : c.args.tile ≡ c.in-Held.there = λ i. record { 0 = one i } in
+          subst (IsCandidate c.args.sys.now old.grid.tiles c.args.spot.site) own c.requires.open;
+      sole = λ all. absurd (never_lost c.args.sys.now old c.claim_at.new.seat.scout c.args.spot.site c.in-Held.there c.requires.growing before after c.requires.open.attaches.empty c.in-Held.ensures.claim all);
+    }
 
 pub claim_at-requires-clause-within : goal.claim_at-requires-clause-within
 claim_at-requires-clause-within g c = subst (λ (z : TileSystem). c.args.spot.number < cell_count z.area) (sym c.requires.system) c.requires.spot.within

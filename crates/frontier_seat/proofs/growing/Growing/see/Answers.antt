@@ -1,23 +1,18 @@
-use Rattle.std.proofs.Common.{◌≡◌, ◌<◌, ◌∙◌, refl, sym, subst}
+use Rattle.std.proofs.Common.{◌≡◌, ◌<◌, refl, sym, subst}
 use Rattle.atam.specs.declared.area.BoxArea.{BoxArea}
 use Rattle.assembly.specs.Cells.{cell_count, site_at}
 use Rattle.atam.specs.TileSystem.{TileSystem, IsType}
-use Rattle.site_table.specs.Rule.{IsPossible}
 use Rattle.frontier_seat.specs.declared.growing.Growing.{Growing}
-use Rattle.frontier_seat.proofs.Looked.{claim_lost, never_lost}
+use Rattle.frontier_seat.proofs.Looked.{claim_lost}
 use Rattle.frontier_seat.proofs.growing.Growing.see.Goals as goal
 
 pub returns : goal.returns
 returns c =
     let old = c.args.self.now in
     let mid : Growing = record { seat = c.look_at.new.seat; grid = old.grid; won = old.won } in
-    let system = c.requires.growing.system in
     let sees = c.in-Some.ensures.sees in
-    let before = subst (λ (z : TileSystem). IsPossible z old.seat.scout) system c.recall_possible.ensures.possible in
-    let after = subst (λ (z : TileSystem). IsPossible z c.look_at.new.seat.scout) (c.look_at.ensures.seat.sys ∙ system) c.recall_possible-2.ensures.possible in
     let kind = subst (λ (z : TileSystem). IsType z c.in-Some.tile) c.requires.system c.in-Some.ensures.kind in
     claim_lost c.args.sys.now old mid c.put.new.self c.args.spot.site c.in-Some.tile c.requires.growing c.requires.spot.inside kind c.look_at.ensures.seat refl refl sees c.put.ensures
-    (never_lost c.args.sys.now old c.look_at.new.seat.scout c.args.spot.site c.in-Some.tile c.requires.growing before after c.requires.empty sees)
 
 pub put-requires-clause-within : goal.put-requires-clause-within
 put-requires-clause-within c = subst (λ (a : BoxArea). c.args.spot.number < cell_count a) (sym c.requires.growing.area) c.requires.spot.within

@@ -1,4 +1,4 @@
-use Rattle.std.proofs.Common.{subst, arith}
+use Rattle.std.proofs.Common.{◌∙◌, ap, subst, arith}
 use Rattle.frontier_seat.specs.declared.growing.Growing.{Growing}
 use Rattle.frontier_seat.specs.Growths.{GrowsOn}
 use Rattle.site_table.specs.Rule.{IsPossible}
@@ -19,15 +19,18 @@ returns-clause-last g c =
     finally sys new.seat.scout real.valid (closed_seen sys new growing real.scout.distinct c.look_in_order.ensures.closed)
 
 pub returns-clause-order : goal.returns-clause-order
-returns-clause-order g c =
+returns-clause-order g c said =
     let new = c.look_in_order.new.growing in
-    canonical_claims c.args.sys.now new.grid.tiles c.look_in_order.new.log c.recall_valid.ensures.valid c.look_in_order.ensures.growing.fits c.look_in_order.ensures.order
+    canonical_claims c.args.sys.now new.grid.tiles c.look_in_order.new.log c.recall_valid.ensures.valid c.look_in_order.ensures.growing.fits (c.look_in_order.ensures.order said)
 
 pub returns-clause-clean : goal.returns-clause-clean
-returns-clause-clean g c said =
+returns-clause-clean g c said exact =
     let new = c.look_in_order.new.growing in
     let growing = c.look_in_order.ensures.growing in
-    grew_exact c.args.sys.now new.grid.tiles c.look_in_order.new.log c.recall_valid.ensures.valid growing.distinct growing.fits c.look_in_order.ensures.order said
+    grew_exact c.args.sys.now new.grid.tiles c.look_in_order.new.log c.recall_valid.ensures.valid growing.distinct growing.fits (c.look_in_order.ensures.order said) exact
+
+pub returns-clause-sole : goal.returns-clause-sole
+returns-clause-sole g c all was = c.look_in_order.ensures.sole (ap (λ (h : Growing). h.seat.scout.owned) c.self.view_is ∙ all) was
 
 pub returns-clause-few : goal.returns-clause-few
 returns-clause-few g c =

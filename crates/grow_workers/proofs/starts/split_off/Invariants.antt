@@ -2,7 +2,7 @@ use Rattle.std.proofs.Common.{◌≡◌, ◌≤◌, ◌+◌, ◌-◌, All, lengt
 use Rattle.grow_workers.specs.declared.starts.Start.{Start}
 use Rattle.grow_workers.specs.Inner.Sharing.{ArePartedOff, HasSeen, IsStart}
 use Rattle.grow_workers.specs.Inner.Wins.{HasNumbers}
-use Rattle.grow_workers.proofs.starts.split.Given as goal
+use Rattle.grow_workers.proofs.starts.split_off.Given as goal
 
 -- the workers so far have begun, and what is left of the seat suffices for the others
 abbrev pub invariant-loop-worker : goal.invariant-loop-worker

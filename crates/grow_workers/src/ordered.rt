@@ -1,0 +1,95 @@
+// Growth by several workers, of whom worker 0 goes through the whole box in canonical order.
+ghost use Rattle.std.specs.Prelude.{◌≡◌, true, IfOk, IfSome};
+ghost use Rattle.type_index.specs.Indexes.{IsIndexOf};
+ghost use Rattle.grow_workers.specs.Workers.{IsGrownBy, IsSeenOrder};
+ghost use Rattle.grow_workers.specs.Inner.Sharing.{IsOrderLog};
+
+use crate::growth::grow_together;
+use crate::leavings::Closing;
+use crate::prepared::{Prepared, prepare};
+use crate::shared::Shared;
+use crate::team::Team;
+use assembly::{Grid, Sequence};
+use fan_out::WorkerCount;
+use frontier_seat::ClaimLog;
+use site_table::Grown;
+use std::alloc::Global;
+use std::thread::Threads;
+use tile_io::Gate;
+use tile_system::{NoMemory, System};
+use type_index::TypeIndex;
+
+/// The canonical order of what has grown, and whether it is clear that each tile but the seeds came
+/// clean, held by exactly the temperature.
+#[derive(Drop)]
+pub struct SeenOrder {
+    pub order: Sequence,
+    pub clean: bool,
+}
+
+/// What `grow_by_index` leaves with the choice 0, and its canonical order where that is seen on the
+/// way: worker 0 goes through the whole box, always at the least site that is open to what it has
+/// seen, and takes over what others have placed there; the others claim in their bands, and end
+/// when they have nothing to do. So it takes about as long as one worker alone, however the sites
+/// hang together. The order is not seen where another has placed a type that worker 0 did not
+/// pick, as where several attach; no clause says more of it.
+pub fn grow_seeing_order<R: Threads + Sync, G: Gate>(
+    rt: &R,
+    alloc: Global,
+    sys: &System,
+    types: &TypeIndex,
+    workers: WorkerCount,
+    gate: &G,
+) -> Result<(Grown, Option<SeenOrder>), NoMemory>
+    requires { IsIndexOf sys.now types.now }
+    ensures growth { IfOk result (λ r. IsGrownBy sys.now workers.count r.0) }
+    ensures order { IfOk result (λ r. IfSome r.1 (IsSeenOrder sys.now r.0.grid.tiles)) }
+{
+    sys.recall_valid();
+    let Prepared { table, seat, seen } = prepare(alloc, sys)?;
+    let log = ClaimLog::make(alloc, sys.area())?;
+    let shared = Shared {
+        sys,
+        table: &table,
+        types,
+        gate,
+        choice: 0,
+        workers,
+        in_order: true,
+        team: Team::of(workers),
+    };
+    let Closing {
+        seat,
+        mut grid,
+        wins: _wins,
+        log,
+    } = grow_together(rt, alloc, &shared, seat, seen, Some(log))?;
+    drop(shared);
+    grid.recall_sites();
+    grid.clear();
+    let grown = table.close(seat, grid);
+    let order = order_of(alloc, sys, grown.grid(), log)?;
+    Ok((grown, order))
+}
+
+// The canonical order of what has grown, if the log has it.
+fn order_of(
+    alloc: Global,
+    sys: &System,
+    grid: &Grid,
+    log: Option<ClaimLog>,
+) -> Result<Option<SeenOrder>, NoMemory>
+    requires area { grid.now.area ≡ sys.now.area }
+    requires log { IfSome log (IsOrderLog sys.now grid.now.tiles) }
+    ensures { IfOk result (λ r. IfSome r (IsSeenOrder sys.now grid.now.tiles)) }
+{
+    let Some(log) = log else {
+        return Ok(None);
+    };
+    if !log.is_in_order() {
+        return Ok(None);
+    }
+    let clean = log.is_clean();
+    let order = log.sequence_of(alloc, sys, grid)?;
+    Ok(Some(SeenOrder { order, clean }))
+}
