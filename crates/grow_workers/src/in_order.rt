@@ -1,13 +1,13 @@
 // Growth by one worker in canonical order.
-ghost use Rattle.std.specs.Prelude.{◌≡◌, ◌<◌, ◌-◌, ◌^◌, [], true, IfOk, IfSome, IsTrue};
+ghost use Rattle.std.specs.Prelude.{◌≡◌, ◌<◌, ◌-◌, ◌^◌, [], IfOk, IfSome, IsTrue};
 ghost use Rattle.atam.specs.Canonical.{IsCanonical};
-ghost use Rattle.type_index.specs.Clean.{CameExact};
 ghost use Rattle.type_index.specs.Indexes.{IsIndexOf};
-ghost use Rattle.grow_workers.specs.Workers.{IsGrownBy};
+ghost use Rattle.grow_workers.specs.Workers.{IsGrownBy, IsSeenOrder};
 ghost use Rattle.grow_workers.specs.Inner.Sharing.{BeginsLog, HasSeen, IsLogOf, IsShared};
 ghost use Rattle.grow_workers.specs.Inner.Wins.{PartedGrowth};
 
 use crate::leavings::{Part, part_of, scout_of};
+use crate::ordered::SeenOrder;
 use crate::prepared::{Prepared, prepare};
 use crate::shared::Shared;
 use crate::team::Team;
@@ -23,15 +23,6 @@ use tile_io::{Gate, Steps};
 use tile_system::{NoMemory, System};
 use type_index::TypeIndex;
 
-/// What has grown in canonical order, that order, and whether it is clear that each tile but the
-/// seeds came clean, held by exactly the temperature.
-#[derive(Drop)]
-pub struct GrownInOrder {
-    pub grown: Grown,
-    pub order: Sequence,
-    pub clean: bool,
-}
-
 /// What `grow` leaves with one worker and the choice 0, and its canonical sequence, which is the
 /// order of its claims: no pass has to find it. An index of the system's types is lent to it. It
 /// calls the gate once, before its first claim.
@@ -45,11 +36,11 @@ pub fn grow_in_order_by_index<G: Gate>(
     ensures growth { IfOk result (λ r. IsGrownBy sys.now 1 r.0) }
     ensures order { IfOk result (λ r. IsCanonical sys.now r.0.grid.tiles r.1) }
 {
-    let GrownInOrder {
-        grown,
+    let (grown, seen) = grow_in_order_seeing(alloc, sys, types, gate)?;
+    let SeenOrder {
         order,
         clean: _clean,
-    } = grow_in_order_seeing(alloc, sys, types, gate)?;
+    } = seen;
     Ok((grown, order))
 }
 
@@ -59,11 +50,10 @@ pub fn grow_in_order_seeing<G: Gate>(
     sys: &System,
     types: &TypeIndex,
     gate: &G,
-) -> Result<GrownInOrder, NoMemory>
+) -> Result<(Grown, SeenOrder), NoMemory>
     requires { IsIndexOf sys.now types.now }
-    ensures growth { IfOk result (λ r. IsGrownBy sys.now 1 r.grown) }
-    ensures order { IfOk result (λ r. IsCanonical sys.now r.grown.grid.tiles r.order) }
-    ensures clean { IfOk result (λ r. r.clean ≡ true → CameExact sys.now r.order) }
+    ensures growth { IfOk result (λ r. IsGrownBy sys.now 1 r.0) }
+    ensures order { IfOk result (λ r. IsSeenOrder sys.now r.0.grid.tiles r.1) }
 {
     sys.recall_valid();
     let Prepared { table, seat, seen } = prepare(alloc, sys)?;
@@ -88,11 +78,7 @@ pub fn grow_in_order_seeing<G: Gate>(
     let grown = table.close(part.seat, grid);
     let order = log.sequence_of(alloc, sys, grown.grid())?;
     let clean = log.is_clean();
-    Ok(GrownInOrder {
-        grown,
-        order,
-        clean,
-    })
+    Ok((grown, SeenOrder { order, clean }))
 }
 
 // One sweep from the seeds on, always at the least open site, with a log of its claims. It picks the

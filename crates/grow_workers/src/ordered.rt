@@ -1,10 +1,11 @@
 // Growth by several workers, of whom worker 0 goes through the whole box in canonical order.
-ghost use Rattle.std.specs.Prelude.{◌≡◌, true, IfOk, IfSome};
+ghost use Rattle.std.specs.Prelude.{◌≡◌, true, IfOk, IfSome, IsSome};
 ghost use Rattle.type_index.specs.Indexes.{IsIndexOf};
 ghost use Rattle.grow_workers.specs.Workers.{IsGrownBy, IsSeenOrder};
 ghost use Rattle.grow_workers.specs.Inner.Sharing.{IsOrderLog};
 
 use crate::growth::grow_together;
+use crate::in_order::grow_in_order_seeing;
 use crate::leavings::Closing;
 use crate::prepared::{Prepared, prepare};
 use crate::shared::Shared;
@@ -31,9 +32,30 @@ pub struct SeenOrder {
 /// way: worker 0 goes through the whole box, always at the least site that is open to what it has
 /// seen, and takes over what others have placed there; the others claim in their bands, and end
 /// when they have nothing to do. So it takes about as long as one worker alone, however the sites
-/// hang together. The order is not seen where another has placed a type that worker 0 did not
-/// pick, as where several attach; no clause says more of it.
+/// hang together. One worker always sees the order. Several don't where another has placed a type
+/// that worker 0 did not pick, as where several attach; no clause says more of it.
 pub fn grow_seeing_order<R: Threads + Sync, G: Gate>(
+    rt: &R,
+    alloc: Global,
+    sys: &System,
+    types: &TypeIndex,
+    workers: WorkerCount,
+    gate: &G,
+) -> Result<(Grown, Option<SeenOrder>), NoMemory>
+    requires { IsIndexOf sys.now types.now }
+    ensures growth { IfOk result (λ r. IsGrownBy sys.now workers.count r.0) }
+    ensures order { IfOk result (λ r. IfSome r.1 (IsSeenOrder sys.now r.0.grid.tiles)) }
+    ensures sole { workers.count ≡ 1 → IfOk result (λ r. IsSome r.1) }
+{
+    if workers.get() == 1 {
+        let (grown, seen) = grow_in_order_seeing(alloc, sys, types, gate)?;
+        return Ok((grown, Some(seen)));
+    }
+    grow_beside_first(rt, alloc, sys, types, workers, gate)
+}
+
+// The same by worker 0 and others beside it.
+fn grow_beside_first<R: Threads + Sync, G: Gate>(
     rt: &R,
     alloc: Global,
     sys: &System,

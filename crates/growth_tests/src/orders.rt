@@ -4,7 +4,7 @@ ghost use Rattle.atam.specs.Assembly.{Fits};
 
 use assembly::{Grid, Sequence};
 use fan_out::WorkerCount;
-use grow_workers::grow_in_order_by_index;
+use grow_workers::{SeenOrder, grow_in_order_by_index, grow_seeing_order};
 use replay_order::{ReplayStop, replay, replay_by};
 use site_table::Grown;
 use std::alloc::Global;
@@ -42,6 +42,12 @@ const TEXTS: [&str; 14] = [
     MIDDLE,
     HOOK,
 ];
+
+// In these one type alone attaches at each open site, so that any workers see the canonical order.
+const SURE_TEXTS: [&str; 4] = [CHAIN, SIERPINSKI, SMALL_COUNTER, MIDDLE];
+
+// In these several may attach at a site, or none.
+const OTHER_TEXTS: [&str; 4] = [SINGLE, RIVALS, MISMATCH, FLIPPER];
 
 // Whether two sequences have the same places.
 fn are_same(one: &Sequence, other: &Sequence) -> bool {
@@ -104,6 +110,69 @@ fn any_workers_tell_the_canonical_order(rt: HostRuntime) -> Result<(), Fail> {
     for text in TEXTS {
         let sys = system(rt.alloc(), text)?;
         assert!(rt; orders_agree(&rt, rt.alloc(), &sys)?);
+    }
+    Ok(())
+}
+
+// What a system grows into by so many workers, its canonical order where they see it, and whether
+// each came to the gate once.
+fn grown_seeing<R: Threads + Sync>(
+    rt: &R,
+    alloc: Global,
+    sys: &System,
+    workers: WorkerCount,
+) -> Result<(Grown, Option<SeenOrder>, bool), NoMemory>
+    ensures area { IfOk result (λ r. r.0.grid.area ≡ sys.now.area) }
+    ensures fits { IfOk result (λ r. Fits sys.now r.0.grid.tiles) }
+{
+    let gate = CountingGate::make();
+    let types = TypeIndex::build(alloc, sys)?;
+    let (grown, seen) = grow_seeing_order(rt, alloc, sys, &types, workers, &gate)?;
+    grown.grid().recall_sites();
+    Ok((grown, seen, gate.saw_each_once(workers.get())))
+}
+
+// Whether any number of workers see the canonical order, or none where it needn't be seen.
+fn is_seen<R: Threads + Sync>(
+    rt: &R,
+    alloc: Global,
+    sys: &System,
+    is_sure: bool,
+) -> Result<bool, ReplayStop> {
+    for workers in [1, 2, 4] {
+        let (grown, seen, came) = grown_seeing(rt, alloc, sys, WorkerCount::new(workers))?;
+        let order = replay(alloc, sys, grown.grid())?;
+        let is_right = match &seen {
+            Some(seen) => are_same(&seen.order, &order),
+            None => !is_sure,
+        };
+        if !came || !is_right {
+            return Ok(false);
+        }
+    }
+    Ok(true)
+}
+
+#[test]
+fn any_workers_see_the_canonical_order(rt: HostRuntime) -> Result<(), Fail> {
+    for text in SURE_TEXTS {
+        let sys = system(rt.alloc(), text)?;
+        assert!(rt; is_seen(&rt, rt.alloc(), &sys, true)?);
+    }
+    for text in OTHER_TEXTS {
+        let sys = system(rt.alloc(), text)?;
+        assert!(rt; is_seen(&rt, rt.alloc(), &sys, false)?);
+    }
+    Ok(())
+}
+
+#[test]
+fn any_workers_see_that_tiles_come_clean(rt: HostRuntime) -> Result<(), Fail> {
+    let sys = system(rt.alloc(), SIERPINSKI)?;
+    for workers in [1, 3] {
+        let workers = WorkerCount::new(workers);
+        let (_grown, seen, _came) = grown_seeing(&rt, rt.alloc(), &sys, workers)?;
+        assert!(rt; seen.is_some_and(|seen| seen.clean));
     }
     Ok(())
 }

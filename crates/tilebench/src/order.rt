@@ -10,9 +10,7 @@ ghost use Rattle.replay_order.specs.ReplayAnswers.{IsWholeOrder};
 use crate::resources::{Crew, Resources};
 use assembly::{Grid, Sequence};
 use fan_out::WorkerCount;
-use grow_workers::{
-    GrownInOrder, SeenOrder, grow_by_index, grow_in_order_seeing, grow_seeing_order,
-};
+use grow_workers::{SeenOrder, grow_by_index, grow_seeing_order};
 use replay_order::{ReplayStop, replay, replay_by};
 use site_table::Grown;
 use std::alloc::Global;
@@ -40,35 +38,12 @@ pub fn grow_ordered<R: Threads + Sync, G: Gate>(
     let alloc = resources.alloc;
     let gate = resources.gate;
     let Crew { workers, choice } = crew;
-    if workers.get() == 1 && choice == 0 {
-        return grow_alone(alloc, sys, types, workers, gate);
-    }
-    if choice == 0 && sys.type_count() <= FEW_TYPES {
+    let is_short = workers.get() == 1 || sys.type_count() <= FEW_TYPES;
+    if choice == 0 && is_short {
         return grow_seeing_order(resources.rt, alloc, sys, types, workers, gate);
     }
     let grown = grow_by_index(resources.rt, alloc, sys, types, workers, choice, gate)?;
     Ok((grown, None))
-}
-
-// Grows a system by one worker, which goes in canonical order.
-fn grow_alone<G: Gate>(
-    alloc: Global,
-    sys: &System,
-    types: &TypeIndex,
-    workers: WorkerCount,
-    gate: &G,
-) -> Result<(Grown, Option<SeenOrder>), NoMemory>
-    requires index { IsIndexOf sys.now types.now }
-    requires one { workers.count ≡ 1 }
-    ensures grew { IfOk result (λ r. IsGrownBy sys.now workers.count r.0) }
-    ensures order { IfOk result (λ r. IfSome r.1 (IsSeenOrder sys.now r.0.grid.tiles)) }
-{
-    let GrownInOrder {
-        grown,
-        order,
-        clean,
-    } = grow_in_order_seeing(alloc, sys, types, gate)?;
-    Ok((grown, Some(SeenOrder { order, clean })))
 }
 
 /// Grows a system, with an index of the types of its own.

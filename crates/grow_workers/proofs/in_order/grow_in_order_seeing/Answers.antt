@@ -33,15 +33,15 @@ sequence_of-requires-clause-order g c =
     subst (λ (g : TileGrid). AreCanonicalClaims sys g.tiles c.in_ok-part.log.numbers) (sym c.grid.ensures)
     (claims_left sys part.grid.tiles c.close-grown.result.grid.tiles c.in_ok-part.log.numbers (grid_left sys part.seat part.grid c.close-grown.result c.recall_sites.ensures.distinct grew.seen c.in_ok-part.ensures.log.closed closes) (c.in_ok-part.ensures.log.orders.order (c.in_ok-part.ensures.sole c.in_ok-table.ensures.scout.owned)))
 
-pub returns-clause-clean : goal.returns-clause-clean
-returns-clause-clean g c said =
+pub returns-clause-order : goal.returns-clause-order
+returns-clause-order g c =
     let sys = c.args.sys.now in
     let part = c.in_ok-part.part in
     let grew = c.in_ok-part.ensures.grew in
     let closes : Closes sys part.seat.scout c.close-grown.result = subst (λ z. Closes z part.seat.scout c.close-grown.result) c.in_ok-table.ensures.system c.close-grown.ensures in
     let left = grid_left sys part.seat part.grid c.close-grown.result c.recall_sites.ensures.distinct grew.seen c.in_ok-part.ensures.log.closed closes in
     let order = subst (λ (g : TileGrid). IsCanonical sys g.tiles c.in_ok-order.order) c.grid.ensures c.in_ok-order.ensures in
-    exact_left sys part.grid.tiles c.close-grown.result.grid.tiles c.in_ok-order.order left (c.in_ok-part.ensures.log.orders.clean (c.in_ok-part.ensures.sole c.in_ok-table.ensures.scout.owned) (sym c.is_clean-clean.ensures ∙ said)) order
-
-pub returns-clause-order : goal.returns-clause-order
-returns-clause-order g c = subst (λ (g : TileGrid). IsCanonical c.args.sys.now g.tiles c.in_ok-order.order) c.grid.ensures c.in_ok-order.ensures
+    record {
+      canonical = order;
+      clean = λ said. exact_left sys part.grid.tiles c.close-grown.result.grid.tiles c.in_ok-order.order left (c.in_ok-part.ensures.log.orders.clean (c.in_ok-part.ensures.sole c.in_ok-table.ensures.scout.owned) (sym c.is_clean-clean.ensures ∙ said)) order;
+    }

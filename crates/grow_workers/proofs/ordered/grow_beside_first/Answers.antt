@@ -6,7 +6,7 @@ use Rattle.grow_workers.specs.Workers.{OwnsAtLeast}
 use Rattle.grow_workers.proofs.Numbering.{owns_many}
 use Rattle.grow_workers.proofs.Whole.{log_left}
 use Rattle.grow_workers.proofs.Winning.{grid_left, whole_growth}
-use Rattle.grow_workers.proofs.ordered.grow_seeing_order.Goals as goal
+use Rattle.grow_workers.proofs.ordered.grow_beside_first.Goals as goal
 
 pub grow_together-requires-clause-numbers : goal.grow_together-requires-clause-numbers
 grow_together-requires-clause-numbers g c κs within =
