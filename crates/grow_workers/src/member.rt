@@ -29,16 +29,13 @@ const FIRST_OF_OTHERS: u32 = 64;
 // The most claims of a later burst.
 const BURST: u32 = 512;
 
-// The most turns of a worker: more than a box takes.
+// The most turns of a worker after its first burst: more than a box takes. Beside a worker that goes
+// through the whole box there are none, since what another claims there only makes that one slower.
 const MOST_TURNS: u32 = 1 << 20;
 
-// A worker beside one that goes through the whole box ends after so many turns in a row with nothing
-// to do.
-const PATIENCE_BESIDE: u32 = 100;
-
 // All that a worker does beside others: with a log it goes through the whole box, and else it claims
-// in its bands, and where nothing is left there it looks beside them. One worker alone without a log
-// leaves all to `end`.
+// in its bands, and where nothing is left there it looks beside them, or beside a worker with a log
+// it ends after its first burst. One worker alone without a log leaves all to `end`.
 pub(crate) fn work<G: Gate>(
     alloc: Global,
     shared: &Shared<'_, G>,
@@ -130,13 +127,9 @@ fn take_turns<G: Gate>(shared: &Shared<'_, G>, worker: u32, scout: &mut Scout<'_
         FIRST_OF_OTHERS
     };
     let mut is_over = burst(shared, worker, scout, &mut picks, most);
-    let patience = if shared.in_order {
-        PATIENCE_BESIDE
-    } else {
-        MOST_TURNS
-    };
-    let mut waiting = Waiting::of(worker, patience);
-    for _turn in 0..MOST_TURNS {
+    let most_turns = if shared.in_order { 0 } else { MOST_TURNS };
+    let mut waiting = Waiting::of(worker);
+    for _turn in 0..most_turns {
         if is_over || waiting.is_over {
             break;
         }

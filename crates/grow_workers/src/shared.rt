@@ -8,7 +8,7 @@ use type_index::TypeIndex;
 
 // A system and a table of it, an index of the system's types, the gate that each worker passes, the
 // choice by which all choose, of how many workers each is one, and whether worker 0 goes through the
-// whole box in canonical order, so that the others may end when they have nothing to do.
+// whole box in canonical order, so that the others may end.
 #[derive(Drop)]
 pub(crate) struct Shared<'a, G: Gate> {
     pub sys: &'a System,

@@ -70,21 +70,19 @@ impl Team {
     }
 }
 
-// The waiting of one worker: how many turns in a row with nothing to do are enough, for how many it
-// had nothing to do, and whether it has waited enough.
+// The waiting of one worker: for how many turns in a row it had nothing to do, and whether it has
+// waited enough.
 #[derive(Drop)]
 pub(crate) struct Waiting {
     worker: u32,
-    patience: u32,
     turns: u32,
     pub(crate) is_over: bool,
 }
 
 impl Waiting {
-    pub(crate) fn of(worker: u32, patience: u32) -> Waiting {
+    pub(crate) fn of(worker: u32) -> Waiting {
         Waiting {
             worker,
-            patience,
             turns: 0,
             is_over: false,
         }
@@ -103,8 +101,7 @@ impl Waiting {
             team.settled.fetch_or(bit_of(self.worker), Ordering::SeqCst);
         }
         self.turns = self.turns.saturating_add(1);
-        let is_idle = team.rests() && (team.has_begun() || self.turns >= PATIENCE_AT_START);
-        self.is_over = is_idle || self.turns >= self.patience;
+        self.is_over = team.rests() && (team.has_begun() || self.turns >= PATIENCE_AT_START);
         for _ in 0..PAUSE {
             hint::spin_loop();
         }

@@ -89,14 +89,25 @@ pub fn judge_grid<R: Threads + Sync, G: Gate>(
     ensures { IfOk result (IsJudgedGrowth sys.now grid.now.tiles) }
 {
     grid.recall_sites();
+    let judges = judges_of(&known, workers);
     let SeenOrder { order, clean } = order_of(resources, sys, grid, known, workers)?;
     let outside = types.least_open_outside(sys, grid);
-    let verdict = verdict_on(resources, sys, types, grid, &order, clean, outside, workers)?;
+    let verdict = verdict_on(resources, sys, types, grid, &order, clean, outside, judges)?;
     Ok(JudgedGrowth {
         order,
         verdict,
         outside,
     })
+}
+
+// How many look at the places of a growth: one where its order was seen on the way, since that ends
+// at the first place that did not come clean.
+fn judges_of(known: &Option<SeenOrder>, workers: WorkerCount) -> WorkerCount {
+    if known.is_some() {
+        WorkerCount::new(1)
+    } else {
+        workers
+    }
 }
 
 // The verdict on a full growth in its order, by the least open site outside the box. One worker
