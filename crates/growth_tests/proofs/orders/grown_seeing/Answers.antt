@@ -6,7 +6,7 @@ use Rattle.assembly.specs.Grids.{TileGrid}
 use Rattle.growth_tests.proofs.orders.grown_seeing.Goals as goal
 
 pub returns-clause-fits : goal.returns-clause-fits
-returns-clause-fits c =
+returns-clause-fits g c =
     let sys = c.args.sys.now in
     let grown = c.in_ok-grown.grown in
     record {
