@@ -16,5 +16,5 @@ pub use grid::Grid;
 pub use laws::law_numbers;
 pub use place_log::PlaceLog;
 pub use row::Row;
-pub use seeding::put_seeds;
+pub use seeding::{grid_of_seeds, put_seeds};
 pub use sequence::Sequence;

@@ -13,7 +13,7 @@ use crate::checks::check_entry;
 use crate::listing::Listing;
 use crate::looks::Looks;
 use crate::{CertVerdict, Certificate};
-use assembly::{Grid, put_seeds};
+use assembly::{Grid, grid_of_seeds};
 use fan_out::{Portion, WorkerCount, share_numbers};
 use std::alloc::Global;
 use std::thread::Threads;
@@ -66,17 +66,6 @@ fn check_listing<R: Threads + Sync, G: Gate>(
     let seeds = grid_of_seeds(alloc, sys)?;
     let types = TypeIndex::build(alloc, sys)?;
     check_all(rt, alloc, sys, listing, &seeds, &types, workers, gate)
-}
-
-// The seeds alone, in a grid of the box.
-fn grid_of_seeds(alloc: Global, sys: &System) -> Result<Grid, NoMemory>
-    ensures area { IfOk result (λ grid. grid.area ≡ sys.now.area) }
-    ensures seeds { IfOk result (λ grid. SamePlacements sys.now.seeds grid.tiles) }
-{
-    sys.recall_valid();
-    let mut grid = Grid::make(alloc, sys.area())?;
-    put_seeds(sys, &mut grid);
-    Ok(grid)
 }
 
 // The site of the first seed that is no entry's place.

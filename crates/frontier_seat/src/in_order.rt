@@ -18,7 +18,7 @@ use crate::fill_log::FillLog;
 use crate::picking::{Pick, Picker};
 use crate::types::Types;
 use crate::work_list::{Spot, WorkList};
-use assembly::{Grid, Row, Sequence, put_seeds};
+use assembly::{Grid, Row, Sequence, grid_of_seeds};
 use std::alloc::Global;
 use tile_system::{NoMemory, Place, System};
 use type_index::TypeIndex;
@@ -157,13 +157,12 @@ pub fn fill_least_first_seeing<C: Chooser>(
     ensures order { IfOk result (λ r. IsCanonical sys.now r.grid.tiles r.order) }
     ensures clean { IfOk result (λ r. r.clean ≡ true → CameExact sys.now r.order) }
 {
-    let area = sys.area();
-    let mut grid = Grid::make(alloc, area)?;
-    put_seeds(sys, &mut grid);
+    sys.recall_valid();
+    let mut grid = grid_of_seeds(alloc, sys)?;
     grid.recall_sites();
     let mut log = FillLog::make(alloc, sys)?;
     let mut picker = Picker::make(alloc, sys, Types::lent(types))?;
-    let mut work = WorkList::make(alloc, area)?;
+    let mut work = WorkList::make(alloc, sys.area())?;
     fill_all(sys, &mut grid, chooser, &mut picker, &mut work, &mut log);
     let clean = log.is_clean();
     let order = log.into_sequence();

@@ -2,6 +2,7 @@
 ghost use Rattle.std.specs.Prelude.{◌≡◌, ◌<◌};
 ghost use Rattle.site_table.specs.Seats.{IsSeatOf};
 
+use assembly::grid_of_seeds;
 use frontier_seat::{Burst, First, Scout};
 use site_table::SiteTable;
 use std::alloc::Global;
@@ -10,7 +11,7 @@ use std::sync::ledger::{Blank, Ledger};
 use std::test::Fail;
 use tile_io::Steps;
 use tile_system::{NoMemory, Placed, System};
-use worked_systems::{SMALL_COUNTER, seeds_of, system};
+use worked_systems::{SMALL_COUNTER, system};
 
 // How bursts of at most so many claims end, one after another on a new table, and how many sites
 // are seen then: each step is a claim, and each claim is a site.
@@ -22,7 +23,7 @@ fn bursts_counted<L: Ledger>(
 ) -> Result<[(Burst, u32); 2], NoMemory>
     requires blank { (blank.name ≡ L.name) × (blank.parts ≡ L.parts) × (0 < blank.parts) }
 {
-    let seen = seeds_of(alloc, sys)?;
+    let seen = grid_of_seeds(alloc, sys)?;
     let (table, seat) = SiteTable::make(alloc, sys)?;
     let Ok(mut scout) = Scout::make(alloc, sys, seat, seen) else {
         return Err(NoMemory);

@@ -1,7 +1,7 @@
 // Whole growths by several workers, and growths on a table.
 ghost use Rattle.std.specs.Prelude.{◌≤◌};
 
-use assembly::Grid;
+use assembly::{Grid, grid_of_seeds};
 use grow_workers::{grow, grow_on, worker_number};
 use site_table::{Grown, SiteTable};
 use std::alloc::Global;
@@ -9,7 +9,7 @@ use std::test::Fail;
 use std::thread::Threads;
 use tile_io::OpenGate;
 use tile_system::{NoMemory, Placed, Site, System};
-use worked_systems::{CountingGate, SMALL_COUNTER, WIDE, seeds_of, system};
+use worked_systems::{CountingGate, SMALL_COUNTER, WIDE, system};
 
 // Whether two grids over a box of two by eight sites have the same tiles.
 fn are_same(one: &Grid, other: &Grid) -> bool {
@@ -91,7 +91,7 @@ fn is_same_on_a_table<R: Threads + Sync>(
     requires some { 1 ≤ workers }
     requires few { workers ≤ 16 }
 {
-    let seeds = seeds_of(alloc, sys)?;
+    let seeds = grid_of_seeds(alloc, sys)?;
     let (table, seat) = SiteTable::make(alloc, sys)?;
     let gate = CountingGate::make();
     let (seat, grid, wins) = grow_on(rt, alloc, sys, &table, seat, seeds, workers, 0, &gate)?;

@@ -14,7 +14,7 @@ use crate::judgement::{judge_closed, last_verdict, verdict_by};
 use crate::passage::{LegalPassage, Passage, Passed, pass, pass_legal};
 use crate::side_table::inputs_lent;
 use crate::{Verdict, judge};
-use assembly::{Grid, Sequence, put_seeds};
+use assembly::{Grid, Sequence, grid_of_seeds};
 use replay_order::Legality;
 use std::alloc::Global;
 use tile_system::{NoMemory, Site, System, TypeId};
@@ -115,17 +115,6 @@ fn judge_by_index(
 {
     let passed = pass(alloc, sys, seq, types, grid)?;
     judge_passed(alloc, sys, seq, types, grid, passed)
-}
-
-// The seeds in a grid of the system's box.
-fn grid_of_seeds(alloc: Global, sys: &System) -> Result<Grid, NoMemory>
-    ensures area { IfOk result (λ grid. grid.area ≡ sys.now.area) }
-    ensures seeds { IfOk result (λ grid. SamePlacements sys.now.seeds grid.tiles) }
-{
-    sys.recall_valid();
-    let mut grid = Grid::make(alloc, sys.area())?;
-    put_seeds(sys, &mut grid);
-    Ok(grid)
 }
 
 // The judgement by what was found as the places came.

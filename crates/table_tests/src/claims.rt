@@ -6,7 +6,7 @@ ghost use Rattle.atam.specs.Placements.{SamePlacements};
 ghost use Rattle.grow_core.specs.Steps.{IsScoutOf, Supports};
 ghost use Rattle.site_table.specs.Seats.{IsSeatOf};
 
-use assembly::Grid;
+use assembly::{Grid, grid_of_seeds};
 use attach_rule::pull;
 use site_table::{Claimed, Grown, SiteSeat, SiteTable};
 use std::alloc::Global;
@@ -16,7 +16,7 @@ use std::test::Fail;
 use std::thread::{self, Threads};
 use tile_io::Steps;
 use tile_system::{NoMemory, Placed, Site, System, TypeId};
-use worked_systems::{CHAIN, RIVALS, seeds_of, system};
+use worked_systems::{CHAIN, RIVALS, system};
 
 const BESIDE: Site = Site { x: 1, y: 0 };
 
@@ -150,7 +150,7 @@ fn raced<R: Threads>(
     alloc: Global,
     sys: &System,
 ) -> Result<(Option<TypeId>, Grown), NoMemory> {
-    let mut seen = seeds_of(alloc, sys)?;
+    let mut seen = grid_of_seeds(alloc, sys)?;
     let (table, seat) = SiteTable::make(alloc, sys)?;
     let (first, second) = split(&table, seat, &seen);
     let (seat, one, other) = race(rt, sys, &table, first, second, &seen);
@@ -191,7 +191,7 @@ fn read_back(
     alloc: Global,
     sys: &System,
 ) -> Result<(Option<Claimed>, [Option<TypeId>; 2], [u32; 2]), NoMemory> {
-    let seeds = seeds_of(alloc, sys)?;
+    let seeds = grid_of_seeds(alloc, sys)?;
     let (table, seat) = SiteTable::make(alloc, sys)?;
     let (first, mut second) = split(&table, seat, &seeds);
     let (first, claimed) = claim_alone(sys, &table, first, &seeds, TypeId(1));

@@ -4,7 +4,7 @@ ghost use Rattle.atam.specs.Placements.{SamePlacements};
 ghost use Rattle.site_table.specs.Seats.{IsSeatOf};
 
 use crate::claims::split;
-use assembly::Grid;
+use assembly::{Grid, grid_of_seeds};
 use frontier_seat::{First, Scout};
 use site_table::{SiteSeat, SiteTable};
 use std::alloc::Global;
@@ -13,7 +13,7 @@ use std::sync::ledger::{Blank, Ledger};
 use std::test::Fail;
 use tile_io::Steps;
 use tile_system::{NoMemory, System};
-use worked_systems::{WIDE, seeds_of, system};
+use worked_systems::{WIDE, system};
 
 // A scout of the seat.
 fn scout_of<'i>(
@@ -83,7 +83,7 @@ fn looked(
 
 // What the second of two scouts tells once the first has filled the box.
 fn edges(alloc: Global, sys: &System) -> Result<(u32, u32, bool), NoMemory> {
-    let seeds = seeds_of(alloc, sys)?;
+    let seeds = grid_of_seeds(alloc, sys)?;
     let copy = seeds.copy()?;
     let (table, seat) = SiteTable::make(alloc, sys)?;
     let (first, second) = split(&table, seat, &seeds);

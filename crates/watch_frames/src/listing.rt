@@ -12,7 +12,7 @@ ghost use Rattle.watch_frames.specs.Frames.{AreFrames, TakesFrame};
 ghost use Rattle.watch_frames.specs.Inner.Listing.{AddsReady, AreReady, AtRest, CanGoOn, HasReadyOn, IsGoingOn, IsListingOf, IsReadyAt};
 
 use crate::Frames;
-use assembly::{Grid, Row, number_beside, put_seeds};
+use assembly::{Grid, Row, grid_of_seeds, number_beside};
 use attach_rule::{facing_pull, glues_beside};
 use number_set::NumberSet;
 use std::alloc::Global;
@@ -49,9 +49,8 @@ impl Listing {
     pub(crate) fn make(alloc: Global, sys: &System) -> Result<Listing, NoMemory>
         ensures { IfOk result (AtRest sys.now sys.now.seeds) }
     {
+        let listed = grid_of_seeds(alloc, sys)?;
         let area = sys.area();
-        let mut listed = Grid::make(alloc, area)?;
-        put_seeds(sys, &mut listed);
         let ready = NumberSet::make(alloc, area.width() * area.height())?;
         Ok(Listing { listed, ready })
     }

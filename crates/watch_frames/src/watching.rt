@@ -8,7 +8,7 @@ ghost use Rattle.watch_frames.specs.Watched.{IsWatchedGrowth};
 ghost use Rattle.watch_frames.specs.Watchers.{HasWatched};
 
 use crate::{Frames, Watcher};
-use assembly::{Grid, put_seeds};
+use assembly::{Grid, grid_of_seeds};
 use grow_workers::grow_on;
 use site_table::{Grown, SiteSeat, SiteTable};
 use std::alloc::Global;
@@ -35,8 +35,7 @@ pub fn watch<R: Threads + Sync, G: Gate>(
     ensures { IfOk result (λ r. IsWatchedGrowth sys.now frames r.0 r.1) }
 {
     sys.recall_valid();
-    let mut seen = Grid::make(alloc, sys.area())?;
-    put_seeds(sys, &mut seen);
+    let seen = grid_of_seeds(alloc, sys)?;
     let own = seen.copy()?;
     let (table, seat) = SiteTable::make(alloc, sys)?;
     let (kept, given) = table.split(seat);

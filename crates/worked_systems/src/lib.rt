@@ -4,7 +4,6 @@
 mod gate;
 mod machines;
 mod places;
-mod seeds;
 mod texts;
 
 pub use gate::CountingGate;
@@ -13,7 +12,6 @@ pub use machines::{
     widest_machine,
 };
 pub use places::{Spot, fitting_place, grid_of, lists, put_fitting, sequence_of};
-pub use seeds::seeds_of;
 use std::alloc::Global;
 pub use texts::{changed_line, filled_box, scattered_seeds};
 use tile_io::{MOST_INPUT, Mark, TextStop};

@@ -4,7 +4,7 @@ ghost use Rattle.atam.specs.Placements.{SamePlacements};
 ghost use Rattle.grow_core.specs.Steps.{IsScoutOf};
 ghost use Rattle.site_table.specs.Seats.{IsSeatOf};
 
-use assembly::Grid;
+use assembly::{Grid, grid_of_seeds};
 use frontier_seat::{First, Scout};
 use site_table::{SiteSeat, SiteTable};
 use std::alloc::Global;
@@ -14,7 +14,7 @@ use std::test::Fail;
 use tile_io::Steps;
 use tile_system::{NoMemory, Place, Site, System, TypeId};
 use watch_frames::{Frames, Watcher};
-use worked_systems::{CHAIN, seeds_of, system};
+use worked_systems::{CHAIN, system};
 
 const SECOND: Place = Place {
     site: Site { x: 1, y: 0 },
@@ -76,7 +76,7 @@ fn take_three(sys: &System, table: &SiteTable, scout: &mut Scout<'_>, watcher: &
 
 // The frames of a watcher with the new seat beside a scout with the old one.
 fn three_frames(alloc: Global, sys: &System) -> Result<Frames, NoMemory> {
-    let seeds = seeds_of(alloc, sys)?;
+    let seeds = grid_of_seeds(alloc, sys)?;
     let own = seeds.copy()?;
     let (table, seat) = SiteTable::make(alloc, sys)?;
     let (first, second) = split(&table, seat, &seeds);

@@ -8,11 +8,11 @@ use Rattle.frontier_seat.proofs.in_order.fill_least_first_seeing.Goals as goal
 pub fill_all-requires-clause-filling : goal.fill_all-requires-clause-filling
 fill_all-requires-clause-filling g c =
     let sys = c.args.sys.now in
-    let valid = c.area-area.ensures.valid in
+    let valid = c.recall_valid.ensures.valid in
     record {
-      area = c.put_seeds.ensures.area ∙ (c.in_ok-grid.ensures.area ∙ c.area-area.ensures.area);
+      area = c.in_ok-grid.ensures.area;
       distinct = c.recall_sites.ensures.distinct;
-      fits = Fits-part sys c.put_seeds.new.grid.tiles sys.seeds c.put_seeds.ensures.placements.whole (record { types = valid.seed_types; sites = valid.seed_sites });
+      fits = Fits-part sys c.in_ok-grid.grid.tiles sys.seeds c.in_ok-grid.ensures.seeds.whole (record { types = valid.seed_types; sites = valid.seed_sites });
     }
 
 pub returns-clause-full : goal.returns-clause-full
@@ -23,7 +23,7 @@ returns-clause-order g c =
     let sys = c.args.sys.now in
     let tiles = c.fill_all.new.grid.tiles in
     subst (IsCanonical sys tiles) (sym c.into_sequence-order.ensures)
-    (canonical_order sys tiles c.fill_all.new.log.places c.area-area.ensures.valid c.fill_all.ensures.filling.fits c.fill_all.ensures.order.grew)
+    (canonical_order sys tiles c.fill_all.new.log.places c.recall_valid.ensures.valid c.fill_all.ensures.filling.fits c.fill_all.ensures.order.grew)
 
 pub returns-clause-clean : goal.returns-clause-clean
 returns-clause-clean g c said = subst (CameExact c.args.sys.now) (sym c.into_sequence-order.ensures) (c.fill_all.ensures.order.exact (sym c.is_clean-clean.ensures ∙ said))

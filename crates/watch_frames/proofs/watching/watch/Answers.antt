@@ -13,10 +13,10 @@ use Rattle.watch_frames.proofs.watching.watch.Goals as goal
 pub split-kept-requires-clause-two : goal.split-kept-requires-clause-two
 split-kept-requires-clause-two g c = subst OwnsTwoOrMore (sym c.in_ok-table.ensures.scout.owned) two-all
 
-pub make-requires-3-clause-seen : goal.make-requires-3-clause-seen
-make-requires-3-clause-seen g c =
+pub make-requires-2-clause-seen : goal.make-requires-2-clause-seen
+make-requires-2-clause-seen g c =
     let given = c.split-kept.result.1.scout.seen in
-    let same : SamePlacements given c.put_seeds.new.grid.tiles = seeds_seen c.args.sys.now.seeds c.in_ok-table.seat.scout.seen given c.put_seeds.new.grid.tiles c.in_ok-table.ensures.scout.seen c.split-kept.ensures.given.seen c.put_seeds.ensures.placements in
+    let same : SamePlacements given c.in_ok-seen.seen.tiles = seeds_seen c.args.sys.now.seeds c.in_ok-table.seat.scout.seen given c.in_ok-seen.seen.tiles c.in_ok-table.ensures.scout.seen c.split-kept.ensures.given.seen c.in_ok-seen.ensures.seeds in
     subst (λ (grid : TileGrid). SamePlacements given grid.tiles) (sym c.in_ok-own.ensures) same
 
 pub grow_watched-watcher-requires-clause-numbers : goal.grow_watched-watcher-requires-clause-numbers
@@ -28,7 +28,7 @@ grow_watched-watcher-requires-clause-numbers g c κs within =
 
 pub grow_watched-watcher-requires-clause-seen : goal.grow_watched-watcher-requires-clause-seen
 grow_watched-watcher-requires-clause-seen g c κs within =
-    seeds_seen c.args.sys.now.seeds c.in_ok-table.seat.scout.seen c.split-kept.result.0.scout.seen c.put_seeds.new.grid.tiles c.in_ok-table.ensures.scout.seen c.split-kept.ensures.kept.seen c.put_seeds.ensures.placements
+    seeds_seen c.args.sys.now.seeds c.in_ok-table.seat.scout.seen c.split-kept.result.0.scout.seen c.in_ok-seen.seen.tiles c.in_ok-table.ensures.scout.seen c.split-kept.ensures.kept.seen c.in_ok-seen.ensures.seeds
 
 pub returns : goal.returns
 returns g c =
@@ -47,7 +47,7 @@ returns g c =
     let seat_sys : watcher.seat.sys ≡ sys = done.goes.sys ∙ ap (λ (s : SeatValue). s.sys) was_given ∙ c.split-kept.ensures.second.sys ∙ table_sys in
     let are : AreFrames sys frames.places frames.counts = subst (λ (z : TileSystem). AreFrames z frames.places frames.counts) seat_sys c.end-given.ensures.are in
     let taken : length frames.counts ≡ c.args.frames = ap (λ (f : FrameList). length f.counts) c.end-given.ensures.frames ∙ done.taken ∙ c.in-Ok.ensures.many in
-    let grew : GrewOn sys c.split-kept.result.0 c.put_seeds.new.grid kept c.in_ok-kept.grid c.in_ok-kept._wins.items = search rules in
+    let grew : GrewOn sys c.split-kept.result.0 c.in_ok-seen.seen kept c.in_ok-kept.grid c.in_ok-kept._wins.items = search rules in
     let closes : Closes sys joined.scout c.close.result = subst (λ (z : TileSystem). Closes z joined.scout c.close.result) table_sys c.close.ensures in
     let rest : kept.scout.owned ≡ 2 ^ 64 - 1 - 2 ^ greatest (2 ^ 64 - 1) = grew.seat.owned ∙ c.split-kept.ensures.kept.owned ∙ ap (λ (o : ℕ). o - 2 ^ greatest o) all in
     let top : given.scout.owned ≡ 2 ^ greatest (2 ^ 64 - 1) =
@@ -58,8 +58,8 @@ returns g c =
     ∙ ap (placed_by (greatest first.owned)) c.in_ok-table.ensures.scout.mine
     in
     record {
-      watched = is_watched sys c.args.frames frames.places frames.counts c.split-kept.result.0 kept given joined c.put_seeds.new.grid c.in_ok-kept.grid c.in_ok-kept._wins.items c.close.result
-          c.recall_valid.ensures.valid are taken c.end-given.ensures.part c.join-seat.ensures.union c.put_seeds.ensures.placements grew c.recall_sites.ensures.distinct closes;
+      watched = is_watched sys c.args.frames frames.places frames.counts c.split-kept.result.0 kept given joined c.in_ok-seen.seen c.in_ok-kept.grid c.in_ok-kept._wins.items c.close.result
+          c.recall_valid.ensures.valid are taken c.end-given.ensures.part c.join-seat.ensures.union c.in_ok-seen.ensures.seeds grew c.recall_sites.ensures.distinct closes;
       grew = record {
         area = closes.area;
         numbers = closes.numbers;
