@@ -1,16 +1,20 @@
 -- Seats that were parted off one by one, and what is joined of them.
-use Rattle.std.proofs.Common.{◌≡◌, ◌<◌, ◌+◌, ℕ, List, [], ◌∷◌, ◌++◌, length, length-append, take, drop, get_or, All, Option, Some, Result, Ok, Err, IfOk, refl, sym, ◌∙◌, ap, subst, arith}
+use Rattle.std.proofs.Common.{◌≡◌, ◌<◌, ◌+◌, ℕ, Bool, true, false, if◌then◌else◌, List, [], ◌∷◌, ◌++◌, length, length-append, take, drop, get_or, All, Option, Some, None, Result, Ok, Err, IfOk, IfSome, refl, sym, ◌∙◌, ap, subst, arith}
 use Rattle.std.proofs.Math.Seq.{get_or-append_seam, take-append_seam}
 use Rattle.std.specs.Option.{option_to_list}
 use Rattle.std.proofs.lemmas.List.{get_or-take, get_or_default, take-append-drop, take-append-le, take_more}
 use Rattle.std.proofs.lemmas.List.Elements.{All-get_or, All-take}
+use Rattle.atam.specs.TileSystem.{TileSystem}
+use Rattle.atam.specs.Placements.{SamePlacements}
+use Rattle.atam.proofs.Tiles.{same_back, SamePlacements-trans}
 use Rattle.assembly.specs.Grids.{TileGrid}
 use Rattle.tile_system.specs.declared.memory.NoMemory.{NoMemory}
 use Rattle.site_table.specs.Seats.{IsSeatOf, SeatValue, TableValue}
+use Rattle.frontier_seat.specs.Orders.{LoggedClaims}
 use Rattle.grow_workers.specs.declared.leavings.Part.{Part}
 use Rattle.grow_workers.specs.declared.shared.Shared.{Shared}
 use Rattle.grow_workers.specs.declared.starts.Start.{Start}
-use Rattle.grow_workers.specs.Inner.Sharing.{AreStartsOf, ArePartedOff, AreWorksOf, HasSeen, IsSeenPart, IsWorkOf}
+use Rattle.grow_workers.specs.Inner.Sharing.{AreStartsOf, ArePartedOff, AreWorksOf, BeginsLog, HasSeen, IsSeenPart, IsWorkOf, start_grid}
 use Rattle.grow_workers.specs.Inner.Wins.{IsParted, PartedGrowth}
 
 -- what grew from a seat's start is of its table
@@ -50,17 +54,52 @@ pub record IsJoined {G : Type 0} (shared : Shared G) (old : SeatValue) (grid : T
   pub parted : ArePartedOff old (take k starts) mid
   pub grew : PartedGrowth shared.sys.now mid grid new out first others
 
--- a worker's part, with the grid that all began with
-part_grew : {G : Type 0} (shared : Shared G) (grid : TileGrid) (starts : List Start) (done : List (Result Part NoMemory)) (i : ℕ) (start : Start) (part : Part) → All (λ (s : Start). s.seen ≡ grid) starts → AreWorksOf shared starts done →
+-- what grew from a grid grew from another one with the same tiles
+pub grew_from : (sys : TileSystem) (old new : SeatValue) (start other grid : TileGrid) (first : ℕ) (others : List ℕ) → SamePlacements start.tiles other.tiles → PartedGrowth sys old other new grid first others → PartedGrowth sys old start new grid first others
+grew_from sys old new start other grid first others same grew = record {
+  seat = grew.seat;
+  area = grew.area;
+  seen = grew.seen;
+  kept = λ p c. grew.kept p (same.part p c);
+  first_wins = grew.first_wins;
+  others_win = grew.others_win;
+}
+
+-- what a seat has seen is in another grid with the same tiles
+pub seen_in : {G : Type 0} (shared : Shared G) (seat : SeatValue) (start grid : TileGrid) → grid.area ≡ shared.sys.now.area → SamePlacements start.tiles grid.tiles → HasSeen shared seat start → HasSeen shared seat grid
+seen_in shared seat start grid area same seen = record { at_table = seen.at_table; area = area; seen = SamePlacements-trans seat.scout.seen start.tiles grid.tiles seen.seen same }
+
+-- and a log that begins there begins in it
+pub begins_in : (sys : TileSystem) (start grid : TileGrid) (log : Option LoggedClaims) → SamePlacements start.tiles grid.tiles → IfSome log (BeginsLog sys start) → IfSome log (BeginsLog sys grid)
+begins_in sys start grid (Some l) same begins = record { none = begins.none; in_order = begins.in_order; room = begins.room; start = SamePlacements-trans sys.seeds start.tiles grid.tiles begins.start same }
+begins_in sys start grid None same begins = tt
+
+-- a worker's part, if there is one, by the grid that it made
+pub work_of : {G : Type 0} (shared : Shared G) (start : Start) (grid : TileGrid) (r : Result Part NoMemory) → SamePlacements (start_grid shared.sys.now start.seen).tiles grid.tiles → IfOk r (IsSeenPart shared) →
+    IfOk r (λ part. PartedGrowth shared.sys.now start.seat grid part.seat part.grid part.won []) → IfOk r (IsWorkOf shared start)
+work_of shared start grid (Ok part) same left grew = record { left = left; grew = grew_from shared.sys.now start.seat part.seat (start_grid shared.sys.now start.seen) grid part.grid part.won [] same grew }
+work_of shared start grid (Err e) same left grew = tt
+
+-- the grid of another worker has the tiles that were seen
+pub given_grid : (sys : TileSystem) (seen : TileGrid) (are_seeds : Bool) (given : Option TileGrid) → seen.area ≡ sys.area → (are_seeds ≡ true → SamePlacements sys.seeds seen.tiles) → given ≡ (if are_seeds then None else Some seen) →
+    ((start_grid sys given).area ≡ sys.area) × SamePlacements seen.tiles (start_grid sys given).tiles
+given_grid sys seen true given area seeds is =
+    subst (λ (g : Option TileGrid). ((start_grid sys g).area ≡ sys.area) × SamePlacements seen.tiles (start_grid sys g).tiles) (sym is) (refl, same_back sys.seeds seen.tiles (seeds refl))
+given_grid sys seen false given area seeds is =
+    subst (λ (g : Option TileGrid). ((start_grid sys g).area ≡ sys.area) × SamePlacements seen.tiles (start_grid sys g).tiles) (sym is) (area, record { part = λ p c. c; whole = λ p c. c })
+
+-- a worker's part, with the tiles that all began with
+part_grew : {G : Type 0} (shared : Shared G) (grid : TileGrid) (starts : List Start) (done : List (Result Part NoMemory)) (i : ℕ) (start : Start) (part : Part) → All (λ (s : Start). SamePlacements grid.tiles (start_grid shared.sys.now s.seen).tiles) starts → AreWorksOf shared starts done →
     i < length starts → get_or starts i start ≡ start → get_or done i (Ok part) ≡ Ok part → PartedGrowth shared.sys.now start.seat grid part.seat part.grid part.won []
 part_grew {G} shared grid starts done i start part grids works within here is =
     let work : IsWorkOf shared start part =
     subst (λ (r : Result Part NoMemory). IfOk r (IsWorkOf shared start)) is (subst (λ (s : Start). IfOk (get_or done i (Ok part)) (IsWorkOf shared s)) here (works.each i start (Ok part) within)) in
-    let same : start.seen ≡ grid = subst (λ (s : Start). s.seen ≡ grid) here (All-get_or (λ (s : Start). s.seen ≡ grid) starts i start within grids) in
-    subst (λ (g : TileGrid). PartedGrowth shared.sys.now start.seat g part.seat part.grid part.won []) same work.grew
+    let Same : Start → Type 0 = λ s. SamePlacements grid.tiles (start_grid shared.sys.now s.seen).tiles in
+    let same : Same start = subst Same here (All-get_or Same starts i start within grids) in
+    grew_from shared.sys.now start.seat part.seat grid (start_grid shared.sys.now start.seen) part.grid part.won [] same work.grew
 
 -- worker 0 comes first
-pub joined_first : {G : Type 0} (shared : Shared G) (old : SeatValue) (grid : TileGrid) (starts : List Start) (done left : List (Result Part NoMemory)) (part : Part) → done ≡ left ++ Ok part ∷ [] → AreStartsOf old grid starts → AreWorksOf shared starts done →
+pub joined_first : {G : Type 0} (shared : Shared G) (old : SeatValue) (grid : TileGrid) (starts : List Start) (done left : List (Result Part NoMemory)) (part : Part) → done ≡ left ++ Ok part ∷ [] → AreStartsOf shared.sys.now old grid starts → AreWorksOf shared starts done →
     IsJoined shared old grid starts (length left) part.seat part.grid part.won []
 joined_first {G} shared old grid starts done left part last are works =
     let k = length left in
@@ -82,7 +121,7 @@ joined_first {G} shared old grid starts done left part last are works =
 
 -- and one worker more
 pub joined_more : {G : Type 0} (shared : Shared G) (old : SeatValue) (grid : TileGrid) (starts : List Start) (done left : List (Result Part NoMemory)) (part : Part) (new all_new : SeatValue) (out all_out : TileGrid) (first all_first : ℕ) (others all_others : List ℕ) →
-    left ++ Ok part ∷ [] ≡ take (length left + 1) done → length left < length done → IsSeatOf shared.table.now old → AreStartsOf old grid starts → AreWorksOf shared starts done →
+    left ++ Ok part ∷ [] ≡ take (length left + 1) done → length left < length done → IsSeatOf shared.table.now old → AreStartsOf shared.sys.now old grid starts → AreWorksOf shared starts done →
     ((old kept given : SeatValue) (start : TileGrid) → IsSeatOf shared.table.now old → IsParted old kept given → PartedGrowth shared.sys.now kept start new out first others → PartedGrowth shared.sys.now given start part.seat part.grid part.won [] →
     PartedGrowth shared.sys.now old start all_new all_out all_first all_others) →
     IsJoined shared old grid starts (length left + 1) new out first others → IsJoined shared old grid starts (length left) all_new all_out all_first all_others

@@ -44,8 +44,8 @@ pub fn grow_in_order_by_index<G: Gate>(
     Ok((grown, order))
 }
 
-/// The same, and whether it is clear that each tile came clean, which was seen as it was claimed.
-pub fn grow_in_order_seeing<G: Gate>(
+// The same, and whether it is clear that each tile came clean, which was seen as it was claimed.
+pub(crate) fn grow_in_order_seeing<G: Gate>(
     alloc: Global,
     sys: &System,
     types: &TypeIndex,

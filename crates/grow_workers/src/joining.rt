@@ -27,7 +27,7 @@ pub(crate) fn join<G: Gate>(
     requires some { 0 < length done.items }
     requires each { All (λ d. IfOk d (λ part. IsSeenPart shared.now part)) done.items }
     ensures grew { IfOk result (λ h. (old : SeatValue) (grid : TileGrid) (starts : List Start) →
-        IsSeatOf shared.now.table.now old → AreStartsOf old grid starts →
+        IsSeatOf shared.now.table.now old → AreStartsOf shared.now.sys.now old grid starts →
         AreWorksOf shared.now starts done.items →
         PartedGrowth shared.now.sys.now old grid h.seat h.grid h.first h.others.items) }
     ensures seen { IfOk result (λ h. HasSeen shared.now h.seat h.grid) }

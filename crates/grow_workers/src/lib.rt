@@ -16,6 +16,6 @@ mod starts;
 mod team;
 
 pub use growth::{grow, grow_by_index, grow_on};
-pub use in_order::{grow_in_order_by_index, grow_in_order_seeing};
+pub use in_order::grow_in_order_by_index;
 pub use numbers::worker_number;
 pub use ordered::{SeenOrder, grow_seeing_order};

@@ -1,5 +1,5 @@
 // A worker's life in its thread.
-ghost use Rattle.std.specs.Prelude.{◌≡◌, ◌<◌, [], IfOk};
+ghost use Rattle.std.specs.Prelude.{◌≡◌, ◌<◌, [], IfOk, IfSome};
 ghost use Rattle.site_table.specs.Seats.{IsSeatOf};
 ghost use Rattle.frontier_seat.specs.Growths.{GrowsOn};
 ghost use Rattle.grow_workers.specs.Inner.Sharing.{BeginsLog, HasSeen, IsSeenPart, IsShared, IsStart, IsWorkOf};
@@ -9,7 +9,7 @@ use crate::in_order::sweep_logged;
 use crate::leavings::{Part, part_of, scout_of};
 use crate::picks::Picks;
 use crate::shared::Shared;
-use crate::starts::Start;
+use crate::starts::{Start, grid_at_start};
 use crate::team::Waiting;
 use assembly::Grid;
 use frontier_seat::{Burst, ClaimLog, Scout};
@@ -29,13 +29,10 @@ const FIRST_OF_OTHERS: u32 = 64;
 // The most claims of a later burst.
 const BURST: u32 = 512;
 
-// The most turns of a worker after its first burst: more than a box takes. Beside a worker that goes
-// through the whole box there are none, since what another claims there only makes that one slower.
+// The most turns of a worker after its first burst: more than a box takes.
 const MOST_TURNS: u32 = 1 << 20;
 
-// All that a worker does beside others: with a log it goes through the whole box, and else it claims
-// in its bands, and where nothing is left there it looks beside them, or beside a worker with a log
-// it ends after its first burst. One worker alone without a log leaves all to `end`.
+// All that a worker does beside others.
 pub(crate) fn work<G: Gate>(
     alloc: Global,
     shared: &Shared<'_, G>,
@@ -52,6 +49,29 @@ pub(crate) fn work<G: Gate>(
         log,
     } = start;
     shared.gate.arrive(worker);
+    let seen = grid_at_start(alloc, shared.sys, seen)?;
+    work_on(alloc, shared, worker, seat, seen, log)
+}
+
+// The same from a grid: with a log it goes through the whole box, and else it claims in its bands, and
+// where nothing is left there it looks beside them, or beside a worker with a log it ends after its
+// first burst. One worker alone without a log leaves all to `end`.
+fn work_on<G: Gate>(
+    alloc: Global,
+    shared: &Shared<'_, G>,
+    worker: u32,
+    seat: SiteSeat,
+    seen: Grid,
+    log: Option<ClaimLog>,
+) -> Result<Part, NoMemory>
+    requires shared { IsShared shared.now }
+    requires worker { worker < shared.now.workers.count }
+    requires seen { HasSeen shared.now seat seen }
+    requires log { IfSome log (BeginsLog shared.now.sys.now seen) }
+    ensures seen { IfOk result (IsSeenPart shared.now) }
+    ensures grew { IfOk result (λ r.
+        PartedGrowth shared.now.sys.now seat seen r.seat r.grid r.won []) }
+{
     if let Some(log) = log {
         return work_in_order(alloc, shared, seat, seen, log);
     }
@@ -65,6 +85,7 @@ pub(crate) fn work<G: Gate>(
     }
     let mut scout = begin(alloc, shared, worker, seat, seen)?;
     take_turns(shared, worker, &mut scout);
+    shared.team.leave(worker);
     Ok(part_of(scout))
 }
 
@@ -112,7 +133,8 @@ fn begin<'a, G: Gate>(
     made
 }
 
-// The first burst, and turns until no worker has anything to do.
+// The first burst, and turns until no worker has anything to do. Beside a worker that goes through
+// the whole box there are none, since what another claims there only makes that one slower.
 #[tactic(auto, using(frontier_seat::proofs::Looked::goes_further))]
 fn take_turns<G: Gate>(shared: &Shared<'_, G>, worker: u32, scout: &mut Scout<'_>)
     requires shared { IsShared shared.now }
@@ -126,16 +148,33 @@ fn take_turns<G: Gate>(shared: &Shared<'_, G>, worker: u32, scout: &mut Scout<'_
     } else {
         FIRST_OF_OTHERS
     };
-    let mut is_over = burst(shared, worker, scout, &mut picks, most);
-    let most_turns = if shared.in_order { 0 } else { MOST_TURNS };
+    let is_closed = burst(shared, worker, scout, &mut picks, most);
+    if is_closed || shared.in_order {
+        return;
+    }
+    take_later_turns(shared, worker, scout, &mut picks);
+}
+
+// The turns after the first burst.
+#[tactic(auto, using(frontier_seat::proofs::Looked::goes_further))]
+fn take_later_turns<G: Gate>(
+    shared: &Shared<'_, G>,
+    worker: u32,
+    scout: &mut Scout<'_>,
+    picks: &mut Picks,
+)
+    requires shared { IsShared shared.now }
+    requires seat { IsSeatOf shared.now.table.now scout.old.seat }
+    requires worker { worker < shared.now.workers.count }
+    ensures { GrowsOn scout.old scout.new }
+{
     let mut waiting = Waiting::of(worker);
-    for _turn in 0..most_turns {
-        if is_over || waiting.is_over {
+    for _turn in 0..MOST_TURNS {
+        let is_closed = take_turn(shared, worker, scout, picks, &mut waiting);
+        if is_closed || waiting.is_over {
             break;
         }
-        is_over = take_turn(shared, worker, scout, &mut picks, &mut waiting);
     }
-    shared.team.leave(worker);
 }
 
 // One turn. It tells whether the box is closed.

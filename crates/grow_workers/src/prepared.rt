@@ -2,7 +2,7 @@
 ghost use Rattle.std.specs.Prelude.{IfOk};
 ghost use Rattle.grow_workers.specs.Inner.Prepared.{IsPrepared};
 
-use assembly::{Grid, put_seeds};
+use assembly::{Grid, grid_of_seeds};
 use site_table::{SiteSeat, SiteTable};
 use std::alloc::{AllocError, Global};
 use tile_system::{NoMemory, System};
@@ -24,8 +24,7 @@ pub(crate) fn prepare(alloc: Global, sys: &System) -> Result<Prepared, NoMemory>
 {
     keep_large_blocks(alloc);
     let (table, seat) = SiteTable::make(alloc, sys)?;
-    let mut seen = Grid::make(alloc, sys.area())?;
-    put_seeds(sys, &mut seen);
+    let seen = grid_of_seeds(alloc, sys)?;
     Ok(Prepared { table, seat, seen })
 }
 

@@ -1,24 +1,44 @@
 // What each worker begins with.
-ghost use Rattle.std.specs.Prelude.{All, ◌≡◌, ◌≤◌, ◌<◌, ◌+◌, ◌-◌, length, IfOk, IfSome};
-ghost use Rattle.grow_workers.specs.Inner.Sharing.{ArePartedOff, AreStartsOf, BeginsLog, HasSeen, IsShared, IsStart};
+ghost use Rattle.std.specs.Prelude.{All, ◌≡◌, ◌≤◌, ◌<◌, ◌+◌, ◌-◌, length, Some, None, if◌then◌else◌, IfOk, IfSome, IsTrue};
+ghost use Rattle.atam.specs.Placements.{SamePlacements};
+ghost use Rattle.grow_workers.specs.Inner.Sharing.{ArePartedOff, AreStartsOf, BeginsLog, HasSeen, IsShared, IsStart, start_grid};
 ghost use Rattle.grow_workers.specs.Inner.Wins.{HasNumbers, IsParted};
 
 use crate::shared::Shared;
-use assembly::Grid;
+use assembly::{Grid, grid_of_seeds};
 use frontier_seat::ClaimLog;
 use site_table::SiteSeat;
 use std::alloc::Global;
 use tile_io::Gate;
-use tile_system::NoMemory;
+use tile_system::{NoMemory, System};
 
-// Which worker it is, a seat of its own, a grid of what the seat has seen, and an empty log where it
-// is to go in canonical order until the box is closed.
+// Which worker it is, a seat of its own, a grid of what the seat has seen, unless that is the seeds
+// alone, of which it makes one itself, and an empty log where it is to go in canonical order until
+// the box is closed.
 #[derive(Drop)]
 pub(crate) struct Start {
     pub worker: u32,
     pub seat: SiteSeat,
-    pub seen: Grid,
+    pub seen: Option<Grid>,
     pub log: Option<ClaimLog>,
+}
+
+// The grid that a worker begins with. One of the seeds is made in the worker's own thread, where no
+// other waits for it.
+pub(crate) fn grid_at_start(
+    alloc: Global,
+    sys: &System,
+    given: Option<Grid>,
+) -> Result<Grid, NoMemory>
+    requires { (start_grid sys.now given).area ≡ sys.now.area }
+    ensures area { IfOk result (λ grid. grid.area ≡ sys.now.area) }
+    ensures tiles { IfOk result (λ grid.
+        SamePlacements (start_grid sys.now given).tiles grid.tiles) }
+{
+    match given {
+        Some(grid) => Ok(grid),
+        None => grid_of_seeds(alloc, sys),
+    }
 }
 
 // Parts a seat among all workers. Worker 0, which keeps what is left of it, comes last, and gets the
@@ -34,33 +54,39 @@ pub(crate) fn split<G: Gate>(
     requires numbers { HasNumbers shared.now.workers.count seat.scout.owned }
     requires seen { HasSeen shared.now seat seen }
     requires log { IfSome log (BeginsLog shared.now.sys.now seen) }
-    ensures starts { IfOk result (λ starts. AreStartsOf seat seen starts.items) }
+    ensures starts { IfOk result (λ starts.
+        AreStartsOf shared.now.sys.now seat seen starts.items) }
     ensures each { IfOk result (λ starts. All (IsStart shared.now) starts.items) }
     ensures count { IfOk result (λ starts. length starts.items ≡ shared.now.workers.count) }
 {
-    let (mut starts, kept) = split_off(alloc, shared, seat, &seen)?;
+    let (mut starts, kept) = split_off(alloc, shared, seat, &seen, log.is_some())?;
     starts.push(Start {
         worker: 0,
         seat: kept,
-        seen,
+        seen: Some(seen),
         log,
     })?;
     Ok(starts)
 }
 
-// Parts off the seats of all workers but worker 0, for which the rest is kept.
+// Parts off the seats of all workers but worker 0, for which the rest is kept. It may be said that
+// the seeds alone were seen.
 fn split_off<G: Gate>(
     alloc: Global,
     shared: &Shared<'_, G>,
     seat: SiteSeat,
     seen: &Grid,
+    are_seeds: bool,
 ) -> Result<(Vec<Start>, SiteSeat), NoMemory>
     requires shared { IsShared shared.now }
     requires numbers { HasNumbers shared.now.workers.count seat.scout.owned }
     requires seen { HasSeen shared.now seat seen.now }
+    requires seeds { IsTrue are_seeds → SamePlacements shared.now.sys.now.seeds seen.now.tiles }
     ensures parted { IfOk result (λ r. ArePartedOff seat r.0.items r.1) }
     ensures kept { IfOk result (λ r. HasSeen shared.now r.1 seen.now) }
-    ensures grids { IfOk result (λ r. All (λ start. start.seen ≡ seen.now) r.0.items) }
+    ensures grids { IfOk result (λ r.
+        All (λ start.
+        SamePlacements seen.now.tiles (start_grid shared.now.sys.now start.seen).tiles) r.0.items) }
     ensures each { IfOk result (λ r. All (IsStart shared.now) r.0.items) }
     ensures count { IfOk result (λ r. length r.0.items + 1 ≡ shared.now.workers.count) }
 {
@@ -73,11 +99,21 @@ fn split_off<G: Gate>(
         starts.push(Start {
             worker,
             seat: given,
-            seen: seen.copy()?,
+            seen: grid_for_another(seen, are_seeds)?,
             log: None,
         })?;
     }
     Ok((starts, kept))
+}
+
+// A grid for another worker, which makes one of the seeds itself.
+fn grid_for_another(seen: &Grid, are_seeds: bool) -> Result<Option<Grid>, NoMemory>
+    ensures { IfOk result (λ given. given ≡ (if are_seeds then None else Some seen.now)) }
+{
+    if are_seeds {
+        return Ok(None);
+    }
+    Ok(Some(seen.copy()?))
 }
 
 // The seat of all workers that are left but one, and the seat of this one.

@@ -1,5 +1,5 @@
 -- What workers share, what each begins with, and what it leaves.
-use Rattle.std.specs.Prelude.{◌≡◌, ℕ, ◌≤◌, ◌<◌, true, List, [], ◌∷◌, ◌++◌, All, length, Result, IfOk, IfSome, slice_index_or}
+use Rattle.std.specs.Prelude.{◌≡◌, ℕ, ◌≤◌, ◌<◌, true, List, [], ◌∷◌, ◌++◌, All, length, Option, unwrap_or, Result, IfOk, IfSome, slice_index_or}
 use Rattle.atam.specs.declared.place.Place.{Place}
 use Rattle.atam.specs.TileSystem.{TileSystem}
 use Rattle.atam.specs.Placements.{SamePlacements}
@@ -49,16 +49,20 @@ pub record IsSeenPart {G : Type 0} (shared : Shared G) (part : Part) : Type 0 wh
   pub seen : HasSeen shared part.seat part.grid
   pub log : IfSome part.log (IsLogOf shared.sys.now part.grid)
 
+-- the grid that a worker begins with: the one that it is given, or else one of the seeds, which it makes
+abbrev pub start_grid : TileSystem → Option TileGrid → TileGrid
+start_grid sys given = unwrap_or given (record { area = sys.area; tiles = sys.seeds })
+
 -- one of the workers begins with this
 pub record IsStart {G : Type 0} (shared : Shared G) (start : Start) : Type 0 where
   pub worker : start.worker < shared.workers.count
-  pub seen : HasSeen shared start.seat start.seen
-  pub log : IfSome start.log (BeginsLog shared.sys.now start.seen)
+  pub seen : HasSeen shared start.seat (start_grid shared.sys.now start.seen)
+  pub log : IfSome start.log (BeginsLog shared.sys.now (start_grid shared.sys.now start.seen))
 
 -- and leaves that
 pub record IsWorkOf {G : Type 0} (shared : Shared G) (start : Start) (part : Part) : Type 0 where
   pub left : IsSeenPart shared part
-  pub grew : PartedGrowth shared.sys.now start.seat start.seen part.seat part.grid part.won []
+  pub grew : PartedGrowth shared.sys.now start.seat (start_grid shared.sys.now start.seen) part.seat part.grid part.won []
 
 -- the seats of these workers, each parted off from what was left of a seat, and what is left in the end
 abbrev pub ArePartedOff : SeatValue → List Start → SeatValue → Type 0
@@ -66,12 +70,12 @@ ArePartedOff seat [] kept = seat ≡ kept
 ArePartedOff seat (start ∷ others) kept = (rest : SeatValue) × IsParted seat rest start.seat × ArePartedOff rest others kept
 
 -- A seat is parted among all workers, of whom worker 0 comes last and has what is left. Each has a grid of its own, with the same tiles.
-pub record AreStartsOf (seat : SeatValue) (grid : TileGrid) (starts : List Start) : Type 0 where
+pub record AreStartsOf (sys : TileSystem) (seat : SeatValue) (grid : TileGrid) (starts : List Start) : Type 0 where
   pub others : List Start
   pub first : Start
   pub all : starts ≡ others ++ first ∷ []
   pub parted : ArePartedOff seat others first.seat
-  pub grids : All (λ start. start.seen ≡ grid) starts
+  pub grids : All (λ start. SamePlacements grid.tiles (start_grid sys start.seen).tiles) starts
 
 -- each worker's part, unless there was no memory
 pub record AreWorksOf {G : Type 0} (shared : Shared G) (starts : List Start) (done : List (Result Part NoMemory)) : Type 0 where

@@ -16,7 +16,7 @@ invariant-loop-part g l = record {
   each : All (λ (d : Result Part NoMemory). IfOk d (IsSeenPart l.shared)) l.left.items;
   seen : HasSeen l.shared l.team.seat l.team.grid;
   log : IfSome l.team.log (IsLogOf l.shared.sys.now l.team.grid);
-  grew : (old : SeatValue) (grid : TileGrid) (starts : List Start) → IsSeatOf l.shared.table.now old → AreStartsOf old grid starts → AreWorksOf l.shared starts l.fn.done.items →
+  grew : (old : SeatValue) (grid : TileGrid) (starts : List Start) → IsSeatOf l.shared.table.now old → AreStartsOf l.shared.sys.now old grid starts → AreWorksOf l.shared starts l.fn.done.items →
       IsJoined l.shared old grid starts (length l.left.items) l.team.seat l.team.grid l.team.first l.team.others.items;
 }
 

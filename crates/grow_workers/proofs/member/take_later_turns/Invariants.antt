@@ -1,6 +1,6 @@
 use Rattle.site_table.specs.Seats.{IsSeatOf}
 use Rattle.frontier_seat.specs.Growths.{GrowsOn}
-use Rattle.grow_workers.proofs.member.take_turns.Given as goal
+use Rattle.grow_workers.proofs.member.take_later_turns.Given as goal
 
 -- the seat stays the table's
 abbrev pub invariant-loop-turn : goal.invariant-loop-turn
