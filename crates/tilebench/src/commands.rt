@@ -1,7 +1,4 @@
 // The table of commands.
-ghost use Rattle.std.specs.Prelude.{◌≤◌, length};
-ghost use Rattle.std.specs.Thread.{IsSync};
-ghost use Rattle.tile_io.specs.declared.limits.TheConstants.{MOST_INPUT};
 ghost use Rattle.tilebench.specs.Commands.{room_of};
 ghost use Rattle.tilebench.specs.Inner.Runs.{EndsCommand};
 
@@ -24,7 +21,7 @@ mod verify;
 mod watch;
 
 use crate::resources::{Crew, Resources};
-use crate::run::{run, run_by, run_in_blocks};
+use crate::run::{run, run_in_blocks};
 use crate::status::Ran;
 use command_line::Command;
 use std::sync::Wait;
@@ -44,25 +41,13 @@ pub fn run_command<R: Threads + Wait + Sync, G: Gate, S: Source, K: Sink, E: Sin
 {
     match command {
         Command::Grow { workers, choice } => {
-            let room = grow::Grow(Crew { workers, choice });
-            let answer = |input: Vec<u8>|
-                requires { IsSync R.row × IsSync G.row × (length input.items ≤ MOST_INPUT) }
-            { room.answer(resources, input) };
-            run_by(resources.alloc, &room, answer, source, out, err)
+            grow::Grow(Crew { workers, choice }).run(resources, source, out, err)
         }
         Command::Race { workers, choice } => {
-            let room = race::Race(Crew { workers, choice });
-            let answer = |input: Vec<u8>|
-                requires { IsSync R.row × IsSync G.row × (length input.items ≤ MOST_INPUT) }
-            { room.answer(resources, input) };
-            run_by(resources.alloc, &room, answer, source, out, err)
+            race::Race(Crew { workers, choice }).run(resources, source, out, err)
         }
         Command::Report { workers, choice } => {
-            let room = reports::Report(Crew { workers, choice });
-            let answer = |input: Vec<u8>|
-                requires { IsSync R.row × IsSync G.row × (length input.items ≤ MOST_INPUT) }
-            { room.answer(resources, input) };
-            run_by(resources.alloc, &room, answer, source, out, err)
+            reports::Report(Crew { workers, choice }).run(resources, source, out, err)
         }
         Command::Watch {
             workers,
@@ -70,19 +55,9 @@ pub fn run_command<R: Threads + Wait + Sync, G: Gate, S: Source, K: Sink, E: Sin
             frames,
         } => {
             let crew = Crew { workers, choice };
-            let room = watch::Watch { crew, frames };
-            let answer = |input: Vec<u8>|
-                requires { IsSync R.row × IsSync G.row × (length input.items ≤ MOST_INPUT) }
-            { room.answer(resources, input) };
-            run_by(resources.alloc, &room, answer, source, out, err)
+            watch::Watch { crew, frames }.run(resources, source, out, err)
         }
-        Command::Batch { workers } => {
-            let room = batch::Batch { workers };
-            let answer = |input: Vec<u8>|
-                requires { IsSync R.row × IsSync G.row × (length input.items ≤ MOST_INPUT) }
-            { room.answer(resources, input) };
-            run_by(resources.alloc, &room, answer, source, out, err)
-        }
+        Command::Batch { workers } => batch::Batch { workers }.run(resources, source, out, err),
         Command::Check => run_in_blocks(resources.alloc, &check::Check, source, out, err),
         Command::Replay => run_in_blocks(resources.alloc, &replay::Replay, source, out, err),
         Command::Schedule => run(resources, &schedule::Schedule, source, out, err),
@@ -96,20 +71,9 @@ pub fn run_command<R: Threads + Wait + Sync, G: Gate, S: Source, K: Sink, E: Sin
             verify::Verify { workers }.run(resources, source, out, err)
         }
         Command::Counter { bits, start } => {
-            run(
-                resources,
-                &counter::Counter { bits, start },
-                source,
-                out,
-                err,
-            )
+            let room = counter::Counter { bits, start };
+            run(resources, &room, source, out, err)
         }
-        Command::Load { number } => {
-            let room = load::Load { number };
-            let answer = |input: Vec<u8>|
-                requires { IsSync R.row × IsSync G.row }
-            { room.answer(resources, input) };
-            run_by(resources.alloc, &room, answer, source, out, err)
-        }
+        Command::Load { number } => load::Load { number }.run(resources, source, out, err),
     }
 }

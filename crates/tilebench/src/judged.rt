@@ -101,7 +101,7 @@ pub fn judge_grid<R: Threads + Sync, G: Gate>(
 }
 
 // How many look at the places of a growth: one where its order was seen on the way, since that ends
-// at the first place that did not come clean.
+// at the first place that is held by more than the temperature.
 fn judges_of(known: &Option<SeenOrder>, workers: WorkerCount) -> WorkerCount {
     if known.is_some() {
         WorkerCount::new(1)

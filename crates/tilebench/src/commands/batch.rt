@@ -5,19 +5,23 @@ ghost use Rattle.job_board.specs.AnswerText.{batch_text};
 ghost use Rattle.job_board.specs.Answers.{AnswerEach};
 ghost use Rattle.tilebench.specs.Commands.Batch.{are_unique, batch_row};
 ghost use Rattle.tilebench.specs.Inner.BatchReadings.{taken_or_faulty_batch};
+ghost use Rattle.std.specs.Thread.{IsSync};
 ghost use Rattle.tilebench.specs.Inner.Gives.{GivesAnswer};
+ghost use Rattle.tilebench.specs.Inner.Runs.{EndsCommand};
 
 use crate::input::read_jobs;
 use crate::judged::is_unique;
 use crate::resources::Resources;
 use crate::room::{Reply, Room};
+use crate::run::run_by;
+use crate::status::Ran;
 use crate::stop::Stop;
 use fan_out::WorkerCount;
 use job_board::{Job, Outcome, print_batch, run_board};
 use site_table::Grown;
 use std::sync::Wait;
 use std::thread::Threads;
-use tile_io::{Failed, Gate, Sink};
+use tile_io::{Failed, Gate, Sink, Source};
 
 /// The command.
 #[derive(Clone, Copy)]
@@ -38,8 +42,25 @@ impl Room for Batch {
 }
 
 impl Batch {
-    /// Its answer to an input. No growth is handed out. It may wait at the lock of the board.
-    pub fn answer<R: Threads + Wait + Sync, G: Gate>(
+    /// Runs the command. It may wait at the lock of the board.
+    pub fn run<R: Threads + Wait + Sync, G: Gate, S: Source, K: Sink, E: Sink>(
+        &self,
+        resources: &Resources<'_, R, G>,
+        source: &mut S,
+        out: &mut K,
+        err: &mut E,
+    ) -> Ran
+        ensures { EndsCommand S.left S.faults K.written K.faults E.written E.faults batch_row
+            source.old source.new out.old out.new err.old err.new result }
+    {
+        let answer = |input: Vec<u8>|
+            requires { IsSync R.row × IsSync G.row × (length input.items ≤ MOST_INPUT) }
+        { self.answer(resources, input) };
+        run_by(resources.alloc, self, answer, source, out, err)
+    }
+
+    // Its answer to an input. No growth is handed out.
+    fn answer<R: Threads + Wait + Sync, G: Gate>(
         &self,
         resources: &Resources<'_, R, G>,
         input: Vec<u8>,

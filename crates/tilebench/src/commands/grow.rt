@@ -1,6 +1,8 @@
 // `grow`: what a system grows into within its box.
 ghost use Rattle.std.specs.Prelude.{◌≤◌, length};
+ghost use Rattle.std.specs.Thread.{IsSync};
 ghost use Rattle.tilebench.specs.Inner.Gives.{GivesAnswer};
+ghost use Rattle.tilebench.specs.Inner.Runs.{EndsCommand};
 ghost use Rattle.tile_io.specs.declared.limits.TheConstants.{MOST_INPUT};
 ghost use Rattle.tilebench.specs.Commands.Grow.{grow_row};
 ghost use Rattle.tilebench.specs.Inner.Readings.{taken_or_faulty};
@@ -11,10 +13,12 @@ use crate::input::read_alone;
 use crate::judged::grow_judged;
 use crate::resources::{Crew, Resources};
 use crate::room::{Reply, Room};
+use crate::run::run_by;
+use crate::status::Ran;
 use crate::stop::Stop;
 use site_table::Grown;
 use std::thread::Threads;
-use tile_io::Gate;
+use tile_io::{Gate, Sink, Source};
 
 /// The command.
 #[derive(Clone, Copy)]
@@ -33,8 +37,25 @@ impl Room for Grow {
 }
 
 impl Grow {
-    /// Its answer to an input, with the growth that is to be handed out.
-    pub fn answer<R: Threads + Sync, G: Gate>(
+    /// Runs the command.
+    pub fn run<R: Threads + Sync, G: Gate, S: Source, K: Sink, E: Sink>(
+        &self,
+        resources: &Resources<'_, R, G>,
+        source: &mut S,
+        out: &mut K,
+        err: &mut E,
+    ) -> Ran
+        ensures { EndsCommand S.left S.faults K.written K.faults E.written E.faults (grow_row self.now.0.workers.count)
+            source.old source.new out.old out.new err.old err.new result }
+    {
+        let answer = |input: Vec<u8>|
+            requires { IsSync R.row × IsSync G.row × (length input.items ≤ MOST_INPUT) }
+        { self.answer(resources, input) };
+        run_by(resources.alloc, self, answer, source, out, err)
+    }
+
+    // Its answer to an input, with the growth that is to be handed out.
+    fn answer<R: Threads + Sync, G: Gate>(
         &self,
         resources: &Resources<'_, R, G>,
         input: Vec<u8>,

@@ -1,5 +1,7 @@
 // `load`: a counter made from a number, and the summary of what it grows into.
+ghost use Rattle.std.specs.Thread.{IsSync};
 ghost use Rattle.tilebench.specs.Inner.Gives.{GivesAnswer};
+ghost use Rattle.tilebench.specs.Inner.Runs.{EndsCommand};
 ghost use Rattle.std.specs.Prelude.{◌≡◌, ◌+◌, ◌≤◌, ◌^◌, ◌++◌, None, IfOk};
 ghost use Rattle.tile_io.specs.Prints.{Prints};
 ghost use Rattle.counter_compile.specs.Counters.{counter_refusal, counter_system};
@@ -13,6 +15,8 @@ use crate::growth::{Growth, growth_of};
 use crate::judged::{grow_judged, is_unique};
 use crate::resources::{Crew, Resources};
 use crate::room::{Reply, Room};
+use crate::run::run_by;
+use crate::status::Ran;
 use crate::stop::Stop;
 use counter_compile::{CounterStop, compile_counter};
 use fan_out::WorkerCount;
@@ -21,7 +25,7 @@ use seq_text::{print_closed, print_verdict};
 use site_table::Grown;
 use std::alloc::Global;
 use std::thread::Threads;
-use tile_io::{Failed, Gate, Sink, print_line};
+use tile_io::{Failed, Gate, Sink, Source, print_line};
 use tile_system::{NoMemory, System};
 
 // By how many workers the counter is grown.
@@ -46,8 +50,25 @@ impl Room for Load {
 }
 
 impl Load {
-    /// Its answer to an input, with the growth that is to be handed out.
-    pub fn answer<R: Threads + Sync, G: Gate>(
+    /// Runs the command.
+    pub fn run<R: Threads + Sync, G: Gate, S: Source, K: Sink, E: Sink>(
+        &self,
+        resources: &Resources<'_, R, G>,
+        source: &mut S,
+        out: &mut K,
+        err: &mut E,
+    ) -> Ran
+        ensures { EndsCommand S.left S.faults K.written K.faults E.written E.faults (load_row self.now.number)
+            source.old source.new out.old out.new err.old err.new result }
+    {
+        let answer = |input: Vec<u8>|
+            requires { IsSync R.row × IsSync G.row }
+        { self.answer(resources, input) };
+        run_by(resources.alloc, self, answer, source, out, err)
+    }
+
+    // Its answer to an input, with the growth that is to be handed out.
+    fn answer<R: Threads + Sync, G: Gate>(
         &self,
         resources: &Resources<'_, R, G>,
         _input: Vec<u8>,

@@ -1,5 +1,7 @@
 // `race`: how many tiles each worker won.
+ghost use Rattle.std.specs.Thread.{IsSync};
 ghost use Rattle.tilebench.specs.Inner.Gives.{GivesAnswer};
+ghost use Rattle.tilebench.specs.Inner.Runs.{EndsCommand};
 ghost use Rattle.tile_io.specs.declared.limits.TheConstants.{MOST_INPUT};
 ghost use Rattle.std.specs.Prelude.{◌≡◌, ◌≤◌, length, true, flat_map, IfOk};
 ghost use Rattle.tile_io.specs.Chunks.{PassesOn};
@@ -12,6 +14,8 @@ use crate::input::read_alone;
 use crate::order::grow_by_crew;
 use crate::resources::{Crew, Resources};
 use crate::room::{Reply, Room};
+use crate::run::run_by;
+use crate::status::Ran;
 use crate::stop::Stop;
 use crate::wins::{Win, wins_of};
 use fan_out::WorkerCount;
@@ -19,7 +23,7 @@ use itoa::Buffer;
 use site_table::Grown;
 use std::alloc::Global;
 use std::thread::Threads;
-use tile_io::{Chunk, Failed, Gate, Sink};
+use tile_io::{Chunk, Failed, Gate, Sink, Source};
 use tile_system::{NoMemory, System};
 
 /// The command.
@@ -39,8 +43,25 @@ impl Room for Race {
 }
 
 impl Race {
-    /// Its answer to an input, with the growth that is to be handed out.
-    pub fn answer<R: Threads + Sync, G: Gate>(
+    /// Runs the command.
+    pub fn run<R: Threads + Sync, G: Gate, S: Source, K: Sink, E: Sink>(
+        &self,
+        resources: &Resources<'_, R, G>,
+        source: &mut S,
+        out: &mut K,
+        err: &mut E,
+    ) -> Ran
+        ensures { EndsCommand S.left S.faults K.written K.faults E.written E.faults (race_row self.now.0.workers.count)
+            source.old source.new out.old out.new err.old err.new result }
+    {
+        let answer = |input: Vec<u8>|
+            requires { IsSync R.row × IsSync G.row × (length input.items ≤ MOST_INPUT) }
+        { self.answer(resources, input) };
+        run_by(resources.alloc, self, answer, source, out, err)
+    }
+
+    // Its answer to an input, with the growth that is to be handed out.
+    fn answer<R: Threads + Sync, G: Gate>(
         &self,
         resources: &Resources<'_, R, G>,
         input: Vec<u8>,

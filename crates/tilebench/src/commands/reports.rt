@@ -1,5 +1,7 @@
 // `report`: what is to be told of a growth, as one line of JSON.
+ghost use Rattle.std.specs.Thread.{IsSync};
 ghost use Rattle.tilebench.specs.Inner.Gives.{GivesAnswer};
+ghost use Rattle.tilebench.specs.Inner.Runs.{EndsCommand};
 ghost use Rattle.tile_io.specs.declared.limits.TheConstants.{MOST_INPUT};
 ghost use Rattle.std.specs.Prelude.{◌≡◌, ◌≤◌, length, [], ◌∷◌, map, string_bytes, IfOk};
 ghost use Rattle.tile_io.specs.Lines.{line_of};
@@ -13,13 +15,15 @@ use crate::input::read_alone;
 use crate::judged::{grow_judged, is_unique};
 use crate::resources::{Crew, Resources};
 use crate::room::{Reply, Room};
+use crate::run::run_by;
+use crate::status::Ran;
 use crate::stop::Stop;
 use crate::wins::{Win, wins_of};
 use report::report_text;
 use site_table::Grown;
 use std::alloc::Global;
 use std::thread::Threads;
-use tile_io::{Failed, Gate, Sink, print_line};
+use tile_io::{Failed, Gate, Sink, Source, print_line};
 use tile_system::NoMemory;
 
 /// The command.
@@ -39,8 +43,25 @@ impl Room for Report {
 }
 
 impl Report {
-    /// Its answer to an input, with the growth that is to be handed out.
-    pub fn answer<R: Threads + Sync, G: Gate>(
+    /// Runs the command.
+    pub fn run<R: Threads + Sync, G: Gate, S: Source, K: Sink, E: Sink>(
+        &self,
+        resources: &Resources<'_, R, G>,
+        source: &mut S,
+        out: &mut K,
+        err: &mut E,
+    ) -> Ran
+        ensures { EndsCommand S.left S.faults K.written K.faults E.written E.faults (report_row self.now.0.workers.count)
+            source.old source.new out.old out.new err.old err.new result }
+    {
+        let answer = |input: Vec<u8>|
+            requires { IsSync R.row × IsSync G.row × (length input.items ≤ MOST_INPUT) }
+        { self.answer(resources, input) };
+        run_by(resources.alloc, self, answer, source, out, err)
+    }
+
+    // Its answer to an input, with the growth that is to be handed out.
+    fn answer<R: Threads + Sync, G: Gate>(
         &self,
         resources: &Resources<'_, R, G>,
         input: Vec<u8>,

@@ -7,7 +7,9 @@ ghost use Rattle.watch_frames.specs.FrameText.{frames_text};
 ghost use Rattle.watch_frames.specs.Watched.{IsWatchedGrowth};
 ghost use Rattle.tilebench.specs.Commands.Watch.{watch_row};
 ghost use Rattle.tilebench.specs.Growths.{growth_text, is_unique};
+ghost use Rattle.std.specs.Thread.{IsSync};
 ghost use Rattle.tilebench.specs.Inner.Gives.{GivesAnswer};
+ghost use Rattle.tilebench.specs.Inner.Runs.{EndsCommand};
 ghost use Rattle.tilebench.specs.Inner.Readings.{taken_or_faulty};
 ghost use Rattle.tilebench.specs.Inner.Rooms.{HasTypes, IsJudgedGrowth, outcome_of};
 ghost use Rattle.tilebench.specs.Inputs.{alone};
@@ -17,12 +19,14 @@ use crate::input::read_alone;
 use crate::judged::{JudgedGrowth, is_unique, judge_grid};
 use crate::resources::{Crew, Resources};
 use crate::room::{Reply, Room};
+use crate::run::run_by;
+use crate::status::Ran;
 use crate::stop::Stop;
 use command_line::FrameCount;
 use fan_out::WorkerCount;
 use site_table::Grown;
 use std::thread::Threads;
-use tile_io::{Failed, Gate, Sink};
+use tile_io::{Failed, Gate, Sink, Source};
 use tile_system::{NoMemory, System};
 use type_index::TypeIndex;
 use watch_frames::{Frames, print_frames, watch};
@@ -47,8 +51,25 @@ impl Room for Watch {
 }
 
 impl Watch {
-    /// Its answer to an input, with the growth that is to be handed out.
-    pub fn answer<R: Threads + Sync, G: Gate>(
+    /// Runs the command.
+    pub fn run<R: Threads + Sync, G: Gate, S: Source, K: Sink, E: Sink>(
+        &self,
+        resources: &Resources<'_, R, G>,
+        source: &mut S,
+        out: &mut K,
+        err: &mut E,
+    ) -> Ran
+        ensures { EndsCommand S.left S.faults K.written K.faults E.written E.faults (watch_row self.now.frames.count)
+            source.old source.new out.old out.new err.old err.new result }
+    {
+        let answer = |input: Vec<u8>|
+            requires { IsSync R.row × IsSync G.row × (length input.items ≤ MOST_INPUT) }
+        { self.answer(resources, input) };
+        run_by(resources.alloc, self, answer, source, out, err)
+    }
+
+    // Its answer to an input, with the growth that is to be handed out.
+    fn answer<R: Threads + Sync, G: Gate>(
         &self,
         resources: &Resources<'_, R, G>,
         input: Vec<u8>,

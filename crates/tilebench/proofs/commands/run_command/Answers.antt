@@ -1,19 +1,19 @@
 use Rattle.tilebench.proofs.commands.run_command.Goals as goal
 
 pub returns-in-Grow : goal.returns-in-Grow
-returns-in-Grow g c = rw c.in-Grow.is c.run_by.ensures
+returns-in-Grow g c = rw c.in-Grow.is c.run.ensures
 
 pub returns-in-Race : goal.returns-in-Race
-returns-in-Race g c = rw c.in-Race.is c.run_by-in-Race.ensures
+returns-in-Race g c = rw c.in-Race.is c.run-in-Race.ensures
 
 pub returns-in-Report : goal.returns-in-Report
-returns-in-Report g c = rw c.in-Report.is c.run_by-in-Report.ensures
+returns-in-Report g c = rw c.in-Report.is c.run-in-Report.ensures
 
 pub returns-in-Watch : goal.returns-in-Watch
-returns-in-Watch g c = rw c.in-Watch.is c.run_by-in-Watch.ensures
+returns-in-Watch g c = rw c.in-Watch.is c.run-in-Watch.ensures
 
 pub returns-in-Batch : goal.returns-in-Batch
-returns-in-Batch g c = rw c.in-Batch.is c.run_by-in-Batch.ensures
+returns-in-Batch g c = rw c.in-Batch.is c.run-in-Batch.ensures
 
 pub returns-in-Check : goal.returns-in-Check
 returns-in-Check g c = rw c.in-Check.is c.run_in_blocks.ensures
@@ -22,7 +22,7 @@ pub returns-in-Replay : goal.returns-in-Replay
 returns-in-Replay g c = rw c.in-Replay.is c.run_in_blocks-in-Replay.ensures
 
 pub returns-in-Schedule : goal.returns-in-Schedule
-returns-in-Schedule g c = rw c.in-Schedule.is c.run.ensures
+returns-in-Schedule g c = rw c.in-Schedule.is c.run-in-Schedule.ensures
 
 pub returns-in-Format : goal.returns-in-Format
 returns-in-Format g c = rw c.in-Format.is c.run-in-Format.ensures
@@ -49,4 +49,4 @@ pub returns-in-Counter : goal.returns-in-Counter
 returns-in-Counter g c = rw c.in-Counter.is c.run-in-Counter.ensures
 
 pub returns-in-Load : goal.returns-in-Load
-returns-in-Load g c = rw c.in-Load.is c.run_by-in-Load.ensures
+returns-in-Load g c = rw c.in-Load.is c.run-in-Load.ensures
