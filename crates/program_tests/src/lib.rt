@@ -2,8 +2,6 @@
 #![tactic(auto)]
 
 #[cfg(test)]
-mod batches;
-#[cfg(test)]
 mod block_ends;
 #[cfg(test)]
 mod blocks;
@@ -13,10 +11,6 @@ mod cases;
 mod certificates;
 #[cfg(test)]
 mod changed_lines;
-#[cfg(test)]
-mod faults;
-#[cfg(test)]
-mod hostile;
 #[cfg(test)]
 mod limits;
 #[cfg(test)]
