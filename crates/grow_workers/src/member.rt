@@ -29,6 +29,10 @@ const FIRST_OF_OTHERS: u32 = 64;
 // The most claims of a later burst.
 const BURST: u32 = 512;
 
+// The most types with which others claim beside a worker that goes through the whole box. Of more types
+// mostly several attach at a site, and another would place there what that worker does not pick.
+const FEW_TYPES: u32 = 4096;
+
 // The most turns of a worker after its first burst: more than a box takes.
 const MOST_TURNS: u32 = 1 << 20;
 
@@ -55,7 +59,7 @@ pub(crate) fn work<G: Gate>(
 
 // The same from a grid: with a log it goes through the whole box, and else it claims in its bands, and
 // where nothing is left there it looks beside them, or beside a worker with a log it ends after its
-// first burst. One worker alone without a log leaves all to `end`.
+// first burst, or at once where it leaves all to another.
 fn work_on<G: Gate>(
     alloc: Global,
     shared: &Shared<'_, G>,
@@ -75,7 +79,7 @@ fn work_on<G: Gate>(
     if let Some(log) = log {
         return work_in_order(alloc, shared, seat, seen, log);
     }
-    if shared.workers.get() == 1 {
+    if leaves_all(shared) {
         return Ok(Part {
             seat,
             grid: seen,
@@ -87,6 +91,13 @@ fn work_on<G: Gate>(
     take_turns(shared, worker, &mut scout);
     shared.team.leave(worker);
     Ok(part_of(scout))
+}
+
+// Whether a worker without a log leaves all to another: one alone to `end`, and where the types are many
+// to the one that goes through the whole box.
+fn leaves_all<G: Gate>(shared: &Shared<'_, G>) -> bool {
+    let has_many = shared.sys.type_count() > FEW_TYPES;
+    shared.workers.get() == 1 || (shared.in_order && has_many)
 }
 
 // All that a worker does that goes through the whole box.

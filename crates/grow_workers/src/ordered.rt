@@ -31,9 +31,10 @@ pub struct SeenOrder {
 /// What `grow_by_index` leaves with the choice 0, and its canonical order where that is seen on the
 /// way: worker 0 goes through the whole box, always at the least site that is open to what it has
 /// seen, and takes over what others have placed there; each of the others claims a few tiles in its
-/// bands, and ends. So it takes about as long as one worker alone, however the sites hang together.
-/// One worker always sees the order. Several don't where another has placed a type that worker 0
-/// did not pick, as where several attach; no clause says more of it.
+/// bands, or none where the types are more than 4096, and ends. So it takes about as long as one
+/// worker alone, however the sites hang together. One worker always sees the order. Several don't
+/// where another has placed a type that worker 0 did not pick, as where several attach; no clause
+/// says more of it.
 pub fn grow_seeing_order<R: Threads + Sync, G: Gate>(
     rt: &R,
     alloc: Global,

@@ -23,6 +23,7 @@ use cert_check::Certificate;
 use cert_text::read_certificate_in_blocks;
 use job_board::{Job, read_batch};
 use machine_text::{Machine, read_machine};
+use memchr::memmem;
 use quadrant_compile::{Quadrant, read_quadrant};
 use seq_text::{read_grid_in_blocks, read_sequence_in_blocks};
 use std::alloc::Global;
@@ -139,18 +140,27 @@ struct SystemFront {
 }
 
 // The system that what is left of a source begins with. Where it doesn't end within the first block,
-// all is read first.
+// all is read first. A block that shows no end line isn't tried.
 fn front_of<S: Source>(alloc: Global, source: &mut S) -> Result<SystemFront, Stop>
     ensures read { GivesRead S.left S.faults IsFront FailsAtFront source.old source.new result }
     ensures later { S.faults source.old ≤ S.faults source.new }
 {
     let begun = begin_text(alloc, source)?;
-    match read_front(alloc, &begun.text) {
-        Ok((sys, end)) => Ok(SystemFront { sys, begun, end }),
-        Err(stop) if begun.is_whole => Err(stop),
-        // What follows may mend it.
-        Err(_) => front_of_whole(alloc, source, begun),
+    if begun.is_whole || shows_end(&begun.text) {
+        match read_front(alloc, &begun.text) {
+            Ok((sys, end)) => return Ok(SystemFront { sys, begun, end }),
+            Err(stop) if begun.is_whole => return Err(stop),
+            // What follows may mend it.
+            Err(_) => {}
+        }
     }
+    front_of_whole(alloc, source, begun)
+}
+
+// Whether a line of a text begins as an end line mostly does. One with a blank before its word isn't
+// seen, which costs time alone.
+fn shows_end(text: &[u8]) -> bool {
+    memmem::find(text, b"\nend").is_some()
 }
 
 // The same behind the first bytes, where all that follows is read first.

@@ -19,12 +19,8 @@ use tile_io::Gate;
 use tile_system::{NoMemory, System};
 use type_index::TypeIndex;
 
-// With so few types it takes less to look one up than to go through the box once more for the order
-// and the verdict.
-const FEW_TYPES: u32 = 4096;
-
-/// Grows a system, and tells its canonical order too where growth went in it, as with the choice 0 by
-/// one worker, or by several where the types are few. The index of the types is lent.
+/// Grows a system, and tells its canonical order too where growth went in it, as with the choice 0 one
+/// of the workers does. The index of the types is lent.
 pub fn grow_ordered<R: Threads + Sync, G: Gate>(
     resources: &Resources<'_, R, G>,
     sys: &System,
@@ -38,8 +34,7 @@ pub fn grow_ordered<R: Threads + Sync, G: Gate>(
     let alloc = resources.alloc;
     let gate = resources.gate;
     let Crew { workers, choice } = crew;
-    let is_short = workers.get() == 1 || sys.type_count() <= FEW_TYPES;
-    if choice == 0 && is_short {
+    if choice == 0 {
         return grow_seeing_order(resources.rt, alloc, sys, types, workers, gate);
     }
     let grown = grow_by_index(resources.rt, alloc, sys, types, workers, choice, gate)?;
