@@ -7,6 +7,7 @@ ghost use Rattle.grow_workers.specs.Workers.{OwnsAtLeast, GrewOn, IsGrownBy};
 ghost use Rattle.grow_workers.specs.Inner.Sharing.{AreWorksOf, BeginsLog, HasSeen, IsLogOf, IsShared, IsStart, IsWorkOf};
 
 use crate::ending::end;
+use crate::in_order::claim_in_order;
 use crate::joining::join;
 use crate::leavings::{Closing, Harvest, Part};
 use crate::member::work;
@@ -47,7 +48,8 @@ pub fn grow<R: Threads + Sync, G: Gate>(
     Ok(table.close(seat, grid))
 }
 
-/// The same with an index of the system's types that is lent to it.
+/// The same with an index of the system's types that is lent to it. One worker with the choice 0 goes
+/// in canonical order.
 pub fn grow_by_index<R: Threads + Sync, G: Gate>(
     rt: &R,
     alloc: Global,
@@ -60,6 +62,10 @@ pub fn grow_by_index<R: Threads + Sync, G: Gate>(
     requires index { IsIndexOf sys.now types.now }
     ensures { IfOk result (IsGrownBy sys.now workers.count) }
 {
+    if workers.get() == 1 && choice == 0 {
+        let (grown, _log) = claim_in_order(alloc, sys, types, gate)?;
+        return Ok(grown);
+    }
     sys.recall_valid();
     let Prepared { table, seat, seen } = prepare(alloc, sys)?;
     let shared = Shared {

@@ -3,7 +3,7 @@ ghost use Rattle.std.specs.Prelude.{◌≡◌, ◌<◌, ◌-◌, ◌^◌, [], If
 ghost use Rattle.atam.specs.Canonical.{IsCanonical};
 ghost use Rattle.type_index.specs.Indexes.{IsIndexOf};
 ghost use Rattle.grow_workers.specs.Workers.{IsGrownBy, IsSeenOrder};
-ghost use Rattle.grow_workers.specs.Inner.Sharing.{BeginsLog, HasSeen, IsLogOf, IsShared};
+ghost use Rattle.grow_workers.specs.Inner.Sharing.{BeginsLog, HasSeen, IsLogOf, IsOrderLog, IsShared};
 ghost use Rattle.grow_workers.specs.Inner.Wins.{PartedGrowth};
 
 use crate::leavings::{Part, part_of, scout_of};
@@ -55,6 +55,24 @@ pub(crate) fn grow_in_order_seeing<G: Gate>(
     ensures growth { IfOk result (λ r. IsGrownBy sys.now 1 r.0) }
     ensures order { IfOk result (λ r. IsSeenOrder sys.now r.0.grid.tiles r.1) }
 {
+    let (grown, log) = claim_in_order(alloc, sys, types, gate)?;
+    let order = log.sequence_of(alloc, sys, grown.grid())?;
+    let clean = log.is_clean();
+    Ok((grown, SeenOrder { order, clean }))
+}
+
+// The same with the log of the claims in place of their sequence.
+pub(crate) fn claim_in_order<G: Gate>(
+    alloc: Global,
+    sys: &System,
+    types: &TypeIndex,
+    gate: &G,
+) -> Result<(Grown, ClaimLog), NoMemory>
+    requires { IsIndexOf sys.now types.now }
+    ensures growth { IfOk result (λ r. IsGrownBy sys.now 1 r.0) }
+    ensures log { IfOk result (λ r. IsOrderLog sys.now r.0.grid.tiles r.1) }
+    ensures sole { IfOk result (λ r. IsTrue r.1.in_order) }
+{
     sys.recall_valid();
     let Prepared { table, seat, seen } = prepare(alloc, sys)?;
     let workers = WorkerCount::new(1);
@@ -75,10 +93,7 @@ pub(crate) fn grow_in_order_seeing<G: Gate>(
     let mut grid = part.grid;
     grid.recall_sites();
     grid.clear();
-    let grown = table.close(part.seat, grid);
-    let order = log.sequence_of(alloc, sys, grown.grid())?;
-    let clean = log.is_clean();
-    Ok((grown, SeenOrder { order, clean }))
+    Ok((table.close(part.seat, grid), log))
 }
 
 // One sweep from the seeds on, always at the least open site, with a log of its claims. It picks the

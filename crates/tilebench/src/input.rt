@@ -146,7 +146,7 @@ fn front_of<S: Source>(alloc: Global, source: &mut S) -> Result<SystemFront, Sto
     ensures later { S.faults source.old ≤ S.faults source.new }
 {
     let begun = begin_text(alloc, source)?;
-    if begun.is_whole || shows_end(&begun.text) {
+    if may_end_in(&begun) {
         match read_front(alloc, &begun.text) {
             Ok((sys, end)) => return Ok(SystemFront { sys, begun, end }),
             Err(stop) if begun.is_whole => return Err(stop),
@@ -157,10 +157,10 @@ fn front_of<S: Source>(alloc: Global, source: &mut S) -> Result<SystemFront, Sto
     front_of_whole(alloc, source, begun)
 }
 
-// Whether a line of a text begins as an end line mostly does. One with a blank before its word isn't
-// seen, which costs time alone.
-fn shows_end(text: &[u8]) -> bool {
-    memmem::find(text, b"\nend").is_some()
+// Whether the system may end within what was begun. An end line with a blank before its word isn't
+// seen where more follows, which costs time alone.
+fn may_end_in(begun: &Begun) -> bool {
+    begun.is_whole || memmem::find(&begun.text, b"\nend").is_some()
 }
 
 // The same behind the first bytes, where all that follows is read first.

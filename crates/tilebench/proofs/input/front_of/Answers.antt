@@ -36,8 +36,8 @@ returns-in-Err-clause-read g c =
     let whole = whole_input (left source) (left after) (left after) text text begun.taken (all_there (left after) text begun.short (begun.whole c.if-begun.true)) in
     front_faulty left g.S.Source.faults (left source) source after text c.in-Err.stop whole begun.stays (subst Faulty c.deref.ensures.value c.in-Err.ensures.read)
 
-pub returns-in-Err-2-clause-read : goal.returns-in-Err-2-clause-read
-returns-in-Err-2-clause-read g c =
+pub returns-clause-read : goal.returns-clause-read
+returns-clause-read g c =
     let left = g.S.Source.left in
     let begun = begun_text left g.S.Source.faults c.args.source.now c.begin_text.new.source c.in_ok-begun.begun.text.items c.in_ok-begun.begun.is_whole c.in_ok-begun.ensures.read in
     from_before left g.S.Source.faults IsFront FailsAtFront c.args.source.now c.begin_text.new.source c.front_of_whole.new.source c.front_of_whole.result begun.stays (c.front_of_whole.ensures.read (left c.args.source.now) begun.taken)
