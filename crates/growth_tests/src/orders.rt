@@ -7,7 +7,7 @@ use fan_out::WorkerCount;
 use grow_workers::{SeenOrder, grow_in_order_by_index, grow_seeing_order};
 use replay_order::{ReplayStop, replay, replay_by};
 use site_table::Grown;
-use std::alloc::Global;
+use std::alloc::{AllocError, Global};
 use std::test::Fail;
 use std::thread::Threads;
 use tile_system::{NoMemory, Placed, System};
@@ -163,6 +163,28 @@ fn any_workers_see_the_canonical_order(rt: HostRuntime) -> Result<(), Fail> {
         let sys = system(rt.alloc(), text)?;
         assert!(rt; is_seen(&rt, rt.alloc(), &sys, false)?);
     }
+    Ok(())
+}
+
+// Two types that both attach at each site, and so many that attach nowhere.
+fn rivals_beside_idle(alloc: Global, idle: u32) -> Result<String, AllocError> {
+    let mut text = String::from_str(
+        alloc,
+        "tiles 1\ntau 1\nglue a 1\ntile T a a a a\ntile U a a a a\n",
+    )?;
+    for number in 0..idle {
+        text.push_str(format!(in alloc; "tile I{number} - - - -\n")?.as_str())?;
+    }
+    text.push_str("box 0 0 5 5\nseed 2 3 T\nend\n")?;
+    Ok(text)
+}
+
+// Where types are many, others than the first place none that it does not pick.
+#[test]
+fn any_workers_see_the_order_of_many_types(rt: HostRuntime) -> Result<(), Fail> {
+    let text = rivals_beside_idle(rt.alloc(), 4095)?;
+    let sys = system(rt.alloc(), text.as_str())?;
+    assert!(rt; is_seen(&rt, rt.alloc(), &sys, true)?);
     Ok(())
 }
 
