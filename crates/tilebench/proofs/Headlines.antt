@@ -1,5 +1,5 @@
 -- What the laws of confluence say of growth answers.
-use Rattle.std.proofs.Common.{◌≡◌, ◌∙◌, ◌+◌, ℕ, Bool, true, true≢false, Some, List, [], ◌∷◌, Option, refl, sym, ap}
+use Rattle.std.proofs.Common.{◌≡◌, ◌∙◌, ◌+◌, ℕ, Bool, true, true≢false, Some, List, [], ◌∷◌, Option, refl, sym, ap, subst}
 use Rattle.std.specs.List.{AllZip}
 use Rattle.atam.specs.declared.place.Place.{Place}
 use Rattle.atam.specs.Placements.{HasDistinctSites, SamePlacements}
@@ -16,7 +16,9 @@ use Rattle.local_check.specs.declared.verdict.Verdict.TheVariants.{Yes, NotExact
 use Rattle.local_check.proofs.Verdicts.{verdict_yes}
 use Rattle.unique_law.specs.Outcomes.{Outcome, IsOutcome}
 use Rattle.atam.proofs.Canon.{canonical_too, producible_types}
-use Rattle.unique_law.proofs.OneOutcome.{one_full_growth, one_outcome, yes_in_some_order, grows_into_outcome}
+use Rattle.unique_law.proofs.OneOutcome.{one_full_growth, yes_in_some_order, grows_into_outcome}
+use Rattle.unique_law.specs.Within.{IsYesWithin}
+use Rattle.unique_law.proofs.Within.{one_outcome_within}
 use Rattle.site_table.specs.Seats.{GrownValue}
 use Rattle.tile_text.specs.Spelling.{spelling}
 use Rattle.job_board.specs.declared.job.Job.{Job}
@@ -40,6 +42,10 @@ unique_yes Yes positive = refl
 unique_yes (NotExact m sum) positive = absurd (true≢false (sym positive))
 unique_yes (Rival m t) positive = absurd (true≢false (sym positive))
 unique_yes (NotTerminal m t) positive = absurd (true≢false (sym positive))
+
+-- and then a yes within the box
+pub yes_within : (verdict : Verdict) → is_unique verdict ≡ true → IsYesWithin verdict
+yes_within verdict positive = subst IsYesWithin (sym (unique_yes verdict positive)) tt
 
 -- an outcome is that of each locally deterministic list in the box
 pub growth_of_deterministic : (sys : TileSystem) → HasDistinctSites sys.seeds → (tiles : List Place) (outcome : Outcome) → IsGrowth sys tiles outcome → (s : List Place) →
@@ -71,12 +77,11 @@ growth_of_deterministic sys seeds tiles outcome grown s found =
       };
     }
 
--- where the verdict is a yes, every growth of the system prints the same bytes
-pub one_text : (sys : TileSystem) (table : GrownValue) (is_yes : Bool) (text : List ℕ) → HasDistinctSites sys.seeds → IsGrowthText sys table is_yes text → is_yes ≡ true →
-    (others : List Place) (other : Outcome) → IsOutcome sys others other → growth_text sys other ≡ text
-one_text sys table is_yes text seeds told positive others other others_grown =
-    let yes : told.outcome.verdict ≡ Yes = unique_yes told.outcome.verdict (sym told.answer ∙ positive) in
-    let one = one_outcome sys seeds table.grid.tiles others told.outcome other told.grown.outcome_is yes others_grown in
+-- where the verdict is a yes, or a no by the third condition, every growth of the system prints the same bytes
+pub one_text : (sys : TileSystem) (table : GrownValue) (is_yes : Bool) (text : List ℕ) → HasDistinctSites sys.seeds → (told : IsGrowthText sys table is_yes text) →
+    IsYesWithin told.outcome.verdict → (others : List Place) (other : Outcome) → IsOutcome sys others other → growth_text sys other ≡ text
+one_text sys table is_yes text seeds told holds others other others_grown =
+    let one = one_outcome_within sys seeds table.grid.tiles others told.outcome other told.grown.outcome_is holds others_grown in
     ap (growth_text sys) (sym one.1) ∙ sym told.printed
 
 -- of the text of what the input's system grew into
@@ -106,7 +111,7 @@ growth_headline input sys table is_yes text read told =
       yes = (λ positive. tells.0 (yes_it_is positive), λ deterministic. told.answer ∙ ap is_unique (tells.1 deterministic));
       some_order = (λ positive. tells_some.0 (yes_it_is positive), λ order. told.answer ∙ ap is_unique (tells_some.1 order));
       only = λ positive b legal. grows_into_outcome sys seeds tiles b outcome is (yes_it_is positive) legal;
-      same_bytes = λ positive others other others_grown. one_text sys table is_yes text seeds told positive others other others_grown;
+      same_bytes = one_text sys table is_yes text seeds told;
       determined = growth_of_deterministic sys seeds tiles outcome told.grown;
     }
 

@@ -22,7 +22,7 @@ use Rattle.tilebench.specs.Inputs.{IsSystemAlone}
 use Rattle.tilebench.specs.Inner.Rooms.{GrowsTo, outcome_of}
 use Rattle.tilebench.specs.Laws.{HasFramesBefore, WatchAnswersAsGrow, WatchPrintsAsGrow}
 use Rattle.tilebench.proofs.Growths.{growth_told}
-use Rattle.tilebench.proofs.Headlines.{one_text}
+use Rattle.tilebench.proofs.Headlines.{yes_within, one_text}
 
 -- a watched growth is told by the text of its frames and that of what grew
 pub watched_told : (sys : TileSystem) (frames : FrameList) (many : ℕ) (table : GrownValue) (growth : Growth) → IsWatched sys many frames.places frames.counts table.grid.tiles →
@@ -125,7 +125,8 @@ prints_once : (sys : TileSystem) (input : List ℕ) (table table_too : GrownValu
     IsGrowthText sys table_too is_yes_too text_too → is_yes ≡ true → text_too ≡ text
 prints_once sys input table table_too is_yes is_yes_too text text_too read told other positive =
     let valid = any_valid input _ read.end sys read.reads in
-    other.printed ∙ one_text sys table is_yes text valid.distinct_seeds told positive table_too.grid.tiles other.outcome other.grown.outcome_is
+    let holds = yes_within told.outcome.verdict (sym told.answer ∙ positive) in
+    other.printed ∙ one_text sys table is_yes text valid.distinct_seeds told holds table_too.grid.tiles other.outcome other.grown.outcome_is
 
 pub prints_as_grow : WatchPrintsAsGrow
 prints_as_grow frames workers watched grown input is_yes is_yes_too text growth watch grow positive =

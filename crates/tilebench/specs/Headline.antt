@@ -5,7 +5,7 @@ use Rattle.tilebench.specs.declared.status.Status.TheVariants.{Done, No, Words, 
 use Rattle.tilebench.specs.Terms.{Command, CommandName, CounterStop, WordsStop, IsCallOf, IsTaken, IsRefusedAs, refused_counter, refused_words, room_of}
 use Rattle.tilebench.specs.Terms.{Status, TextFault, Rose, Gains, GainsFront, AnswersLeft, FailsLeft, IsReadyFor, refused_text}
 use Rattle.tilebench.specs.Terms.{GrownValue, Outcome, IsOutcome, IsSystemThenSequence, spelling, Place, TileSystem, IsSystemAlone, IsGrowth, IsLegal, SamePlacements, growth_text}
-use Rattle.tilebench.specs.Terms.{IsClosedInBox, IsLeastOpenOutside, IsLocallyDeterministic, IsDeterministicInBox, IsDeterministicInSomeOrder, GrowsInto, IsWatchAnswer}
+use Rattle.tilebench.specs.Terms.{IsClosedInBox, IsLeastOpenOutside, IsLocallyDeterministic, IsDeterministicInBox, IsDeterministicInSomeOrder, IsYesWithin, GrowsInto, IsWatchAnswer}
 use Rattle.tilebench.specs.Terms.{Job, IsBatch, are_unique, batch_text, is_unique, outcome_text}
 
 -- An answer: the words call for a command, as clap reads them, and this is what it answers to what was left of the source, with the growth that it hands out.
@@ -84,9 +84,10 @@ pub record IsHeadline (input : List ℕ) (is_yes : Bool) (text : List ℕ) : Typ
   -- it says `unique yes` exactly where the three conditions of local determinism hold of the sequence, and so of some order of its places
   pub yes : (is_yes ≡ true) ↔ IsLocallyDeterministic sys outcome.order
   pub some_order : (is_yes ≡ true) ↔ IsDeterministicInSomeOrder sys tiles
-  -- then every legal sequence extends to the assembly, and every growth of the system prints the same bytes
+  -- then every legal sequence extends to the assembly
   pub only : is_yes ≡ true → (b : List Place) → IsLegal sys b → GrowsInto sys b tiles
-  pub same_bytes : is_yes ≡ true → (others : List Place) (other : Outcome) → IsOutcome sys others other → growth_text sys other ≡ text
+  -- and then, and at `unique no 3` too, every growth of the system prints the same bytes
+  pub same_bytes : IsYesWithin outcome.verdict → (others : List Place) (other : Outcome) → IsOutcome sys others other → growth_text sys other ≡ text
   -- and where any sequence in the box is locally deterministic, this is the growth of its placements
   pub determined : (s : List Place) → IsDeterministicInBox sys s → IsGrowth sys s outcome
 

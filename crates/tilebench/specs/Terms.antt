@@ -9,6 +9,7 @@ pub use Rattle.atam.specs.Growth.{IsLegal, IsClosedInBox, IsLeastOpenOutside, Gr
 pub use Rattle.atam.specs.Determinism.{IsDeterministicInBox, IsLocallyDeterministic}
 pub use Rattle.site_table.specs.Seats.{GrownValue}
 pub use Rattle.unique_law.specs.Outcomes.{Outcome, IsOutcome, IsDeterministicInSomeOrder}
+pub use Rattle.unique_law.specs.Within.{IsYesWithin}
 pub use Rattle.tile_text.specs.Spelling.{spelling}
 pub use Rattle.watch_frames.specs.FrameText.{IsWatchAnswer}
 pub use Rattle.job_board.specs.declared.job.Job.{Job}

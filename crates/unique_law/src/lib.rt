@@ -6,5 +6,5 @@ mod laws;
 mod pairs;
 
 pub use extension::law_extends;
-pub use laws::{law_confluence, law_one_outcome, law_verdict};
+pub use laws::{law_confluence, law_one_outcome, law_verdict, law_within};
 pub use pairs::{law_part, law_same_verdict};

@@ -1,4 +1,5 @@
-use Rattle.unique_law.proofs.OneOutcome.{deterministic_full, one_full_growth, outcome_exists, outcome_by_placements, one_outcome, yes_throughout, grows_into_outcome}
+use Rattle.unique_law.proofs.OneOutcome.{deterministic_full, one_full_growth, outcome_exists, one_outcome, yes_throughout, grows_into_outcome}
+use Rattle.unique_law.proofs.Within.{outcome_by_placements}
 use Rattle.unique_law.proofs.laws.law_one_outcome.Goals as goal
 
 pub returns-clause-itself : goal.returns-clause-itself

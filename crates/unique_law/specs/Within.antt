@@ -1,0 +1,35 @@
+-- Conditions 1 and 2 on a legal list in the box, where only the box is closed.
+use Rattle.std.specs.Prelude.{List, All}
+use Rattle.atam.specs.declared.place.Place.{Place}
+use Rattle.atam.specs.Sites.{InBox}
+use Rattle.atam.specs.Placements.{SamePlacements}
+use Rattle.atam.specs.TileSystem.{TileSystem}
+use Rattle.atam.specs.Growth.{IsLegal, IsClosedInBox}
+use Rattle.atam.specs.Determinism.{HasExactInputs, HasNoRivals}
+use Rattle.local_check.specs.declared.verdict.Verdict.{Verdict}
+use Rattle.local_check.specs.declared.verdict.Verdict.TheVariants.{Yes, NotExact, Rival, NotTerminal}
+
+-- each place lies in the box
+abbrev pub LiesInBox : TileSystem → List Place → Type 0
+LiesInBox sys tiles = All (λ p. InBox sys.area p.site) tiles
+
+-- as locally deterministic in the box, but types may attach outside it
+pub record IsDeterministicWithin (sys : TileSystem) (s : List Place) : Type 0 where
+  pub legal : IsLegal sys s
+  pub exact : HasExactInputs sys s
+  pub no_rival : HasNoRivals sys s
+  pub closed : IsClosedInBox sys s
+  pub inside : LiesInBox sys s
+
+-- the verdict is yes, or names the third condition, so the first two hold
+abbrev pub IsYesWithin : Verdict → Type 0
+IsYesWithin Yes = Unit {0}
+IsYesWithin (NotExact m sum) = ⊥
+IsYesWithin (Rival m t) = ⊥
+IsYesWithin (NotTerminal m t) = Unit {0}
+
+-- some order of exactly these placements is so
+pub record IsWithinInSomeOrder (sys : TileSystem) (tiles : List Place) : Type 0 where
+  pub sequence : List Place
+  pub deterministic : IsDeterministicWithin sys sequence
+  pub same : SamePlacements sequence tiles
