@@ -235,7 +235,7 @@ def names():
     told = []
     for path in ("docs/MODEL.md", "docs/ARCHITECTURE.md", "docs/DECISIONS.md", "docs/PROVED.md", "docs/FORMATS.md"):
         for name in CODE.findall(re.sub(r"^```.*?^```", "", read(path), flags=re.M | re.S)):
-            if re.fullmatch(r"[\w./-]+\.(?:rt|antt|py|md)|(?:crates|tools|docs|viewer|editors|bench)/[\w./-]+", name):
+            if re.fullmatch(r"[\w./-]+\.(?:rt|antt|py|md)|(?:crates|tools|dev|docs|viewer|editors|bench)/[\w./-]+", name):
                 known = "NAME" in name or os.path.exists(f"{TOP}/{name}") or any(it.endswith(f"/{name}") for it in paths)
                 told += [] if known else [f"{path}: there is no file {name}"]
             elif re.fullmatch(r"(?:[A-Z]\w*[a-z]\w*|\w+_\w+)(?:::\w+)*(?:\(\))?", name):
@@ -244,9 +244,9 @@ def names():
 
 
 def headline():
-    """HEADLINE.md is what tools/headline makes."""
-    made = subprocess.run([f"{TOP}/tools/headline"], check=True, stdout=subprocess.PIPE).stdout.decode()
-    return [] if made == read("docs/HEADLINE.md") else ["HEADLINE.md is old: tools/headline --write"]
+    """HEADLINE.md is what dev/headline makes."""
+    made = subprocess.run([f"{TOP}/dev/headline"], check=True, stdout=subprocess.PIPE).stdout.decode()
+    return [] if made == read("docs/HEADLINE.md") else ["HEADLINE.md is old: dev/headline --write"]
 
 
 CHECKS = {"clauses of PROVED.md": promises, "crates of ARCHITECTURE.md": layers, "limits of MODEL.md": limits, "commands": commands, "answers of FORMATS.md": answers, "lengths": lengths, "links": links, "names": names, "HEADLINE.md": headline}

@@ -1,4 +1,4 @@
-/* Refuses one allocation of a program, or all from one on: for tools/refuse, which loads it before the C library.
+/* Refuses one allocation of a program, or all from one on: for dev/refuse, which loads it before the C library.
  *
  * REFUSE_TALLY names a file of two numbers of 64 bits, which is mapped: how many allocations there were so far, and how many
  * were refused. REFUSE_AT is the number of the allocation to refuse, from 1 on (0 for none), and REFUSE_ALL, where it is

@@ -1,5 +1,5 @@
 /* Makes the threads of a program race, also where they would not by themselves because each is done before the next one is
- * there: for tools/stress, which loads it before the C library.
+ * there: for dev/stress, which loads it before the C library.
  *
  * JOSTLE_THREADS says how many threads the program makes. Whoever makes one waits until all of them are there, and so does
  * the last of them; then all go on at the same moment. From then on a timer of its own interrupts each thread again and
