@@ -6,11 +6,12 @@ import os
 import re
 import subprocess
 
+import prose
+
 TOP = os.path.dirname(os.path.dirname(os.path.realpath(__file__)))
 CODE = re.compile(r"`([^`]+)`")
 BLOCK = re.compile(r"(impl|trait)\b(.*)")
 FUNCTION = re.compile(r"( *)(pub(?:\(crate\))? )?(?:const )?fn (\w+)")
-WORDS = {"README.md": 900, "docs/PROVED.md": 4500}
 
 
 def read(path):
@@ -202,15 +203,10 @@ def answers():
     return told or ([] if len(found) > 10 else ["few refusals were found in the crates"])
 
 
-def lengths():
-    """Documents that have a number of words."""
-    return [f"{path} has {len(read(path).split())} words, more than {most}" for path, most in WORDS.items() if len(read(path).split()) > most]
-
-
 def links():
     """What the documents link to is there: files, and headings within documents."""
     told = []
-    for path in ["README.md", "CONTRIBUTING.md"] + sorted(os.path.relpath(it, TOP) for it in glob.glob(f"{TOP}/docs/*.md")):
+    for path in prose.pages():
         for place in re.findall(r"\]\(([^)\s]+)\)", read(path)):
             file, _, part = place.partition("#")
             if "://" in file:
@@ -249,4 +245,4 @@ def headline():
     return [] if made == read("docs/HEADLINE.md") else ["HEADLINE.md is old: dev/headline --write"]
 
 
-CHECKS = {"clauses of PROVED.md": promises, "crates of ARCHITECTURE.md": layers, "limits of MODEL.md": limits, "commands": commands, "answers of FORMATS.md": answers, "lengths": lengths, "links": links, "names": names, "HEADLINE.md": headline}
+CHECKS = {"clauses of PROVED.md": promises, "crates of ARCHITECTURE.md": layers, "limits of MODEL.md": limits, "commands": commands, "answers of FORMATS.md": answers, "links": links, "names": names, "HEADLINE.md": headline} | prose.CHECKS
