@@ -317,6 +317,12 @@ def beyond(system, site):
     return " and ".join(f"{side} by {far}" for side, far in found if far > 0)
 
 
+def is_closed_in_box(system, tiles):
+    """Whether the tiles lie in the box, and no type attaches to them there."""
+    beside = {neighbour(site, side) for site in tiles for side in range(4)}
+    return all(map(system.in_box, tiles)) and not any(system.in_box(site) and system.attaching(tiles, site) for site in beside)
+
+
 def resting(system, places, site):
     """The tiles without that of a site and without its neighbours that came later and rest on it."""
     number = {it: at for at, (it, _) in enumerate(places)}
@@ -401,7 +407,9 @@ def meaning_of_no(system, places, tiles, site, words, tau):
         bonds = bond_words(system, resting(system, places, site), site, words[5])
         return f"{words[5]} could come at {site} in place of {tiles[site]}, once that and the neighbours that rest on it are away: {bonds}, and {tau}"
     if words[2] == "3":
-        outside = beyond(system, site)
+        outside, held = beyond(system, site), f"({bond_words(system, tiles, site, words[5])}, and {tau})"
+        if outside and is_closed_in_box(system, tiles):
+            return f"growing within the box, nothing else can grow; {words[5]} still attaches at {site}, outside, to the {outside} {held}"
         more = f"; that is outside the box, to the {outside}, and all tiles that stand meet the other two conditions" if outside else ""
-        return f"{words[5]} still attaches at {site} ({bond_words(system, tiles, site, words[5])}, and {tau}){more}"
+        return f"{words[5]} still attaches at {site} {held}{more}"
     return None
