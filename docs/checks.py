@@ -6,6 +6,7 @@ import os
 import re
 import subprocess
 
+import constants
 import prose
 
 TOP = os.path.dirname(os.path.dirname(os.path.realpath(__file__)))
@@ -240,9 +241,13 @@ def names():
 
 
 def headline():
-    """HEADLINE.md is what dev/headline makes."""
+    """HEADLINE.md is what dev/headline makes, which lists each shape of a definition."""
+    tried = subprocess.run([f"{TOP}/dev/test_headline.py"], check=False, stdout=subprocess.PIPE, stderr=subprocess.STDOUT)
+    if tried.returncode:
+        return [f"dev/test_headline.py: {tried.stdout.decode()}"]
     made = subprocess.run([f"{TOP}/dev/headline"], check=True, stdout=subprocess.PIPE).stdout.decode()
     return [] if made == read("docs/HEADLINE.md") else ["HEADLINE.md is old: dev/headline --write"]
 
 
-CHECKS = {"clauses of PROVED.md": promises, "crates of ARCHITECTURE.md": layers, "limits of MODEL.md": limits, "commands": commands, "answers of FORMATS.md": answers, "links": links, "names": names, "HEADLINE.md": headline} | prose.CHECKS
+CHECKS = {"clauses of PROVED.md": promises, "crates of ARCHITECTURE.md": layers, "limits of MODEL.md": limits, "commands": commands, "answers of FORMATS.md": answers, "links": links, "names": names, "HEADLINE.md": headline,
+          "constants that clauses cite": lambda: constants.unsaid(crates(), contracts)} | prose.CHECKS
