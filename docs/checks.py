@@ -12,6 +12,7 @@ import prose
 TOP = os.path.dirname(os.path.dirname(os.path.realpath(__file__)))
 CODE = re.compile(r"`([^`]+)`")
 BLOCK = re.compile(r"(impl|trait)\b(.*)")
+FOR_TESTS = ("worked_systems", "meeting_gate", "program_runs")
 FUNCTION = re.compile(r"( *)(pub(?:\(crate\))? )?(?:const )?fn (\w+)")
 
 
@@ -88,12 +89,30 @@ def has(contract, clause):
     if contract.startswith("impl ") and "ensures" not in contract:
         contract = of_traits().get(contract.split()[1], "")
     words = set(re.findall(r"[\w']+", contract.split("ensures", 1)[-1])) if "ensures" in contract else set()
-    return clause in contract if " " in clause else bool(fnmatch.filter(words, clause))
+    return bool(fnmatch.filter(words, clause)) if re.fullmatch(r"[\w'*]+", clause) else clause in contract
+
+
+def is_promise(crate, name):
+    """Whether a function has a contract of this project. (A drop by hand takes its value apart, and promises nothing.)"""
+    contract = contracts(crate)[name]
+    of_trait = of_traits().get(contract.split()[1], "") if contract.startswith("impl ") else ""
+    return not name.endswith("::drop") and "ensures" in contract + of_trait
+
+
+@functools.lru_cache(None)
+def handed_out(crate):
+    """The names that a crate's lib.rt hands out; none of a crate that is for tests alone, or is a program."""
+    path = f"crates/{crate}/src/lib.rt"
+    if not os.path.exists(f"{TOP}/{path}") or crate in FOR_TESTS:
+        return set()
+    text = re.sub(r"//.*", "", read(path))
+    uses = re.findall(r"pub (?:use|fn|struct|enum|trait) ([^;{(]+(?:\{[^}]*\})?)", text)
+    return set(re.findall(r"\w+", " ".join(uses)))
 
 
 def promises():
     """The tables of PROVED.md: each function that a row names is there, with a clause that the row names."""
-    told, crate, before, laws = [], None, [], set()
+    told, crate, before, listed = [], None, [], set()
     for cells in rows(read("docs/PROVED.md").split("## Crate by crate")[1]):
         heads = re.findall(r"\*\*(?:[^*]|\*(?!\*))+\*\*", cells[0])
         if heads:
@@ -111,18 +130,17 @@ def promises():
             if not found and len(crate) > 1:
                 continue
             done = True
-            laws |= {(it, name) for name in found}
+            listed |= {(it, name) for name in found}
             told += [f"PROVED.md: {it} has no public function {name}" for name in missing]
             if clauses:
                 told += [f"PROVED.md: {it}::{name} has none of {cells[2]}" for name in found
-                         # (a drop by hand takes its value apart, and promises nothing)
-                         if not name.endswith("::drop") and not any(has(contracts(it)[name], clause) for clause in clauses)]
+                         if is_promise(it, name) and not any(has(contracts(it)[name], clause) for clause in clauses)]
                 told += [f"PROVED.md: no clause {clause} in the row {cells[0]} of {it}" for clause in clauses
                          if not any(has(contracts(it)[name], clause) for name in found)]
         if not done:
             told.append(f"PROVED.md: nothing in {crate} is called {cells[0]}")
     told += [f"PROVED.md: {crate}::{name} is in no row" for crate in crates() for name in contracts(crate)
-             if name.startswith("law_") and (crate, name) not in laws]
+             if is_promise(crate, name) and name.split("::")[0] in handed_out(crate) and (crate, name) not in listed]
     specs = "".join(read(os.path.relpath(it, TOP)) for it in glob.glob(f"{TOP}/crates/*/specs/**/*.antt", recursive=True))
     for cells in rows(read("docs/PROVED.md").split("## The answers")[1].split("## Crate by crate")[0]):
         told += [f"PROVED.md: there is no definition {it}" for it in CODE.findall(cells[-1] or cells[-2])
