@@ -133,6 +133,9 @@ module _ (sys : TileSystem) (seeds_distinct : HasDistinctSites sys.seeds) where
         (exact_too sys s o.order seeds_distinct within.legal order_legal same within.exact within.no_rival)
         (no_rival_too sys s o.order seeds_distinct within.legal order_legal same within.exact within.no_rival)
 
+    pub within_in_its_order : IsYesWithin o.verdict ↔ IsDeterministicWithin sys o.order
+    within_in_its_order = (order_within, within_throughout o.order)
+
     pub within_in_some_order : IsYesWithin o.verdict ↔ IsWithinInSomeOrder sys tiles
     within_in_some_order = (
       λ yes_it_is. record { sequence = o.order; deterministic = order_within yes_it_is; same = order_same },

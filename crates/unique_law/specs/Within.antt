@@ -1,4 +1,4 @@
--- Conditions 1 and 2 on a legal list in the box, where only the box is closed.
+-- Conditions 1 and 2 on a legal list in the box, where the third is asked of the box alone.
 use Rattle.std.specs.Prelude.{List, All}
 use Rattle.atam.specs.declared.place.Place.{Place}
 use Rattle.atam.specs.Sites.{InBox}
@@ -13,7 +13,8 @@ use Rattle.local_check.specs.declared.verdict.Verdict.TheVariants.{Yes, NotExact
 abbrev pub LiesInBox : TileSystem → List Place → Type 0
 LiesInBox sys tiles = All (λ p. InBox sys.area p.site) tiles
 
--- as locally deterministic in the box, but types may attach outside it
+-- A legal sequence in the box with exact inputs and no rivals, to which nothing attaches in the box.
+-- Outside it types may attach.
 pub record IsDeterministicWithin (sys : TileSystem) (s : List Place) : Type 0 where
   pub legal : IsLegal sys s
   pub exact : HasExactInputs sys s
@@ -21,14 +22,14 @@ pub record IsDeterministicWithin (sys : TileSystem) (s : List Place) : Type 0 wh
   pub closed : IsClosedInBox sys s
   pub inside : LiesInBox sys s
 
--- the verdict is yes, or names the third condition, so the first two hold
+-- the verdict is yes, or names the third condition: the first two hold
 abbrev pub IsYesWithin : Verdict → Type 0
 IsYesWithin Yes = Unit {0}
 IsYesWithin (NotExact m sum) = ⊥
 IsYesWithin (Rival m t) = ⊥
 IsYesWithin (NotTerminal m t) = Unit {0}
 
--- some order of exactly these placements is so
+-- some order of exactly these placements is deterministic within the box
 pub record IsWithinInSomeOrder (sys : TileSystem) (tiles : List Place) : Type 0 where
   pub sequence : List Place
   pub deterministic : IsDeterministicWithin sys sequence

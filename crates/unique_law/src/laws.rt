@@ -1,7 +1,7 @@
 // Laws over all lists of placements, at whatever sites, each as the contract of a function that
 // does nothing.
 ghost use Rattle.unique_law.specs.Laws.{HasNoOtherPlaces, GrowsIntoDeterministic, DeterministicIsFullGrowth, HasOneFullGrowth, HasOutcome, HasOutcomeByPlacements, HasOneOutcome, IsYesThroughout, GrowsIntoOutcome, HasVerdictByPlacements, IsYesWhereSomeOrderIs};
-ghost use Rattle.unique_law.specs.WithinLaws.{DeterministicIsWithin, HasNoOtherPlacesWithin, GrowsIntoWithin, WithinIsFullGrowth, HasOneFullGrowthWithin, HasOneOutcomeWithin, GrowsIntoOutcomeWithin, IsWithinWhereSomeOrderIs, IsWithinThroughout, NamesSiteOutside, HasConditionsByPlacements};
+ghost use Rattle.unique_law.specs.WithinLaws.{DeterministicIsWithin, HasNoOtherPlacesWithin, GrowsIntoWithin, WithinIsFullGrowth, HasOneFullGrowthWithin, HasOneOutcomeWithin, GrowsIntoOutcomeWithin, IsWithinWhereItsOrderIs, IsWithinWhereSomeOrderIs, IsWithinThroughout, NamesSiteOutside, HasConditionsByPlacements};
 
 /// Each legal sequence has places of a locally deterministic one alone, and grows into it.
 pub fn law_confluence()
@@ -27,9 +27,9 @@ pub fn law_verdict()
     ensures yes { IsYesWhereSomeOrderIs }
 {}
 
-/// A legal sequence in the box with the first two conditions, to which nothing attaches there, has
-/// the places of each other legal one there, so a system that has one has one outcome. Nothing is
-/// said of growth outside the box.
+/// Each legal sequence in the box has places alone of one that is deterministic within it, and grows
+/// into it, so a system that has such a one has one outcome. Nothing is said of sequences that leave
+/// the box, which may come back.
 pub fn law_within()
     ensures deterministic { DeterministicIsWithin }
     ensures part { HasNoOtherPlacesWithin }
@@ -38,6 +38,7 @@ pub fn law_within()
     ensures placements { HasOneFullGrowthWithin }
     ensures outcome { HasOneOutcomeWithin }
     ensures grows_into_outcome { GrowsIntoOutcomeWithin }
+    ensures its_order { IsWithinWhereItsOrderIs }
     ensures some_order { IsWithinWhereSomeOrderIs }
     ensures throughout { IsWithinThroughout }
     ensures outside { NamesSiteOutside }

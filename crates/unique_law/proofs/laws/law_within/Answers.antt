@@ -1,5 +1,5 @@
 use Rattle.unique_law.proofs.OneOutcome.{deterministic_within}
-use Rattle.unique_law.proofs.Within.{matched_within, grows_within, within_full, full_growth_within, one_outcome_within, grows_into_outcome_within, within_in_some_order, within_throughout, names_site_outside, conditions_by_placements}
+use Rattle.unique_law.proofs.Within.{matched_within, grows_within, within_full, full_growth_within, one_outcome_within, grows_into_outcome_within, within_in_its_order, within_in_some_order, within_throughout, names_site_outside, conditions_by_placements}
 use Rattle.unique_law.proofs.laws.law_within.Goals as goal
 
 pub returns-clause-deterministic : goal.returns-clause-deterministic
@@ -22,6 +22,9 @@ returns-clause-outcome c = λ sys a b o p distinct. one_outcome_within sys disti
 
 pub returns-clause-grows_into_outcome : goal.returns-clause-grows_into_outcome
 returns-clause-grows_into_outcome c = λ sys tiles b o distinct of_tiles. grows_into_outcome_within sys distinct tiles o of_tiles b
+
+pub returns-clause-its_order : goal.returns-clause-its_order
+returns-clause-its_order c = λ sys tiles o distinct. within_in_its_order sys distinct tiles o
 
 pub returns-clause-some_order : goal.returns-clause-some_order
 returns-clause-some_order c = λ sys tiles o distinct. within_in_some_order sys distinct tiles o
