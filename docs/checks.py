@@ -168,6 +168,22 @@ def layers():
     return told
 
 
+# The folders and files of the model's definitions, each of which MODEL.md puts in words; laws have their rows in PROVED.md.
+MODEL = ("atam/specs/*", "local_check/specs/Judgement", "unique_law/specs/Outcomes", "unique_law/specs/Within")
+MODEL += ("cert_check/specs/Certificates", "design/specs/Designs")
+DEFINED = re.compile(r"^(?:pub (?:record|data)|(?:abbrev|unfoldable) pub) (\w+)", re.M)
+
+
+def model():
+    """MODEL.md names each definition of the model."""
+    told, text = [], read("docs/MODEL.md")
+    for path in sorted(path for it in MODEL for path in glob.glob(f"{TOP}/crates/{it}.antt")):
+        path = os.path.relpath(path, TOP)
+        names = [] if path.endswith("Laws.antt") else DEFINED.findall(read(path))
+        told += [f"MODEL.md: nothing of {name} in {path}" for name in names if f"`{name}`" not in text]
+    return told
+
+
 def limits():
     """The tables of limits in MODEL.md: each number of a limit in crates/NAME/src/limits.rt stands in it."""
     told, table = [], read("docs/MODEL.md").split("## Limits")[1].replace(",", "")
@@ -264,5 +280,5 @@ def headline():
     return [] if made == read("docs/HEADLINE.md") else ["HEADLINE.md is old: dev/headline --write"]
 
 
-CHECKS = {"clauses of PROVED.md": promises, "crates of ARCHITECTURE.md": layers, "limits of MODEL.md": limits, "commands": commands, "answers of FORMATS.md": answers, "links": links, "names": names, "HEADLINE.md": headline,
+CHECKS = {"clauses of PROVED.md": promises, "crates of ARCHITECTURE.md": layers, "definitions of MODEL.md": model, "limits of MODEL.md": limits, "commands": commands, "answers of FORMATS.md": answers, "links": links, "names": names, "HEADLINE.md": headline,
           "constants that clauses cite": lambda: constants.unsaid(crates(), contracts)} | prose.CHECKS
