@@ -271,6 +271,12 @@ def names():
     return told
 
 
+def manual():
+    """The manual page is what docs/manual makes."""
+    made = subprocess.run([f"{TOP}/docs/manual"], check=True, stdout=subprocess.PIPE).stdout.decode()
+    return [] if made == read("docs/tilebench.1") else ["docs/tilebench.1 is old: docs/manual --write"]
+
+
 def headline():
     """HEADLINE.md is what dev/headline makes, which lists each shape of a definition."""
     tried = subprocess.run([f"{TOP}/dev/test_headline.py"], check=False, stdout=subprocess.PIPE, stderr=subprocess.STDOUT)
@@ -280,5 +286,5 @@ def headline():
     return [] if made == read("docs/HEADLINE.md") else ["HEADLINE.md is old: dev/headline --write"]
 
 
-CHECKS = {"clauses of PROVED.md": promises, "crates of ARCHITECTURE.md": layers, "definitions of MODEL.md": model, "limits of MODEL.md": limits, "commands": commands, "answers of FORMATS.md": answers, "links": links, "names": names, "HEADLINE.md": headline,
+CHECKS = {"clauses of PROVED.md": promises, "crates of ARCHITECTURE.md": layers, "definitions of MODEL.md": model, "limits of MODEL.md": limits, "commands": commands, "answers of FORMATS.md": answers, "links": links, "names": names, "HEADLINE.md": headline, "the manual page": manual,
           "constants that clauses cite": lambda: constants.unsaid(crates(), contracts)} | prose.CHECKS
