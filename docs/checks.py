@@ -206,7 +206,8 @@ def commands():
     """The commands of the program: each has a row in README.md, a room in PROVED.md, a part in FORMATS.md and the manual page."""
     source = read("crates/command_line/specs/Commands.antt")
     names = re.findall(r'^row_of name\.\w+ = \(codes "([a-z]+)"', source, re.M)
-    readme = {it.split()[0] for cells in rows(read("README.md")) for it in CODE.findall(cells[0])}
+    table = read("README.md").partition("\nCommand|")[2].partition("\n\n")[0]
+    readme = {it.split()[0] for cells in rows(table) for it in CODE.findall(cells[0])}
     told = [f"README.md: no row for {it}" for it in names if it not in readme]
     told += [f"README.md: no command {it}" for it in readme if names and it not in names]
     for path in ("docs/PROVED.md", "docs/FORMATS.md", "docs/tilebench.1", "editors/tilebench.bash"):

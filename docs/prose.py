@@ -20,7 +20,7 @@ def read(path):
 def pages():
     """All documents, each by its path from the top."""
     found = glob.glob(f"{TOP}/docs/*.md") + glob.glob(f"{TOP}/page/*.md") + glob.glob(f"{TOP}/python/*.md")
-    return ["README.md", "CONTRIBUTING.md"] + sorted(os.path.relpath(it, TOP) for it in found)
+    return ["README.md", "CONTRIBUTING.md", "CHANGELOG.md"] + sorted(os.path.relpath(it, TOP) for it in found)
 
 
 def parts(text):
