@@ -255,19 +255,27 @@ def links():
     return told
 
 
+# What of the repository is code that a document may name, beside the crates.
+CODE_FILES = ("crates/*/src/**/*.rt", "crates/*/specs/**/*.antt", "dev/*", "tools/*", "bench/*", "docs/*.py",
+              "python/**/*.py", "page/**/*.py", "page/**/*.js", "editors/*")
+FILE_NAME = re.compile(r"[\w./-]+\.(?:rt|antt|py|md|html)|(?:crates|tools|dev|docs|page|python|editors|bench)/[\w./-]+")
+IDENTIFIER = re.compile(r"(?:[A-Z]\w*[a-z]\w*|\w+_\w+)(?:::\w+)*(?:\(\))?")
+
+
 def names():
     """What the documents name of the code is there: definitions, types and functions, and files."""
-    kinds = ("src/**/*.rt", "specs/**/*.antt", "proofs/**/*.antt", "must-fail/*.edit")
-    paths = [path for kind in kinds for path in glob.glob(f"{TOP}/crates/*/{kind}", recursive=True)]
+    paths = [it for kind in CODE_FILES for it in glob.glob(f"{TOP}/{kind}", recursive=True) if os.path.isfile(it)]
     words = set(re.findall(r"[^\W\d]\w*", "".join(read(os.path.relpath(it, TOP)) for it in paths)))
-    words |= set(crates()) | {"Wait"}
+    words |= set(crates()) | {"Wait", "Is"}
+    paths += glob.glob(f"{TOP}/crates/*/proofs/**/*.antt", recursive=True)
     told = []
-    for path in ("docs/MODEL.md", "docs/ARCHITECTURE.md", "docs/DECISIONS.md", "docs/PROVED.md", "docs/FORMATS.md"):
-        for name in CODE.findall(re.sub(r"^```.*?^```", "", read(path), flags=re.M | re.S)):
-            if re.fullmatch(r"[\w./-]+\.(?:rt|antt|py|md)|(?:crates|tools|dev|docs|viewer|editors|bench)/[\w./-]+", name):
-                known = "NAME" in name or os.path.exists(f"{TOP}/{name}") or any(it.endswith(f"/{name}") for it in paths)
-                told += [] if known else [f"{path}: there is no file {name}"]
-            elif re.fullmatch(r"(?:[A-Z]\w*[a-z]\w*|\w+_\w+)(?:::\w+)*(?:\(\))?", name):
+    for path in prose.pages():
+        text = re.sub(r"^```.*?^```|^    .*?$", "", read(path), flags=re.M | re.S)
+        for name in CODE.findall(text) if path != "docs/HEADLINE.md" else ():
+            if FILE_NAME.fullmatch(name):
+                known = "NAME" in name or any(os.path.exists(f"{it}/{name}") for it in (TOP, f"{TOP}/docs"))
+                told += [] if known or any(it.endswith(f"/{name}") for it in paths) else [f"{path}: there is no file {name}"]
+            elif IDENTIFIER.fullmatch(name):
                 told += [f"{path}: nothing is called {name}" for it in re.findall(r"\w+", name) if it not in words]
     return told
 
