@@ -84,37 +84,56 @@ module _ (word : Cause) where
     pub checked : IsChecked word
     pub part : parts.IsPart word n
 """,
+    "crates/tilebench/specs/Commands.antt": """\
+use Rattle.tilebench.specs.Headline.{IsChecked}
+
+-- what the other command says
+abbrev pub other : ℕ
+other = 1
+
+abbrev pub room_of : Cause → Type 0
+room_of (command.First n) = IsChecked n
+room_of command.Second = other
+""",
     "crates/tilebench/src/top.rt": """\
 ghost use Rattle.tilebench.specs.Headline.{IsHeadline};
+ghost use Rattle.tilebench.specs.Commands.{room_of};
 
 use low::Cause;
 
 /// The top call.
 pub fn tilebench(cause: Cause) -> bool
-    ensures { IsHeadline cause 1 }
+    ensures { IsHeadline cause 1 × room_of cause }
 {
     true
 }
 """,
 }
 
-# What is listed, with the lines of each: operators, also by a block of `do`; equations that comments part; types of one
-# crate; renamed variants; what a module's name stands before.
-LISTED = {
-    "crates/low/specs/Checks.antt": "`◌>>=◌` 7-10",
-    "crates/low/specs/Parted.antt": "`first_part` 5-6, `IsSecond` 8-12, `IsPart` 14-18",
-    "crates/low/src/cause.rt": "`Place` 1-3, `Step` 5, `Cause` 7-10",
-    "crates/low/src/limits.rt": "`MOST` 1",
-    "crates/tilebench/specs/Headline.antt": "`IsChecked` 8-11, `IsHeadline` 14-16",
-}
+# What is listed, with the lines of each, from the top down: operators, also by a block of `do`; equations that comments
+# part; types of one crate; renamed variants; what a module's name stands before; and what a command's row adds.
+LISTED = [
+    ("crates/tilebench/specs/Headline.antt", "IsHeadline", "L14-L16", "by its name in a module"),
+    ("crates/low/specs/Parted.antt", "IsPart", "L14-L18", ""),
+    ("crates/low/specs/Parted.antt", "IsSecond", "L8-L12", ""),
+    ("crates/low/specs/Parted.antt", "first_part", "L5-L6", ""),
+    ("crates/low/src/limits.rt", "MOST", "L1", ""),
+    ("crates/tilebench/specs/Headline.antt", "IsChecked", "L8-L11", ""),
+    ("crates/low/specs/Checks.antt", "◌>>=◌", "L7-L10", "a check, and then the next one"),
+    ("crates/low/src/cause.rt", "Cause", "L7-L10", ""),
+    ("crates/low/src/cause.rt", "Place", "L1-L3", ""),
+    ("crates/low/src/cause.rt", "Step", "L5", ""),
+    ("crates/tilebench/specs/Commands.antt", "other", "L4-L5", "what the other command says"),
+]
 
 
 def tool(folder):
     """dev/headline, over another folder."""
+    sys.path.insert(0, HERE)
     loader = importlib.machinery.SourceFileLoader("headline", f"{HERE}/headline")
     module = importlib.util.module_from_spec(importlib.util.spec_from_loader("headline", loader))
     loader.exec_module(module)
-    module.TOP = folder
+    module.reaching.TOP = folder
     return module
 
 
@@ -126,12 +145,18 @@ class ReadingList(unittest.TestCase):
                 with open(f"{folder}/{path}", "w", encoding="utf-8") as it:
                     it.write(text)
             came = tool(folder).text()
-        for path, names in LISTED.items():
-            self.assertIn(f"- [{path}](../{path}): {names}\n", came)
+        entries = [line for line in came.split("\n") if line.startswith("- [`")]
+        for path, name, lines, words in LISTED:
+            link = f"- [`{name}`](../{path}#{lines}) {path.split('/')[1]} {lines.replace('L', '')}"
+            self.assertIn(f"{link}: {words}" if words else link, entries)
+        names = [line.split("`")[1] for line in entries]
+        self.assertLess(names.index("IsHeadline"), names.index("IsPart"))
+        self.assertLess(names.index("IsPart"), names.index("first_part"))
+        self.assertGreater(came.index("`other`"), came.index("### `second`"))
         for name in ("unused", "◌<>◌"):
             self.assertNotIn(f"`{name}`", came)
         self.assertIn("- `clap.specs.Words`: `takes`\n", came)
-        self.assertIn(", beside 3 names of std ", came)
+        self.assertIn("- `std.specs.Prelude`: ", came)
 
 
 if __name__ == "__main__":
