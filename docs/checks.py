@@ -271,7 +271,7 @@ def names():
     told = []
     for path in prose.pages():
         text = re.sub(r"^```.*?^```|^    .*?$", "", read(path), flags=re.M | re.S)
-        for name in CODE.findall(text) if path != "docs/HEADLINE.md" else ():
+        for name in CODE.findall(text) if "headline" not in path.lower() else ():
             if FILE_NAME.fullmatch(name):
                 known = "NAME" in name or any(os.path.exists(f"{it}/{name}") for it in (TOP, f"{TOP}/docs"))
                 told += [] if known or any(it.endswith(f"/{name}") for it in paths) else [f"{path}: there is no file {name}"]
@@ -287,13 +287,13 @@ def manual():
 
 
 def headline():
-    """HEADLINE.md is what dev/headline makes, which lists each shape of a definition."""
+    """HEADLINE.md and the pages behind it are what dev/headline makes, which lists each shape of a definition."""
     tried = subprocess.run([f"{TOP}/dev/test_headline.py"], check=False, stdout=subprocess.PIPE, stderr=subprocess.STDOUT)
     if tried.returncode:
         return [f"dev/test_headline.py: {tried.stdout.decode()}"]
-    made = subprocess.run([f"{TOP}/dev/headline"], check=True, stdout=subprocess.PIPE).stdout.decode()
-    return [] if made == read("docs/HEADLINE.md") else ["HEADLINE.md is old: dev/headline --write"]
+    made = subprocess.run([f"{TOP}/dev/headline", "--check"], check=True, stdout=subprocess.PIPE).stdout.decode()
+    return made.splitlines()
 
 
-CHECKS = {"clauses of PROVED.md": promises, "crates of ARCHITECTURE.md": layers, "definitions of MODEL.md": model, "limits of MODEL.md": limits, "commands": commands, "answers of FORMATS.md": answers, "links": links, "names": names, "HEADLINE.md": headline, "the manual page": manual,
+CHECKS = {"clauses of PROVED.md": promises, "crates of ARCHITECTURE.md": layers, "definitions of MODEL.md": model, "limits of MODEL.md": limits, "commands": commands, "answers of FORMATS.md": answers, "links": links, "names": names, "the list of what the headline reaches": headline, "the manual page": manual,
           "constants that clauses cite": lambda: constants.unsaid(crates(), contracts)} | prose.CHECKS

@@ -19,7 +19,7 @@ def read(path):
 
 def pages():
     """All documents, each by its path from the top."""
-    found = glob.glob(f"{TOP}/docs/*.md") + glob.glob(f"{TOP}/page/*.md") + glob.glob(f"{TOP}/python/*.md")
+    found = [it for folder in ("docs", "docs/headline", "page", "python") for it in glob.glob(f"{TOP}/{folder}/*.md")]
     return ["README.md", "CONTRIBUTING.md", "CHANGELOG.md"] + sorted(os.path.relpath(it, TOP) for it in found)
 
 
@@ -43,7 +43,7 @@ def lengths():
     for path in pages():
         long = [it for it in parts(read(path)) if len(it.split()) > LONGEST]
         told += [f"{path}: {len(it.split())} words in: {it.strip()[:60]}.." for it in long]
-    all_words = sum(len(read(it).split()) for it in pages() if it.startswith("docs/"))
+    all_words = sum(len(read(it).split()) for it in pages() if os.path.dirname(it) == "docs")
     return told + ([f"docs/*.md have {all_words} words, more than {ALL}"] if all_words > ALL else [])
 
 
