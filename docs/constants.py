@@ -4,7 +4,8 @@ import glob
 import os
 import re
 
-TOP = os.path.dirname(os.path.dirname(os.path.realpath(__file__)))
+from repository import TOP, read
+
 CONSTANT = re.compile(r"^(?:pub(?:\(\w+\))? )?const (\w+):", re.M)
 CITED = re.compile(r"^use Rattle\.(\w+)\.specs\.declared\.[\w.]*TheConstants\.\{([^}]*)\}", re.M)
 CLAUSES = re.compile(r"\b(?:requires|ensures)\b.*", re.S)
@@ -16,8 +17,7 @@ def texts(crate, part):
     """The files of a part of a crate, each by its path from the top."""
     for path in sorted(glob.glob(f"{TOP}/crates/{crate}/{part}/**/*.*", recursive=True)):
         if path.endswith((".rt", ".antt")):
-            with open(path, encoding="utf-8") as it:
-                yield os.path.relpath(path, TOP), it.read()
+            yield os.path.relpath(path, TOP), read(os.path.relpath(path, TOP))
 
 
 def in_definitions(crates):

@@ -4,17 +4,13 @@ import hashlib
 import os
 import re
 
-TOP = os.path.dirname(os.path.dirname(os.path.realpath(__file__)))
+from repository import TOP, read
+
 # The words that a paragraph, an item or a cell of a table may have, and those of all pages in docs/ together.
 LONGEST, ALL = 120, 30000
 FENCE = re.compile(r"^(```|~~~).*?^\1\s*$", re.M | re.S)
 ITEM = re.compile(r"\s*(?:[-*] |\d+\. )")
 FIGURES = re.compile(r"<!-- measured by bench/table of sources (\w+)")
-
-
-def read(path):
-    with open(f"{TOP}/{path}", encoding="utf-8") as it:
-        return it.read()
 
 
 def pages():
