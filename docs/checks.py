@@ -14,20 +14,20 @@ from repository import CODE, TOP, crates, read, rows
 def layers():
     """The table and the picture of ARCHITECTURE.md against crates.txt."""
     text, order, told = read("docs/ARCHITECTURE.md"), crates(), []
-    table = {CODE.findall(cells[0])[0]: cells for cells in rows(text.split("## Crates")[1].split("\n## ")[0]) if CODE.match(cells[0])}
-    if list(table) != list(order):
-        told.append(f"ARCHITECTURE.md: the rows are {list(table)}, crates.txt has {list(order)}")
-    picture = text.split("```")[1].split("\n")
-    line_of = {name: number for number, line in enumerate(picture) for name in re.findall(r"\w+", line) if name in order}
-    for_tests = ["worked_systems", "meeting_gate"]
-    tests = [name for name in order if "worked_systems" in order[name]] + for_tests
-    told += [f"ARCHITECTURE.md: the picture lacks {name}" for name in order if name not in line_of and name not in tests]
+    table = [CODE.findall(cells[0])[0] for cells in rows(text.split("## Crates")[1].split("\n## ")[0])
+             if CODE.match(cells[0])]
+    if table != list(order):
+        told.append(f"ARCHITECTURE.md: the rows are {table}, crates.txt has {list(order)}")
+    picture = list(enumerate(text.split("```")[1].split("\n")))
+    line_of = {name: number for number, line in picture for name in re.findall(r"\w+", line) if name in order}
+    tests = [name for name in order if "worked_systems" in order[name]] + ["worked_systems", "meeting_gate"]
+    told += [f"ARCHITECTURE.md: the picture lacks {it}" for it in order if it not in line_of and it not in tests]
     told += [f"ARCHITECTURE.md: {name} is drawn below {below}, on which it stands" for name, number in line_of.items()
              for below in order[name] if line_of.get(below, number) < number]
     return told
 
 
-# The folders and files of the model's definitions, each of which MODEL.md puts in words; laws have their rows in PROVED.md.
+# The files of the model's definitions, each of which MODEL.md puts in words; laws have their rows in PROVED.md.
 MODEL = ("atam/specs/*", "local_check/specs/Judgement", "unique_law/specs/Outcomes", "unique_law/specs/Within")
 MODEL += ("cert_check/specs/Certificates", "design/specs/Designs")
 DEFINED = re.compile(r"^(?:pub (?:record|data)|(?:abbrev|unfoldable) pub) (\w+)", re.M)
@@ -43,26 +43,32 @@ def model():
     return told
 
 
+# The rows of the table of limits by the crates and the constants that they are about.
+OF_MODEL = {"MOST_GLUES": "glues", "MOST_PAIRS": "pairs of unlike glues", "MOST_TYPES": "tile types",
+            "MOST_SEEDS": "seeds",
+            "MOST_STRENGTH": "strength", "MOST_TAU": "temperature", "LONGEST_NAME": "names", "LONGEST_SIDE": "box",
+            "LEAST_CORNER": "box", "GREATEST_CORNER": "box", "MOST_INPUT": "input", "LONGEST_LINE": "input"}
+OF_MACHINE = dict.fromkeys(("MOST_STATES", "MOST_SYMBOLS", "LONGEST_SHORT_NAME", "MOST_CELLS", "MOST_ROWS"), "machine")
+LIMITS = {"atam": OF_MODEL.get, "tile_io": OF_MODEL.get, "machine_text": OF_MACHINE.get,
+          "quadrant_compile": lambda _: "two-input rule", "counter_compile": lambda _: "counter"}
+LIMIT = re.compile(r"^pub const (\w+): [iu]\w+ = (-?[\d_]+);", re.M)
+
+
 def limits():
-    """The tables of limits in MODEL.md: each number of a limit in crates/NAME/src/limits.rt stands in it."""
+    """The table of limits in MODEL.md: each number of a limit in crates/NAME/src/limits.rt stands in it."""
     told, table = [], read("docs/MODEL.md").split("## Limits")[1].replace(",", "")
     of = {cells[0]: re.findall(r"-?\d+", cells[1]) for cells in rows(table)}
-    rows_of = {"MOST_GLUES": "glues", "MOST_PAIRS": "pairs of unlike glues", "MOST_TYPES": "tile types", "MOST_SEEDS": "seeds", "MOST_STRENGTH": "strength", "MOST_TAU": "temperature",
-               "LONGEST_NAME": "names", "LONGEST_SIDE": "box", "LEAST_CORNER": "box", "GREATEST_CORNER": "box", "MOST_INPUT": "input", "LONGEST_LINE": "input"}
-    machine = {"MOST_STATES", "MOST_SYMBOLS", "LONGEST_SHORT_NAME", "MOST_CELLS", "MOST_ROWS"}
-    for crate, find in (("atam", rows_of.get), ("tile_io", rows_of.get), ("machine_text", lambda name: "machine" if name in machine else None),
-                        ("quadrant_compile", lambda name: "two-input rule"), ("counter_compile", lambda name: "counter")):
+    for crate, row_of in LIMITS.items():
         paths = glob.glob(f"{TOP}/crates/{crate}/src/limits.rt") or glob.glob(f"{TOP}/crates/{crate}/src/*.rt")
-        for path in paths:
-            for name, value in re.findall(r"^pub const (\w+): [iu]\w+ = (-?[\d_]+);", read(os.path.relpath(path, TOP)), re.M):
-                row = find(name)
-                if row and value.replace("_", "") not in of.get(row, []):
-                    told.append(f"MODEL.md: {name} of {crate} is {value}, the row '{row}' has {of.get(row)}")
+        for name, value in (it for path in paths for it in LIMIT.findall(read(os.path.relpath(path, TOP)))):
+            row = row_of(name)
+            if row and value.replace("_", "") not in of.get(row, []):
+                told.append(f"MODEL.md: {name} of {crate} is {value}, the row '{row}' has {of.get(row)}")
     return told
 
 
 def commands():
-    """The commands of the program: each has a row in README.md, a room in PROVED.md, a part in FORMATS.md and the manual page."""
+    """The commands of the program: each has a row in README.md, and its parts in the other pages and the manual."""
     source = read("crates/command_line/specs/Commands.antt")
     names = re.findall(r'^row_of name\.\w+ = \(codes "([a-z]+)"', source, re.M)
     table = read("README.md").partition("\nCommand|")[2].partition("\n\n")[0]
@@ -71,28 +77,57 @@ def commands():
     told += [f"README.md: no command {it}" for it in readme if names and it not in names]
     for path in ("docs/PROVED.md", "docs/FORMATS.md", "docs/tilebench.1", "editors/tilebench.bash"):
         told += [f"{path}: nothing of {it}" for it in names if not re.search(rf"\b{it}\b", read(path))]
-    synopsis, _, manual = read("docs/tilebench.1").partition(".SH COMMANDS")
+    synopsis, _, rest = read("docs/tilebench.1").partition(".SH COMMANDS")
+    parts = rest.partition(".SH OPTIONS")[0]
     for it in names:
-        parts = [len(re.findall(rf"^\.B tilebench {it}$", synopsis, re.M)), len(re.findall(rf"^\.TP\n\.BI? {it}\b", manual.split(".SH OPTIONS")[0], re.M))]
-        told += [] if parts == [1, 1] else [f"docs/tilebench.1: {it} stands {parts[0]} times in the synopsis and has {parts[1]} parts"]
+        found = [len(re.findall(rf"^\.B tilebench {it}$", synopsis, re.M)),
+                 len(re.findall(rf"^\.TP\n\.BI? {it}\b", parts, re.M))]
+        told += [] if found == [1, 1] else [f"docs/tilebench.1: {it} stands {found} times in synopsis and commands"]
     return told or ([] if names else ["no command was found in crates/command_line/specs/Commands.antt"])
 
 
-def answers():
-    """The names of refusals, the keywords of texts and the numbers of limits in FORMATS.md, and the causes of tools/refusals.py."""
-    formats, refusals = read("docs/FORMATS.md"), read("tools/refusals.py")
-    specs = [("tile_io", "Causes"), ("command_line", "Commands"), ("tilebench", "Refusals")]
-    found = [it for crate, file in specs for it in re.findall(r'^\w+_(?:stop_)?name [\w.]+ = codes "([A-Z]\w+)"', read(f"crates/{crate}/specs/{file}.antt"), re.M)]
-    told = [f"{path}: nothing of {it}" for it in found if it != "NoMemory" for path, text in (("docs/FORMATS.md", formats), ("tools/refusals.py", refusals)) if it not in text]
-    for crate, file in (("tile_text", "SystemText"), ("seq_text", "GrowthText"), ("seq_text", "ScheduleText"), ("machine_text", "MachineText"), ("quadrant_compile", "WeaveText")):
-        for word, number in re.findall(r'codes "([a-z]+)"\)? \(?(?:exactly )?(\d+)', read(f"crates/{crate}/specs/{file}.antt")):
-            here = [cells for cells in rows(formats) if any(it.split()[0] == word for it in CODE.findall(cells[0]))]
-            if not any(cells[1] == number or len(CODE.findall(cells[0])[0].split()) == int(number) for cells in here):
-                told.append(f"docs/FORMATS.md: the line `{word}` has {number} words")
-    for name in ("MOST_GLUES", "MOST_TYPES", "MOST_PAIRS", "MOST_SEEDS"):
-        most = int(re.search(rf"const {name}: u32 = ([\d_]+);", read("crates/atam/src/limits.rt"))[1])
-        told += [f"docs/FORMATS.md: {name} is {most}" for it in (str(most), str(most + 1)) if it not in formats]
+# Where the names of refusals stand, and where the keywords of texts with their numbers of words.
+REFUSALS = ("tile_io/specs/Causes", "command_line/specs/Commands", "tilebench/specs/Refusals")
+REFUSAL = re.compile(r'^\w+_(?:stop_)?name [\w.]+ = codes "([A-Z]\w+)"', re.M)
+TEXTS = ("tile_text/specs/SystemText", "seq_text/specs/GrowthText", "seq_text/specs/ScheduleText",
+         "machine_text/specs/MachineText", "quadrant_compile/specs/WeaveText")
+KEYWORD = re.compile(r'codes "([a-z]+)"\)? \(?(?:exactly )?(\d+)')
+
+
+def refusals():
+    """What of the names of refusals FORMATS.md and tools/refusals.py lack."""
+    found = [it for path in REFUSALS for it in REFUSAL.findall(read(f"crates/{path}.antt")) if it != "NoMemory"]
+    told = [f"{path}: nothing of {it}" for path in ("docs/FORMATS.md", "tools/refusals.py") for it in found
+            if it not in read(path)]
     return told or ([] if len(found) > 10 else ["few refusals were found in the crates"])
+
+
+def keywords():
+    """What of the keywords of texts, and of their numbers of words, FORMATS.md lacks."""
+    told, formats = [], read("docs/FORMATS.md")
+    found = [it for path in TEXTS for it in KEYWORD.findall(read(f"crates/{path}.antt"))]
+    for word, number in found:
+        here = [(cells[1], CODE.findall(cells[0])) for cells in rows(formats)
+                if any(it.split()[0] == word for it in CODE.findall(cells[0]))]
+        if not any(count == number or len(names[0].split()) == int(number) for count, names in here):
+            told.append(f"docs/FORMATS.md: the line `{word}` has {number} words")
+    return told or ([] if len(found) > 10 else ["few keywords were found in the crates"])
+
+
+def answers():
+    """The names of refusals, the keywords of texts and the numbers of limits in FORMATS.md."""
+    told, formats, source = refusals() + keywords(), read("docs/FORMATS.md"), read("crates/atam/src/limits.rt")
+    for name in ("MOST_GLUES", "MOST_TYPES", "MOST_PAIRS", "MOST_SEEDS"):
+        most = int(re.search(rf"const {name}: u32 = ([\d_]+);", source)[1])
+        told += [f"docs/FORMATS.md: {name} is {most}" for it in (str(most), str(most + 1)) if it not in formats]
+    return told
+
+
+def headings(path):
+    """What a link may name within a document."""
+    text = read(path)
+    heads = {re.sub(r"[^\w\- ]", "", it.lower()).replace(" ", "-") for it in re.findall(r"^#+ (.*)$", text, re.M)}
+    return heads | set(re.findall(r'<a (?:id|name)="([^"]+)"', text))
 
 
 def links():
@@ -101,16 +136,13 @@ def links():
     for path in prose.pages():
         for place in re.findall(r"\]\(([^)\s]+)\)", read(path)):
             file, _, part = place.partition("#")
+            to = os.path.normpath(os.path.join(os.path.dirname(path), file)) if file else path
             if "://" in file:
                 continue
-            to = os.path.normpath(os.path.join(os.path.dirname(path), file)) if file else path
             if not os.path.exists(f"{TOP}/{to}"):
                 told.append(f"{path}: there is no {place}")
-            elif part and to.endswith(".md"):
-                heads = {re.sub(r"[^\w\- ]", "", head.lower()).replace(" ", "-") for head in re.findall(r"^#+ (.*)$", read(to), re.M)}
-                heads |= set(re.findall(r'<a (?:id|name)="([^"]+)"', read(to)))
-                if part not in heads:
-                    told.append(f"{path}: {to} has no heading #{part}")
+            elif part and to.endswith(".md") and part not in headings(to):
+                told.append(f"{path}: {to} has no heading #{part}")
     return told
 
 
@@ -121,6 +153,12 @@ FILE_NAME = re.compile(r"[\w./-]+\.(?:rt|antt|py|md|html)|(?:crates|tools|dev|do
 IDENTIFIER = re.compile(r"(?:[A-Z]\w*[a-z]\w*|\w+_\w+)(?:::\w+)*(?:\(\))?")
 
 
+def is_file(name, paths):
+    """Whether a document's name of a file is that of one: from the top, from docs, or the end of a path of code."""
+    is_there = any(os.path.exists(f"{it}/{name}") for it in (TOP, f"{TOP}/docs"))
+    return "NAME" in name or is_there or any(it.endswith(f"/{name}") for it in paths)
+
+
 def names():
     """What the documents name of the code is there: definitions, types and functions, and files."""
     paths = [it for kind in CODE_FILES for it in glob.glob(f"{TOP}/{kind}", recursive=True) if os.path.isfile(it)]
@@ -128,12 +166,11 @@ def names():
     words |= set(crates()) | {"Wait", "Is"}
     paths += glob.glob(f"{TOP}/crates/*/proofs/**/*.antt", recursive=True)
     told = []
-    for path in prose.pages():
+    for path in (it for it in prose.pages() if "headline" not in it.lower()):
         text = re.sub(r"^```.*?^```|^    .*?$", "", read(path), flags=re.M | re.S)
-        for name in CODE.findall(text) if "headline" not in path.lower() else ():
+        for name in CODE.findall(text):
             if FILE_NAME.fullmatch(name):
-                known = "NAME" in name or any(os.path.exists(f"{it}/{name}") for it in (TOP, f"{TOP}/docs"))
-                told += [] if known or any(it.endswith(f"/{name}") for it in paths) else [f"{path}: there is no file {name}"]
+                told += [] if is_file(name, paths) else [f"{path}: there is no file {name}"]
             elif IDENTIFIER.fullmatch(name):
                 told += [f"{path}: nothing is called {name}" for it in re.findall(r"\w+", name) if it not in words]
     return told
@@ -147,12 +184,24 @@ def manual():
 
 def headline():
     """HEADLINE.md and the pages behind it are what dev/headline makes, which lists each shape of a definition."""
-    tried = subprocess.run([f"{TOP}/dev/test_headline.py"], check=False, stdout=subprocess.PIPE, stderr=subprocess.STDOUT)
+    streams = {"stdout": subprocess.PIPE, "stderr": subprocess.STDOUT}
+    tried = subprocess.run([f"{TOP}/dev/test_headline.py"], check=False, **streams)
     if tried.returncode:
         return [f"dev/test_headline.py: {tried.stdout.decode()}"]
     made = subprocess.run([f"{TOP}/dev/headline", "--check"], check=True, stdout=subprocess.PIPE).stdout.decode()
     return made.splitlines()
 
 
-CHECKS = {"clauses of PROVED.md": promises, "crates of ARCHITECTURE.md": layers, "definitions of MODEL.md": model, "limits of MODEL.md": limits, "commands": commands, "answers of FORMATS.md": answers, "links": links, "names": names, "the list of what the headline reaches": headline, "the manual page": manual,
-          "constants that clauses cite": lambda: constants.unsaid(crates(), contracts)} | prose.CHECKS
+CHECKS = {
+    "clauses of PROVED.md": promises,
+    "crates of ARCHITECTURE.md": layers,
+    "definitions of MODEL.md": model,
+    "limits of MODEL.md": limits,
+    "commands": commands,
+    "answers of FORMATS.md": answers,
+    "links": links,
+    "names": names,
+    "the list of what the headline reaches": headline,
+    "the manual page": manual,
+    "constants that clauses cite": lambda: constants.unsaid(crates(), contracts),
+} | prose.CHECKS

@@ -14,7 +14,7 @@ HANDED_OUT = re.compile(r"pub (?:use|fn|struct|enum|trait) ([^;{(]+(?:\{[^}]*\})
 
 
 def owner_of(block):
-    """Of the first line of an impl or a trait: its type, whether all its functions are public, and the trait of an impl."""
+    """Of the first line of an impl or a trait: its type, whether all functions are public, and the trait of an impl."""
     rest = re.sub(r"^<[^{]*?> ", "", block[2])
     parts = [re.findall(r"[A-Z]\w+", part)[0] for part in rest.split(" for ")[:2]]
     is_of_trait = block[1] == "impl" and " for " in rest
@@ -83,7 +83,7 @@ def has(contract, clause):
 
 
 def is_promise(crate, name):
-    """Whether a function has a contract of this project. (A drop by hand takes its value apart, and promises nothing.)"""
+    """Whether a function has a contract of this project. (A drop by hand takes its value apart, no more.)"""
     contract = contracts(crate)[name]
     of_trait = of_traits().get(contract.split()[1], "") if contract.startswith("impl ") else ""
     return not name.endswith("::drop") and "ensures" in contract + of_trait

@@ -53,8 +53,9 @@ def answers(text):
     paths = glob.glob(f"{TOP}/crates/*/specs/**/*.antt", recursive=True)
     specs = "".join(read(os.path.relpath(it, TOP)) for it in paths)
     is_there = r"^\s*(?:(?:pub|abbrev|unfoldable|record|data) )+{}\b"
-    return [f"PROVED.md: there is no definition {it}" for cells in rows(text) for it in CODE.findall(cells[-1] or cells[-2])
-            if not re.search(is_there.format(it), specs, re.M)]
+    cited = [it for cells in rows(text) for it in CODE.findall(cells[-1] or cells[-2])]
+    lacking = [it for it in cited if not re.search(is_there.format(it), specs, re.M)]
+    return [f"PROVED.md: there is no definition {it}" for it in lacking]
 
 
 def top_call(text):
