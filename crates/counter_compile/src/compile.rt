@@ -8,10 +8,11 @@ ghost use Rattle.counter_compile.specs.Counters.{counter_box, counter_refusal, c
 use crate::CounterStop;
 use crate::counter::Counter;
 use crate::kind::Kind;
+use crate::label::Label;
 use atam::BoxArea;
 use std::alloc::Global;
 use tile_system::System;
-use tile_table::build_system;
+use tile_table::{ListedTiles, build_system};
 
 /// The bits of a counter, from the one to the other.
 pub const LEAST_BITS: u32 = 2;
@@ -20,6 +21,12 @@ pub const MOST_BITS: u32 = 32;
 
 /// The rows of a counter.
 pub const MOST_ROWS: u64 = 1024;
+
+/// The tile set of a counter, seen as the system that `compile_counter` gives.
+pub type CounterTiles = ListedTiles<Kind, Label, Counter>;
+
+// The seed is the west end of the first row.
+const SEED: Kind = Kind::First(0);
 
 /// The system that counts from a number to the last one of so many bits, and then shows 0.
 pub fn compile_counter(alloc: Global, bits: u32, start: u64) -> Result<System, CounterStop>
@@ -38,15 +45,32 @@ pub fn compile_counter(alloc: Global, bits: u32, start: u64) -> Result<System, C
         &counter,
         labels.as_slice(),
         kinds.as_slice(),
-        Kind::First(0),
+        SEED,
         box_of(bits, start),
     )?;
     Ok(system)
 }
 
-/// Tries each reason to refuse a counter.
+/// Lists the tiles of the counter that counts from a number to the last one of so many bits, to be
+/// printed.
+pub fn counter_tiles(alloc: Global, bits: u32, start: u64) -> Result<CounterTiles, CounterStop>
+    ensures refusal { refusal_of result ≡ counter_refusal bits start }
+    ensures system { IfOk result (λ tiles. tiles ≡ counter_system bits start) }
+{
+    check_counter(bits, start)?;
+    let counter = Counter {
+        last: bits - 1,
+        start,
+    };
+    let labels = counter.labels(alloc)?;
+    let kinds = counter.kinds(alloc)?;
+    let area = box_of(bits, start);
+    Ok(ListedTiles::new(counter, labels, kinds, SEED, area))
+}
+
+// Tries each reason to refuse a counter.
 #[tactic(auto, using(crate::proofs::Limits::accepted), unfolding(crate::specs::Counters::counter_refusal))]
-pub fn check_counter(bits: u32, start: u64) -> Result<(), CounterStop>
+fn check_counter(bits: u32, start: u64) -> Result<(), CounterStop>
     ensures refusal { refusal_of result ≡ counter_refusal bits start }
     ensures accepted { OnOk result (IsAccepted bits start) }
 {
@@ -62,8 +86,8 @@ pub fn check_counter(bits: u32, start: u64) -> Result<(), CounterStop>
     Ok(())
 }
 
-/// The box of a counter.
-pub fn box_of(bits: u32, start: u64) -> BoxArea
+// The box of a counter.
+fn box_of(bits: u32, start: u64) -> BoxArea
     requires { IsAccepted bits start }
     ensures value { result ≡ counter_box bits start }
     ensures limits { IsBox result }

@@ -8,9 +8,8 @@ use crate::kind::{Kind, LATER_KINDS};
 use crate::label::{FIXED_LABELS, Label};
 use atam::Side;
 use std::alloc::Global;
-use table_text::{NamedTable, ShortText, kind_name, label_name};
 use tile_system::NoMemory;
-use tile_table::Table;
+use tile_table::{ShortText, Table};
 
 /// A counter with the columns 0 to `last`, from the number `start` on.
 #[derive(Clone, Copy, Debug)]
@@ -19,7 +18,7 @@ pub struct Counter {
     pub start: u64,
 }
 
-impl NamedTable<Kind, Label> for Counter {
+impl Table<Kind, Label> for Counter {
     ghost use Rattle.counter_compile.specs.Tiles.{tiles_of};
 
     ghost tiles = { λ c. tiles_of c.last c.start };
@@ -38,34 +37,6 @@ impl NamedTable<Kind, Label> for Counter {
 
     fn add_label_name(&self, text: &mut ShortText, label: Label) {
         label.add_name(text)
-    }
-}
-
-impl Table<Kind, Label> for Counter {
-    ghost use Rattle.counter_compile.specs.Tiles.{tiles_of};
-
-    ghost tiles = { λ c. tiles_of c.last c.start };
-
-    fn side(&self, kind: Kind, side: Side) -> Option<Label> {
-        self.label_on(kind, side)
-    }
-
-    fn strength(&self, label: Label) -> u32 {
-        label.strength()
-    }
-
-    fn label_number(&self, label: Label) -> u32 {
-        label.number()
-    }
-
-    fn kind_name(&self, alloc: Global, kind: Kind) -> Result<Vec<u8>, NoMemory> {
-        prove!(self.last <= u32::MAX);
-        kind_name(alloc, self, kind)
-    }
-
-    fn label_name(&self, alloc: Global, label: Label) -> Result<Vec<u8>, NoMemory> {
-        prove!(self.last <= u32::MAX);
-        label_name(alloc, self, label)
     }
 }
 

@@ -1,9 +1,9 @@
 // The kinds of a counter's tiles.
 ghost use Rattle.std.specs.Prelude.{◌≡◌, ◌≤◌, ◌+◌, ◌++◌, length, decimal};
-ghost use Rattle.table_text.specs.declared.short_text.TheConstants.{SHORT_ROOM};
+ghost use Rattle.tile_table.specs.declared.short_text.TheConstants.{SHORT_ROOM};
 ghost use Rattle.counter_compile.specs.Tiles.{digit, kind_name};
 
-use table_text::ShortText;
+use tile_table::ShortText;
 
 /// A kind of tile, by its row, its column and the bits that it takes.
 #[derive(Clone, Copy, Debug, PartialEq, Eq)]

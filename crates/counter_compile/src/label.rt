@@ -1,11 +1,10 @@
 // The labels on a counter's tiles.
-ghost use Rattle.std.specs.Prelude.{◌≡◌, ◌<◌, ◌≤◌, ◌+◌, ◌++◌, length};
-ghost use Rattle.atam.specs.declared.limits.TheConstants.{MOST_GLUES};
-ghost use Rattle.table_text.specs.declared.short_text.TheConstants.{SHORT_ROOM};
-ghost use Rattle.counter_compile.specs.Tiles.{label_name, label_number, strength};
+ghost use Rattle.std.specs.Prelude.{◌≡◌, ◌≤◌, ◌+◌, ◌++◌, length};
+ghost use Rattle.tile_table.specs.declared.short_text.TheConstants.{SHORT_ROOM};
+ghost use Rattle.counter_compile.specs.Tiles.{label_name, strength};
 
 use crate::kind::{add_with_bit, digit};
-use table_text::ShortText;
+use tile_table::ShortText;
 
 /// A label, by where it is and the bit that it stands for.
 #[derive(Clone, Copy, Debug, PartialEq, Eq)]
@@ -52,23 +51,6 @@ impl Label {
         match self {
             Label::BitEast(_) | Label::SumWest(_) | Label::Chain(_) => 2,
             _ => 1,
-        }
-    }
-
-    /// The place among the labels.
-    pub fn number(self) -> u32
-        requires { label_number self < MOST_GLUES }
-        ensures { result ≡ label_number self }
-    {
-        match self {
-            Label::BitWest(bit) => u32::from(digit(bit)),
-            Label::Bit(bit) => 2 + u32::from(digit(bit)),
-            Label::BitEast(bit) => 4 + u32::from(digit(bit)),
-            Label::SumEast(bit) => 6 + u32::from(digit(bit)),
-            Label::Carry(bit) => 8 + u32::from(digit(bit)),
-            Label::SumWest(bit) => 10 + u32::from(digit(bit)),
-            Label::GoAhead => 12,
-            Label::Chain(column) => 12 + column,
         }
     }
 

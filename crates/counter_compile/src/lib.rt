@@ -9,10 +9,8 @@ mod label;
 mod laws;
 mod rows;
 mod stop;
-mod tiles;
 
-pub use compile::compile_counter;
+pub use compile::{CounterTiles, compile_counter, counter_tiles};
 pub use laws::law_counter;
 pub use rows::row_value;
 pub use stop::CounterStop;
-pub use tiles::CounterTiles;

@@ -15,8 +15,8 @@ use Rattle.atam.proofs.Placements.{Extends, Extends-IsPartOf, HasDistinctSites-p
 use Rattle.assembly.specs.Cells.{cell_count}
 use Rattle.atam.proofs.Opening.{Fits-part}
 use Rattle.grow_core.specs.declared.placed_tile.PlacedTile.{PlacedTile}
-use Rattle.grow_core.specs.declared.event.Event.TheVariants.{Look, Claim}
-use Rattle.grow_core.specs.declared.event.Seen.TheVariants.{Saw, Won, Held}
+use Rattle.atam.specs.declared.event.Event.TheVariants.{Look, Claim}
+use Rattle.atam.specs.declared.event.Seen.TheVariants.{Saw, Won, Held}
 use Rattle.grow_core.specs.Core.{ScoutState, scout_at, places, HasDistinctTiles, ScoutInvariant, CoreInvariant}
 use Rattle.grow_core.specs.Steps.{CoreStep, Supports, place, tile_of, won_tile, with_scout, saw_tile, won, held}
 use Rattle.grow_core.specs.Core.{state_of}

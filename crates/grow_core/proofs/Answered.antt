@@ -16,12 +16,12 @@ use Rattle.atam.specs.Assembly.{pull}
 use Rattle.atam.proofs.Lists.{some_or_none, Contains-here, Contains-there}
 use Rattle.atam.proofs.Placements.{HasDistinctSites-push, same_place, tile_at-Contains, empty_in_part}
 use Rattle.grow_core.specs.declared.placed_tile.PlacedTile.{PlacedTile}
-use Rattle.grow_core.specs.declared.event.Event.{Event}
-use Rattle.grow_core.specs.declared.event.Event.TheVariants.{Look, Claim, Split, Join}
-use Rattle.grow_core.specs.declared.event.Seen.{Seen}
-use Rattle.grow_core.specs.declared.event.Seen.TheVariants.{Saw, Won, Held, Divided, Joined}
-use Rattle.grow_core.specs.declared.event.CoreStop.{CoreStop}
-use Rattle.grow_core.specs.declared.event.CoreStop.TheVariants.{NoSuchScout, NotSupported, OutsideBox, NoNumberLeft}
+use Rattle.atam.specs.declared.event.Event.{Event}
+use Rattle.atam.specs.declared.event.Event.TheVariants.{Look, Claim, Split, Join}
+use Rattle.atam.specs.declared.event.Seen.{Seen}
+use Rattle.atam.specs.declared.event.Seen.TheVariants.{Saw, Won, Held, Divided, Joined}
+use Rattle.atam.specs.declared.event.CoreStop.{CoreStop}
+use Rattle.atam.specs.declared.event.CoreStop.TheVariants.{NoSuchScout, NotSupported, OutsideBox, NoNumberLeft}
 use Rattle.grow_core.specs.Core.{ScoutState, CoreState, scout_at, least, greatest, places, placed_by, CoreInvariant}
 use Rattle.grow_core.specs.Steps.{CoreStep, IsScoutOf, place, tile_of, kept_tiles, with_scout, with_tile, without_scout, no_such_scout, no_other_scout, same_scout, looks_outside, claims_outside, unsupported, one_number, saw_none, saw_tile, won, held, divided, joined}
 use Rattle.grow_core.proofs.Kept.{extends}

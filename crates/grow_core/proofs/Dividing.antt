@@ -2,12 +2,12 @@
 use Rattle.std.proofs.Common.{◌≡◌, ◌≢◌, ◌⊎◌, ◌-◌, ◌^◌, ℕ, min, List, ◌++◌, set, Option, Some, None, Result, Ok, Err, bit_or, sym, ◌∙◌, ap, subst, inl, inr}
 use Rattle.atam.specs.TileSystem.{TileSystem}
 use Rattle.grow_core.specs.declared.placed_tile.PlacedTile.{PlacedTile}
-use Rattle.grow_core.specs.declared.event.Event.{Event}
-use Rattle.grow_core.specs.declared.event.Event.TheVariants.{Split, Join}
-use Rattle.grow_core.specs.declared.event.Seen.{Seen}
-use Rattle.grow_core.specs.declared.event.Seen.TheVariants.{Divided, Joined}
-use Rattle.grow_core.specs.declared.event.CoreStop.{CoreStop}
-use Rattle.grow_core.specs.declared.event.CoreStop.TheVariants.{NoSuchScout}
+use Rattle.atam.specs.declared.event.Event.{Event}
+use Rattle.atam.specs.declared.event.Event.TheVariants.{Split, Join}
+use Rattle.atam.specs.declared.event.Seen.{Seen}
+use Rattle.atam.specs.declared.event.Seen.TheVariants.{Divided, Joined}
+use Rattle.atam.specs.declared.event.CoreStop.{CoreStop}
+use Rattle.atam.specs.declared.event.CoreStop.TheVariants.{NoSuchScout}
 use Rattle.grow_core.specs.Core.{ScoutState, scout_at, greatest, OwnsTwoOrMore, placed_by}
 use Rattle.grow_core.specs.Steps.{CoreStep, IsScoutOf, actor, kept_tiles, no_such_scout, no_other_scout, same_scout, one_number, no_memory, divided, joined}
 use Rattle.grow_core.specs.Core.{state_of}

@@ -11,8 +11,8 @@ use Rattle.atam.specs.TileSystem.{TileSystem}
 use Rattle.atam.specs.Placements.{tile_at}
 use Rattle.atam.proofs.Lists.{some_or_none}
 use Rattle.grow_core.specs.declared.placed_tile.PlacedTile.{PlacedTile}
-use Rattle.grow_core.specs.declared.event.Event.TheVariants.{Look, Claim, Split, Join}
-use Rattle.grow_core.specs.declared.event.Seen.TheVariants.{Saw, Won, Held, Divided, Joined}
+use Rattle.atam.specs.declared.event.Event.TheVariants.{Look, Claim, Split, Join}
+use Rattle.atam.specs.declared.event.Seen.TheVariants.{Saw, Won, Held, Divided, Joined}
 use Rattle.grow_core.specs.Core.{ScoutState, scout_at, Owns, least, greatest, OwnsTwoOrMore, state_of, places, ScoutInvariant, GrowthInvariant}
 use Rattle.grow_core.specs.Steps.{place, won_tile, Sees, Wins, IsKeptPart, IsGivenPart, IsUnion, Supports, CoreStep, saw_none, saw_tile, won, held, divided, joined}
 use Rattle.grow_core.specs.Listed.{by_name}

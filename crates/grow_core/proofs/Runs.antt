@@ -12,12 +12,12 @@ use Rattle.atam.proofs.Bonds.{pull-mono}
 use Rattle.atam.proofs.Placements.{same_tiles}
 use Rattle.atam.proofs.Tiles.{SamePlacements-trans}
 use Rattle.grow_core.specs.declared.placed_tile.PlacedTile.{PlacedTile}
-use Rattle.grow_core.specs.declared.event.Event.{Event}
-use Rattle.grow_core.specs.declared.event.Event.TheVariants.{Look, Claim, Split, Join}
-use Rattle.grow_core.specs.declared.event.Seen.{Seen}
-use Rattle.grow_core.specs.declared.event.Seen.TheVariants.{Saw, Won, Held, Divided, Joined}
-use Rattle.grow_core.specs.declared.event.CoreStop.{CoreStop}
-use Rattle.grow_core.specs.declared.event.CoreStop.TheVariants.{NoMemory, NotSupported}
+use Rattle.atam.specs.declared.event.Event.{Event}
+use Rattle.atam.specs.declared.event.Event.TheVariants.{Look, Claim, Split, Join}
+use Rattle.atam.specs.declared.event.Seen.{Seen}
+use Rattle.atam.specs.declared.event.Seen.TheVariants.{Saw, Won, Held, Divided, Joined}
+use Rattle.atam.specs.declared.event.CoreStop.{CoreStop}
+use Rattle.atam.specs.declared.event.CoreStop.TheVariants.{NoMemory, NotSupported}
 use Rattle.grow_core.specs.Core.{ScoutState, CoreState, scout_at, least, greatest, OwnsTwoOrMore, places, placed_by}
 use Rattle.grow_core.specs.Steps.{place, IsScoutOf, Sees, Wins, IsKeptPart, IsGivenPart, IsUnion, IsStart, HasScout, Supports, won_tile, kept_tiles, with_scout, with_tile, without_scout, actor, CoreStep, CoreRun, no_such_scout, no_other_scout, same_scout, looks_outside, claims_outside, unsupported, one_number, no_memory, saw_none, saw_tile, won, held, divided, joined, stopped, stepped}
 use Rattle.grow_core.specs.RunLaws.{HasMemory}

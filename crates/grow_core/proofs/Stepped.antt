@@ -22,10 +22,10 @@ use Rattle.atam.proofs.Placements.{Extends, Contains-tile_at, tile_at-Contains, 
 use Rattle.atam.proofs.Sequences.{IsLegal-seeds_distinct}
 use Rattle.atam.proofs.Closure.{closure}
 use Rattle.grow_core.specs.declared.placed_tile.PlacedTile.{PlacedTile}
-use Rattle.grow_core.specs.declared.event.Event.{Event}
-use Rattle.grow_core.specs.declared.event.Event.TheVariants.{Look, Claim, Split, Join}
-use Rattle.grow_core.specs.declared.event.Seen.{Seen}
-use Rattle.grow_core.specs.declared.event.CoreStop.{CoreStop}
+use Rattle.atam.specs.declared.event.Event.{Event}
+use Rattle.atam.specs.declared.event.Event.TheVariants.{Look, Claim, Split, Join}
+use Rattle.atam.specs.declared.event.Seen.{Seen}
+use Rattle.atam.specs.declared.event.CoreStop.{CoreStop}
 use Rattle.grow_core.specs.Core.{ScoutState, CoreState, scout_at, least, greatest, places, IsHistory, ScoutInvariant, CoreInvariant}
 use Rattle.grow_core.specs.Steps.{without_scout, CoreStep, CoreRun, place, no_such_scout, no_other_scout, same_scout, looks_outside, claims_outside, unsupported, one_number, no_memory, saw_none, saw_tile, won, held, divided, joined, stopped, stepped}
 use Rattle.std.proofs.lemmas.Nat.{or_lt}

@@ -3,10 +3,10 @@ use Rattle.std.specs.Prelude.{◌≡◌, ◌≢◌, List, map, All, Result, Err}
 use Rattle.atam.specs.declared.place.Place.{Place}
 use Rattle.atam.specs.TileSystem.{TileSystem, IsValid}
 use Rattle.atam.specs.Canonical.{IsCanonical}
-use Rattle.grow_core.specs.declared.event.Event.{Event}
-use Rattle.grow_core.specs.declared.event.Seen.{Seen}
-use Rattle.grow_core.specs.declared.event.CoreStop.{CoreStop}
-use Rattle.grow_core.specs.declared.event.CoreStop.TheVariants.{NoMemory}
+use Rattle.atam.specs.declared.event.Event.{Event}
+use Rattle.atam.specs.declared.event.Seen.{Seen}
+use Rattle.atam.specs.declared.event.CoreStop.{CoreStop}
+use Rattle.atam.specs.declared.event.CoreStop.TheVariants.{NoMemory}
 use Rattle.grow_core.specs.Core.{CoreState, places}
 use Rattle.grow_core.specs.Steps.{IsStart, CoreRun}
 

@@ -10,7 +10,6 @@
 //! numbers, the seen and the own tiles of two.
 #![tactic(auto)]
 
-mod event;
 mod laws;
 mod machine;
 mod placed_tile;
@@ -18,7 +17,6 @@ mod placed_tiles;
 mod scout;
 mod scouts;
 
-pub use event::{CoreStop, Event, Seen};
 pub use laws::{
     law_answered, law_kept, law_left_out, law_listed, law_listed_events, law_numbers, law_one_run,
     law_quiet, law_refused, law_scouts,

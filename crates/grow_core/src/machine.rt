@@ -8,10 +8,11 @@ ghost use Rattle.atam.specs.Assembly as model;
 ghost use Rattle.grow_core.specs.Core.{CoreInvariant, scout_at, places};
 ghost use Rattle.grow_core.specs.Steps.{CoreStep, IsStart};
 ghost use Rattle.grow_core.specs.Machine.{placer_at};
-ghost use Rattle.grow_core.specs.declared.event.Event.TheVariants.{Look, Claim, Split, Join};
+ghost use Rattle.atam.specs.declared.event.Event.TheVariants.{Look, Claim, Split, Join};
 
-use crate::{CoreStop, Event, PlacedTile, PlacedTiles, Scout, Scouts, Seen};
+use crate::{PlacedTile, PlacedTiles, Scout, Scouts};
 use assembly::Grid;
+use atam::{CoreStop, Event, Seen};
 use attach_rule::pull;
 use std::alloc::Global;
 use std::marker::Model;

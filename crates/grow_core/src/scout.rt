@@ -9,8 +9,9 @@ ghost use Rattle.grow_core.specs.Core.{least, greatest, OwnsTwoOrMore, placed_by
 ghost use Rattle.grow_core.specs.Steps.{IsScoutOf, Sees, Wins, IsKeptPart, IsGivenPart, IsUnion};
 ghost use Rattle.grow_core.specs.Inner.Entries.{IsSplitStop};
 
-use crate::{CoreStop, PlacedTile};
+use crate::PlacedTile;
 use assembly::Grid;
+use atam::CoreStop;
 use std::alloc::Global;
 use std::marker::Model;
 use tile_system::{BoxArea, NoMemory, Place, Placed};
@@ -143,7 +144,9 @@ impl Scout {
             return Err(CoreStop::NoNumberLeft);
         }
         let number = self.last_number();
-        let given = self.given_part(alloc, number)?;
+        let Ok(given) = self.given_part(alloc, number) else {
+            return Err(CoreStop::NoMemory);
+        };
         self.mine.retain(|tile| tile.placer != number);
         self.owned -= 1 << number;
         Ok(given)

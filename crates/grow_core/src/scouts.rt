@@ -7,13 +7,14 @@ ghost use Rattle.atam.specs.Placements.{tile_at};
 ghost use Rattle.assembly.specs.Cells.{cell_count};
 ghost use Rattle.atam.specs.TileSystem.{TileSystem};
 ghost use Rattle.grow_core.specs.declared.placed_tile.PlacedTile.{PlacedTile};
-ghost use Rattle.grow_core.specs.declared.event.Event.TheVariants.{Split, Join};
+ghost use Rattle.atam.specs.declared.event.Event.TheVariants.{Split, Join};
 ghost use Rattle.grow_core.specs.Core.{ScoutState, scout_at};
 ghost use Rattle.grow_core.specs.Steps.{CoreStep, won_tile};
 ghost use Rattle.grow_core.specs.Core.{state_of};
 ghost use Rattle.grow_core.specs.Inner.Entries.{Becomes};
 
-use crate::{CoreStop, Scout, Seen};
+use crate::Scout;
+use atam::{CoreStop, Seen};
 use std::alloc::Global;
 use std::marker::Model;
 use tile_system::{BoxArea, NoMemory, Place};

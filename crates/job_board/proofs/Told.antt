@@ -14,8 +14,9 @@ use Rattle.atam.proofs.Sequences.{IsLegal-distinct}
 use Rattle.atam.proofs.Tiles.{SameTiles, SameTiles-from}
 use Rattle.atam.specs.declared.place.TypeId.{TypeId}
 use Rattle.atam.specs.declared.site.Site.{Site}
-use Rattle.seq_text.specs.VerdictLines.{NamesTypes}
-use Rattle.seq_text.proofs.NamedTypes.{open_type, verdict_types}
+use Rattle.atam.specs.Verdicts.{NamesTypes}
+use Rattle.local_check.proofs.Verdicts.{verdict_types}
+use Rattle.seq_text.proofs.NamedTypes.{open_type}
 use Rattle.unique_law.specs.Outcomes.{Outcome}
 use Rattle.job_board.specs.Answers.{Answers}
 

@@ -9,8 +9,9 @@ ghost use Rattle.job_board.specs.Answers.{Answers};
 
 use crate::job::Job;
 use assembly::{Grid, Sequence};
+use atam::Verdict;
 use frontier_seat::{FilledInOrder, First, fill_least_first_seeing};
-use local_check::{Verdict, judge_clean, judge_grown};
+use local_check::{judge_clean, judge_grown};
 use std::alloc::Global;
 use std::marker::Model;
 use std::thread::Threads;

@@ -3,14 +3,14 @@ ghost use Rattle.std.specs.Prelude.{◌≡◌, All, IfSome, length};
 ghost use Rattle.atam.specs.TileSystem.{IsType};
 ghost use Rattle.tile_io.specs.Chunks.{PassesOn};
 ghost use Rattle.tile_io.specs.Prints.{Prints};
-ghost use Rattle.seq_text.specs.VerdictLines.{NamesTypes};
+ghost use Rattle.atam.specs.Verdicts.{NamesTypes};
 ghost use Rattle.job_board.specs.Answers.{AnswerEach, Answers};
 ghost use Rattle.job_board.specs.AnswerText.{answer_text, answers_from, batch_text, done_line, is_yes, outcome_text, yes_count};
 
 use crate::job::Job;
 use crate::outcome::Outcome;
+use atam::Verdict;
 use itoa::Buffer;
-use local_check::Verdict;
 use seq_text::{PlacePieces, put_closed, put_places, put_verdict};
 use tile_io::{Chunk, Failed, Sink};
 use tile_system::System;

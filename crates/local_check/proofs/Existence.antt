@@ -11,8 +11,8 @@ use Rattle.atam.specs.Growth.{IsLegal, IsLeastOpenAmong}
 use Rattle.atam.specs.Determinism.{without_outputs, IsExact, IsRival, HasExactInputs, HasNoRivals}
 use Rattle.atam.proofs.Lists.{some_or_none}
 use Rattle.atam.proofs.Deciding.{least_number, grows_or_not, least_open_exists}
-use Rattle.local_check.specs.declared.verdict.Verdict.{Verdict}
-use Rattle.local_check.specs.declared.verdict.Verdict.TheVariants.{Yes, NotExact, Rival, NotTerminal}
+use Rattle.atam.specs.declared.verdict.Verdict.{Verdict}
+use Rattle.atam.specs.declared.verdict.Verdict.TheVariants.{Yes, NotExact, Rival, NotTerminal}
 use Rattle.local_check.specs.Judgement.{IsVerdict}
 
 module _ (sys : TileSystem) (s : List Place) where

@@ -3,7 +3,7 @@ use Rattle.std.specs.Prelude.{◌≢◌, List}
 use Rattle.atam.specs.declared.place.Place.{Place}
 use Rattle.atam.specs.TileSystem.{TileSystem}
 use Rattle.atam.specs.Growth.{IsLegal}
-use Rattle.replay_order.specs.declared.legal.Legality.TheVariants as legality
+use Rattle.atam.specs.declared.legality.Legality.TheVariants as legality
 use Rattle.replay_order.specs.Legalities.{IsLegalityAnswer}
 use Rattle.local_check.specs.declared.once.Judged.{Judged}
 use Rattle.local_check.specs.declared.once.Judged.TheVariants.{Legal, Breach}

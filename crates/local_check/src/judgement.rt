@@ -10,8 +10,9 @@ ghost use Rattle.type_index.specs.Indexes.{IsIndexOf};
 ghost use Rattle.local_check.specs.SideSets.{AreSidesOf};
 ghost use Rattle.local_check.specs.Judgement.{IsVerdict};
 
-use crate::{SideSets, Verdict};
+use crate::SideSets;
 use assembly::Sequence;
+use atam::Verdict;
 use tile_system::{Placed, Site, System, TypeId};
 use type_index::TypeIndex;
 

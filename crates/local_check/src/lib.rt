@@ -13,10 +13,8 @@ mod place_sides;
 mod side_table;
 mod stood_sites;
 mod survey;
-mod verdict;
 
 pub use judgement::{judge, judge_closed};
 pub use laws::{law_clean, law_one_verdict, law_yes};
 pub use once::{Judged, judge_clean, judge_grown, judge_once};
 pub use side_table::{SideSets, inputs, inputs_by_index, inputs_of_grid};
-pub use verdict::Verdict;

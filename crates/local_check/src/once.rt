@@ -10,12 +10,12 @@ ghost use Rattle.local_check.specs.Judgement.{IsVerdict};
 ghost use Rattle.local_check.specs.Judged.{IsJudged};
 ghost use Rattle.local_check.specs.Inner.Passages.{IsPassage, IsPassed};
 
+use crate::judge;
 use crate::judgement::{judge_closed, last_verdict, verdict_by};
 use crate::passage::{LegalPassage, Passage, Passed, pass, pass_legal};
 use crate::side_table::inputs_lent;
-use crate::{Verdict, judge};
 use assembly::{Grid, Sequence, grid_of_seeds};
-use replay_order::Legality;
+use atam::{Legality, Verdict};
 use std::alloc::Global;
 use tile_system::{NoMemory, Site, System, TypeId};
 use type_index::TypeIndex;

@@ -9,7 +9,7 @@ ghost use Rattle.local_check.specs.Inner.Passages.{IsPassed, IsPassageOfLegal};
 use crate::breaches::Breaches;
 use crate::glances::Glances;
 use assembly::{Grid, Sequence, site_index};
-use replay_order::Legality;
+use atam::Legality;
 use std::alloc::Global;
 use tile_system::{NoMemory, Site, System};
 use type_index::TypeIndex;

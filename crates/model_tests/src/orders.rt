@@ -2,8 +2,9 @@
 ghost use Rattle.std.specs.Prelude.{◌<◌, ◌^◌, length};
 
 use assembly::Grid;
+use atam::Legality;
 use fan_out::WorkerCount;
-use replay_order::{Legality, ReplayStop, check_legal, replay, replay_by};
+use replay_order::{ReplayStop, check_legal, replay, replay_by};
 use std::alloc::Global;
 use std::test::Fail;
 use std::thread::Threads;

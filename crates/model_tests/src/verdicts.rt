@@ -8,9 +8,10 @@ ghost use Rattle.type_index.specs.Indexes.{IsIndexOf};
 ghost use Rattle.local_check.specs.Judgement.{IsVerdict};
 
 use assembly::{Grid, Sequence};
+use atam::{Legality, Verdict};
 use fan_out::WorkerCount;
-use local_check::{Judged, SideSets, Verdict, inputs, inputs_by_index, judge, judge_once};
-use replay_order::{Legality, check_legal};
+use local_check::{Judged, SideSets, inputs, inputs_by_index, judge, judge_once};
+use replay_order::check_legal;
 use std::alloc::Global;
 use std::test::Fail;
 use std::thread::Threads;

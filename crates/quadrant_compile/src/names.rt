@@ -3,11 +3,11 @@ ghost use Rattle.std.specs.Prelude.{◌≡◌, ◌≤◌, ◌<◌, ◌+◌, ◌�
 ghost use Rattle.quadrant_compile.specs.Woven.{kind_name, label_name, symbol_name};
 ghost use Rattle.quadrant_compile.specs.Inner.Members.{IsKind, IsLabel};
 ghost use Rattle.quadrant_compile.specs.Weaves.{IsWeave};
-ghost use Rattle.table_text.specs.declared.short_text.TheConstants.{SHORT_ROOM};
+ghost use Rattle.tile_table.specs.declared.short_text.TheConstants.{SHORT_ROOM};
 
 use crate::quadrant::Quadrant;
 use crate::tile::{Kind, Label};
-use table_text::ShortText;
+use tile_table::ShortText;
 
 /// Adds the name of a kind to a text.
 pub(crate) fn add_kind_name(text: &mut ShortText, quadrant: &Quadrant, kind: Kind)

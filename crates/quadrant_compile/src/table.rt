@@ -2,8 +2,7 @@
 ghost use Rattle.std.specs.Prelude.{◌≡◌};
 ghost use Rattle.quadrant_compile.specs.Weaves.{IsWeave, Weave};
 ghost use Rattle.quadrant_compile.specs.Tiles.{label_on, next_column, next_row, strength};
-ghost use Rattle.quadrant_compile.specs.Woven.{label_number};
-ghost use Rattle.quadrant_compile.specs.Inner.Members.{IsKind, IsLabel};
+ghost use Rattle.quadrant_compile.specs.Inner.Members.{IsKind};
 
 use crate::quadrant::Quadrant;
 use crate::tile::{Kind, Label};
@@ -108,19 +107,5 @@ pub(crate) fn strength(label: Label) -> u32
     match label {
         Label::Eastward { .. } | Label::Northward { .. } => 1,
         Label::Column { .. } | Label::Row { .. } => 2,
-    }
-}
-
-/// The number of a label.
-pub(crate) fn label_number(quadrant: &Quadrant, label: Label) -> u32
-    requires valid { IsWeave quadrant.now }
-    requires label { IsLabel quadrant.now label }
-    ensures { result ≡ label_number quadrant.now label }
-{
-    match label {
-        Label::Eastward { symbol } => symbol,
-        Label::Northward { symbol } => quadrant.symbols() + symbol,
-        Label::Column { column } => 2 * quadrant.symbols() + column - 1,
-        Label::Row { row } => 2 * quadrant.symbols() + quadrant.width() + row - 1,
     }
 }

@@ -6,8 +6,8 @@ use Rattle.atam.specs.Placements.{tile_at}
 use Rattle.atam.specs.TileSystem.{TileSystem}
 use Rattle.atam.specs.Assembly as model
 use Rattle.atam.specs.Growth.{IsLegal}
-use Rattle.replay_order.specs.declared.legal.Legality.{Legality}
-use Rattle.replay_order.specs.declared.legal.Legality.TheVariants.{Legal, WrongSeed, SiteTaken, TooWeak}
+use Rattle.atam.specs.declared.legality.Legality.{Legality}
+use Rattle.atam.specs.declared.legality.Legality.TheVariants.{Legal, WrongSeed, SiteTaken, TooWeak}
 
 -- a place that is no seed: the places before the index are legal, and its site is theirs
 pub record IsFirstTaken (sys : TileSystem) (seq : List Place) (index : ℕ) : Type 0 where

@@ -6,18 +6,9 @@ ghost use Rattle.atam.specs.Growth.{IsLegal};
 ghost use Rattle.replay_order.specs.Legalities.{IsLegalityAnswer, legal_part};
 
 use assembly::{Grid, Sequence, put_seeds, site_index};
+use atam::Legality;
 use attach_rule::{facing_pull, glues_beside};
 use tile_system::System;
-
-/// Whether a sequence is legal, and else what breaks legality first.
-/// An index is that of a place, from 0; it is at least the number of seeds.
-#[derive(Debug, Clone, Copy, PartialEq, Eq)]
-pub enum Legality {
-    Legal,
-    WrongSeed,
-    SiteTaken { index: u32 },
-    TooWeak { index: u32, pull: u32 },
-}
 
 /// Puts the places of the sequence into an empty grid, as long as they are legal. A place at a
 /// taken site is reported as such, however weak its pull is.

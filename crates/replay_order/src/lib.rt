@@ -13,5 +13,5 @@ mod waiting;
 
 pub use by_rows::replay_by;
 pub use canonical::replay;
-pub use legal::{Legality, check_legal};
+pub use legal::check_legal;
 pub use stop::ReplayStop;

@@ -25,8 +25,8 @@ use Rattle.tile_text.specs.Fields.{site_field, type_field, place_field}
 use Rattle.tile_text.proofs.Boxes.{le_z, inside_passes}
 use Rattle.tile_text.proofs.Names.{named_seed, at_seam}
 use Rattle.tile_text.proofs.PlainWords.{plain_seed, name_word, name_short, keyword_word}
-use Rattle.local_check.specs.declared.verdict.Verdict.{Verdict}
-use Rattle.local_check.specs.declared.verdict.Verdict.TheVariants.{Yes, NotExact, Rival, NotTerminal}
+use Rattle.atam.specs.declared.verdict.Verdict.{Verdict}
+use Rattle.atam.specs.declared.verdict.Verdict.TheVariants.{Yes, NotExact, Rival, NotTerminal}
 use Rattle.seq_text.specs.GrowthLines.{place_lines, closed_line}
 use Rattle.seq_text.specs.VerdictLines.{verdict_line}
 use Rattle.seq_text.specs.PrintedGrowths.{growth_lines, line_or_none, MayBeOpen, MayBeTold, MayBePrinted}

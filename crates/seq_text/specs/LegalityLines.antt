@@ -1,8 +1,8 @@
 -- The line on the legality of a sequence.
 use Rattle.std.specs.Prelude.{ℕ, List, [], ◌∷◌, codes, decimal}
 use Rattle.tile_io.specs.Lines.{line_of}
-use Rattle.replay_order.specs.declared.legal.Legality.{Legality}
-use Rattle.replay_order.specs.declared.legal.Legality.TheVariants.{Legal, WrongSeed, SiteTaken, TooWeak}
+use Rattle.atam.specs.declared.legality.Legality.{Legality}
+use Rattle.atam.specs.declared.legality.Legality.TheVariants.{Legal, WrongSeed, SiteTaken, TooWeak}
 
 -- yes, or which rule is broken first: by the seeds, by a place at a taken site, or by one whose pull is too weak
 abbrev pub legality_line : Legality → List ℕ

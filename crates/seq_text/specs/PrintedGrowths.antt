@@ -7,8 +7,8 @@ use Rattle.atam.specs.declared.place.Place.{Place}
 use Rattle.atam.specs.Sites.{IsNearSite}
 use Rattle.atam.specs.Assembly.{Fits}
 use Rattle.atam.specs.TileSystem.{TileSystem, IsType}
-use Rattle.local_check.specs.declared.verdict.Verdict.{Verdict}
-use Rattle.local_check.specs.declared.verdict.Verdict.TheVariants.{Yes, NotExact, Rival, NotTerminal}
+use Rattle.atam.specs.declared.verdict.Verdict.{Verdict}
+use Rattle.atam.specs.declared.verdict.Verdict.TheVariants.{Yes, NotExact, Rival, NotTerminal}
 use Rattle.seq_text.specs.GrowthLines.{place_lines, closed_line}
 use Rattle.seq_text.specs.VerdictLines.{verdict_line}
 

@@ -6,8 +6,8 @@ use Rattle.tile_io.specs.Formats.{Format, Reads}
 use Rattle.tile_io.specs.Checks.{◌>>=◌, field, count_in, Keyword, Table, table_format}
 use Rattle.atam.specs.TileSystem.{TileSystem}
 use Rattle.tile_text.specs.Fields.{site_field, place_field}
-use Rattle.grow_core.specs.declared.event.Event.{Event}
-use Rattle.grow_core.specs.declared.event.Event.TheVariants.{Look, Claim, Split, Join}
+use Rattle.atam.specs.declared.event.Event.{Event}
+use Rattle.atam.specs.declared.event.Event.TheVariants.{Look, Claim, Split, Join}
 use Rattle.seq_text.specs.GrowthText.{always_room, names_of}
 
 -- the number of a scout, whether there is such a one or not

@@ -3,10 +3,10 @@ use Rattle.std.specs.Prelude.{ℕ, List, [], ◌∷◌, codes, decimal, flat_map
 use Rattle.tile_io.specs.Lines.{line_of}
 use Rattle.atam.specs.declared.place.TypeId.{TypeId}
 use Rattle.atam.specs.TileSystem.{TileSystem, IsType, type_name}
-use Rattle.grow_core.specs.declared.event.Seen.{Seen}
-use Rattle.grow_core.specs.declared.event.Seen.TheVariants.{Saw, Won, Held, Divided, Joined}
-use Rattle.grow_core.specs.declared.event.CoreStop.{CoreStop}
-use Rattle.grow_core.specs.declared.event.CoreStop.TheVariants.{NoSuchScout, NotSupported, OutsideBox, NoNumberLeft, NoMemory}
+use Rattle.atam.specs.declared.event.Seen.{Seen}
+use Rattle.atam.specs.declared.event.Seen.TheVariants.{Saw, Won, Held, Divided, Joined}
+use Rattle.atam.specs.declared.event.CoreStop.{CoreStop}
+use Rattle.atam.specs.declared.event.CoreStop.TheVariants.{NoSuchScout, NotSupported, OutsideBox, NoNumberLeft, NoMemory}
 
 -- the name of a type, or `-` where there is none
 abbrev pub name_or_none : TileSystem → Option TypeId → List ℕ

@@ -3,9 +3,9 @@ use Rattle.std.specs.Prelude.{ℕ, List, [], ◌∷◌, codes, decimal}
 use Rattle.std.specs.Fmt.{signed_decimal}
 use Rattle.tile_io.specs.Lines.{line_of}
 use Rattle.atam.specs.declared.site.Site.{Site}
-use Rattle.atam.specs.TileSystem.{TileSystem, IsType, type_name}
-use Rattle.local_check.specs.declared.verdict.Verdict.{Verdict}
-use Rattle.local_check.specs.declared.verdict.Verdict.TheVariants.{Yes, NotExact, Rival, NotTerminal}
+use Rattle.atam.specs.TileSystem.{TileSystem, type_name}
+use Rattle.atam.specs.declared.verdict.Verdict.{Verdict}
+use Rattle.atam.specs.declared.verdict.Verdict.TheVariants.{Yes, NotExact, Rival, NotTerminal}
 
 -- the number of the condition that fails, the site where it fails, and what fails there
 abbrev pub failed_line : List ℕ → Site → List ℕ → List ℕ
@@ -18,10 +18,3 @@ verdict_line sys Yes = line_of (codes "unique" ∷ codes "yes" ∷ [])
 verdict_line sys (NotExact m sum) = failed_line (codes "1") m (decimal sum)
 verdict_line sys (Rival m t) = failed_line (codes "2") m (type_name sys t)
 verdict_line sys (NotTerminal m t) = failed_line (codes "3") m (type_name sys t)
-
--- a type that the verdict names is one of the system
-abbrev pub NamesTypes : TileSystem → Verdict → Type 0
-NamesTypes sys Yes = Unit {0}
-NamesTypes sys (NotExact m sum) = Unit {0}
-NamesTypes sys (Rival m t) = IsType sys t
-NamesTypes sys (NotTerminal m t) = IsType sys t

@@ -9,13 +9,13 @@ ghost use Rattle.atam.specs.declared.site.Site.{Site};
 ghost use Rattle.atam.specs.Assembly.{Fits};
 ghost use Rattle.atam.specs.Placements.{HasDistinctSites};
 ghost use Rattle.atam.specs.TileSystem.{TileSystem, IsValid};
-ghost use Rattle.local_check.specs.declared.verdict.Verdict.{Verdict};
+ghost use Rattle.atam.specs.declared.verdict.Verdict.{Verdict};
 ghost use Rattle.tile_text.specs.declared.version.Version.{Version};
 ghost use Rattle.tile_text.specs.declared.version.Version.TheVariants.{Two};
 ghost use Rattle.tile_text.specs.SystemText.{ReadsAny};
 ghost use Rattle.tile_text.specs.Spelling.{spelling, spelling_by, newest_spelling, version_of, end_of_print};
 ghost use Rattle.seq_text.specs.PrintedGrowths.{growth_lines, start_mark, MayBePrinted};
-ghost use Rattle.grow_core.specs.declared.event.Event.{Event};
+ghost use Rattle.atam.specs.declared.event.Event.{Event};
 ghost use Rattle.seq_text.specs.GrowthText.{growth_format, ReadsPlaces, ReadsSequence, ReadsPlacements};
 ghost use Rattle.seq_text.specs.ScheduleText.{schedule_format, ReadsEvents};
 

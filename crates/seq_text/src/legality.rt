@@ -1,10 +1,10 @@
 // The line on the legality of a sequence.
 ghost use Rattle.tile_io.specs.Prints.{Prints};
-ghost use Rattle.replay_order.specs.declared.legal.Legality.TheVariants.{SiteTaken, TooWeak};
+ghost use Rattle.atam.specs.declared.legality.Legality.TheVariants.{SiteTaken, TooWeak};
 ghost use Rattle.seq_text.specs.LegalityLines.{legality_line};
 
+use atam::Legality;
 use itoa::Buffer;
-use replay_order::Legality;
 use tile_io::{Failed, Sink, print_line};
 
 /// Writes the `legal` line. It takes no memory.

@@ -3,12 +3,12 @@ ghost use Rattle.std.specs.Prelude.{◌≡◌, ◌≤◌, true, IfOk, List, leng
 ghost use Rattle.atam.specs.TileSystem.{TileSystem};
 ghost use Rattle.tile_io.specs.NextLine.{IsMark};
 ghost use Rattle.tile_io.specs.Formats.{ReadsOrStops};
-ghost use Rattle.grow_core.specs.declared.event.Event.{Event};
+ghost use Rattle.atam.specs.declared.event.Event.{Event};
 ghost use Rattle.seq_text.specs.ScheduleText.{schedule_format, ReadsEvents, scout, look_fields, claim_fields, split_fields, join_fields};
 ghost use Rattle.seq_text.specs.Inner.Kinds.{action_row};
 
 use crate::action::Action;
-use grow_core::Event;
+use atam::Event;
 use std::alloc::Global;
 use tile_io::{
     Cause, LineReader, LineStop, LineWords, MOST_INPUT, Mark, TextStop, read_count, read_text,
@@ -50,7 +50,7 @@ struct ScheduleReader<'a> {
 impl<'a> LineReader for ScheduleReader<'a> {
     ghost use Rattle.std.specs.Prelude.{◌≡◌};
     ghost use Rattle.atam.specs.TileSystem.{TileSystem};
-    ghost use Rattle.grow_core.specs.declared.event.Event.{Event};
+    ghost use Rattle.atam.specs.declared.event.Event.{Event};
     ghost use Rattle.seq_text.specs.ScheduleText.{schedule_table};
     ghost use Rattle.seq_text.specs.Inner.Kinds.{action_row};
 

@@ -4,7 +4,7 @@ ghost use Rattle.tile_io.specs.Prints.{Prints};
 ghost use Rattle.tile_io.specs.Chunks.{PassesOn};
 ghost use Rattle.seq_text.specs.SeenLines.{told_line, refusal_line, seen_line, seen_lines, TellsTypes, IsRefusal, HasLine};
 
-use grow_core::{CoreStop, Seen};
+use atam::{CoreStop, Seen};
 use itoa::Buffer;
 use tile_io::{Chunk, Failed, Sink};
 use tile_system::System;

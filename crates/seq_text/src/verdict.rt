@@ -3,11 +3,12 @@ ghost use Rattle.std.specs.Prelude.{List, ℕ};
 ghost use Rattle.atam.specs.TileSystem.{IsType, type_name};
 ghost use Rattle.tile_io.specs.Prints.{Prints};
 ghost use Rattle.tile_io.specs.Chunks.{PassesOn};
-ghost use Rattle.local_check.specs.declared.verdict.Verdict.TheVariants.{NotExact, Rival, NotTerminal};
-ghost use Rattle.seq_text.specs.VerdictLines.{verdict_line, failed_line, NamesTypes};
+ghost use Rattle.atam.specs.declared.verdict.Verdict.TheVariants.{NotExact, Rival, NotTerminal};
+ghost use Rattle.atam.specs.Verdicts.{NamesTypes};
+ghost use Rattle.seq_text.specs.VerdictLines.{verdict_line, failed_line};
 
+use atam::Verdict;
 use itoa::Buffer;
-use local_check::Verdict;
 use tile_io::{Chunk, Failed, Sink};
 use tile_system::{Site, System};
 

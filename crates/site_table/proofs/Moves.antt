@@ -19,10 +19,10 @@ use Rattle.atam.proofs.Placements.{tile_at-Contains, HasDistinctSites-push, empt
 use Rattle.assembly.specs.Cells.{cell_count, site_at}
 use Rattle.assembly.proofs.Cells.{site_at-inside}
 use Rattle.grow_core.specs.declared.placed_tile.PlacedTile.{PlacedTile}
-use Rattle.grow_core.specs.declared.event.Event.{Event}
-use Rattle.grow_core.specs.declared.event.Event.TheVariants.{Look, Claim, Split, Join}
-use Rattle.grow_core.specs.declared.event.Seen.{Seen}
-use Rattle.grow_core.specs.declared.event.Seen.TheVariants.{Saw, Won, Held, Divided, Joined}
+use Rattle.atam.specs.declared.event.Event.{Event}
+use Rattle.atam.specs.declared.event.Event.TheVariants.{Look, Claim, Split, Join}
+use Rattle.atam.specs.declared.event.Seen.{Seen}
+use Rattle.atam.specs.declared.event.Seen.TheVariants.{Saw, Won, Held, Divided, Joined}
 use Rattle.grow_core.specs.Core.{ScoutState, scout_at, least, greatest, OwnsTwoOrMore, state_of, places, ScoutInvariant, GrowthInvariant}
 use Rattle.grow_core.specs.Steps.{place, tile_of, IsScoutOf, IsStart, IsUnion, Sees, Wins, Supports}
 use Rattle.grow_core.specs.Listed.{by_name}

@@ -9,11 +9,11 @@ use Rattle.atam.specs.TileSystem.{TileSystem, IsValid}
 use Rattle.atam.specs.Placements.{SamePlacements}
 use Rattle.atam.specs.Growth.{IsClosedInBox}
 use Rattle.assembly.specs.Cells.{cell_count, site_at}
-use Rattle.grow_core.specs.declared.event.Event.{Event}
-use Rattle.grow_core.specs.declared.event.Event.TheVariants.{Look, Claim, Split, Join}
-use Rattle.grow_core.specs.declared.event.Seen.{Seen}
-use Rattle.grow_core.specs.declared.event.Seen.TheVariants.{Saw, Won, Held, Divided, Joined}
-use Rattle.grow_core.specs.declared.event.CoreStop.{CoreStop}
+use Rattle.atam.specs.declared.event.Event.{Event}
+use Rattle.atam.specs.declared.event.Event.TheVariants.{Look, Claim, Split, Join}
+use Rattle.atam.specs.declared.event.Seen.{Seen}
+use Rattle.atam.specs.declared.event.Seen.TheVariants.{Saw, Won, Held, Divided, Joined}
+use Rattle.atam.specs.declared.event.CoreStop.{CoreStop}
 use Rattle.grow_core.specs.Core.{ScoutState, CoreState, scout_at, least, greatest, OwnsTwoOrMore, CoreInvariant}
 use Rattle.grow_core.specs.Steps.{tile_of, Supports, HasScout, IsStart, CoreStep}
 use Rattle.site_table.specs.declared.view.SeatView.{SeatView}

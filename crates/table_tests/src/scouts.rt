@@ -2,7 +2,8 @@
 ghost use Rattle.std.specs.Prelude.{◌≡◌};
 ghost use Rattle.grow_core.specs.Core.{CoreInvariant};
 
-use grow_core::{Core, CoreStop, Event, Seen};
+use atam::{CoreStop, Event, Seen};
+use grow_core::Core;
 use std::test::Fail;
 use tile_system::{Placed, Site, System, TypeId};
 use worked_systems::{MISMATCH, RIVALS, system};

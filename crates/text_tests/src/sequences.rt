@@ -2,7 +2,7 @@
 ghost use Rattle.atam.specs.TileSystem.{IsType};
 
 use assembly::{Grid, Sequence};
-use grow_core::{CoreStop, Event, Seen};
+use atam::{CoreStop, Event, Seen};
 use seq_text::{print_replies, print_seen, read_events, read_grid, read_sequence};
 use std::alloc::{AllocError, Global};
 use std::test::Fail;

@@ -6,8 +6,8 @@ use Rattle.atam.specs.Placements.{HasDistinctSites}
 use Rattle.atam.specs.TileSystem.{TileSystem, IsType, IsValid}
 use Rattle.atam.specs.Determinism.{IsLocallyDeterministic}
 use Rattle.replay_order.specs.ReplayAnswers.{IsWholeOrder}
-use Rattle.local_check.specs.declared.verdict.Verdict.{Verdict}
-use Rattle.local_check.specs.declared.verdict.Verdict.TheVariants as verdicts
+use Rattle.atam.specs.declared.verdict.Verdict.{Verdict}
+use Rattle.atam.specs.declared.verdict.Verdict.TheVariants as verdicts
 use Rattle.local_check.specs.Judgement as judging
 use Rattle.cert_check.specs.declared.entry.Entry.{Entry}
 use Rattle.cert_check.specs.declared.verdict.CertVerdict.{CertVerdict}

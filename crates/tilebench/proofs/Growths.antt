@@ -18,7 +18,7 @@ use Rattle.site_table.specs.Seats.{GrownValue}
 use Rattle.local_check.specs.declared.once.Judged.{Judged}
 use Rattle.local_check.specs.declared.once.Judged.TheVariants.{Legal, Breach}
 use Rattle.local_check.specs.Judged.{IsJudged}
-use Rattle.seq_text.proofs.NamedTypes.{verdict_types}
+use Rattle.local_check.proofs.Verdicts.{verdict_types}
 use Rattle.tilebench.specs.declared.growth.Growth.{Growth}
 use Rattle.tilebench.specs.Commands.Grow.{IsGrowthText}
 use Rattle.tilebench.specs.Growths.{IsGrowth, growth_text, is_unique}

@@ -11,8 +11,8 @@ use Rattle.atam.proofs.Sequences.{IsLegal-distinct}
 use Rattle.atam.proofs.Open.{least_open_same}
 use Rattle.atam.proofs.Tiles.{SamePlacements-trans, SameTiles-from}
 use Rattle.tile_text.proofs.Eithers.{any_valid}
-use Rattle.local_check.specs.declared.verdict.Verdict.{Verdict}
-use Rattle.local_check.specs.declared.verdict.Verdict.TheVariants.{Yes, NotExact, Rival, NotTerminal}
+use Rattle.atam.specs.declared.verdict.Verdict.{Verdict}
+use Rattle.atam.specs.declared.verdict.Verdict.TheVariants.{Yes, NotExact, Rival, NotTerminal}
 use Rattle.local_check.proofs.Verdicts.{verdict_yes}
 use Rattle.unique_law.specs.Outcomes.{Outcome, IsOutcome}
 use Rattle.atam.proofs.Canon.{canonical_too, producible_types}

@@ -31,8 +31,8 @@ use Rattle.counter_compile.proofs.Limits.{accepted, is_counter_box, is_valid_cou
 use Rattle.counter_compile.proofs.Counting.{deterministic_count, row_counts}
 use Rattle.site_table.specs.Seats.{GrownValue}
 use Rattle.grow_workers.specs.Workers.{IsGrownBy}
-use Rattle.local_check.specs.declared.verdict.Verdict.{Verdict}
-use Rattle.local_check.specs.declared.verdict.Verdict.TheVariants.{Yes}
+use Rattle.atam.specs.declared.verdict.Verdict.{Verdict}
+use Rattle.atam.specs.declared.verdict.Verdict.TheVariants.{Yes}
 use Rattle.unique_law.specs.Outcomes.{Outcome}
 use Rattle.unique_law.proofs.OneOutcome.{one_full_growth, yes_in_some_order}
 use Rattle.tilebench.specs.declared.growth.Growth.{Growth}

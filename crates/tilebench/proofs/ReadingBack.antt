@@ -20,8 +20,8 @@ use Rattle.atam.proofs.Boxes.{near_inside, near_beside}
 use Rattle.atam.proofs.Lists.{All-slice_get}
 use Rattle.atam.proofs.Placements.{tile_at-Contains}
 use Rattle.atam.proofs.Systems.{pair_strength-bound}
-use Rattle.local_check.specs.declared.verdict.Verdict.{Verdict}
-use Rattle.local_check.specs.declared.verdict.Verdict.TheVariants.{Yes, NotExact, Rival, NotTerminal}
+use Rattle.atam.specs.declared.verdict.Verdict.{Verdict}
+use Rattle.atam.specs.declared.verdict.Verdict.TheVariants.{Yes, NotExact, Rival, NotTerminal}
 use Rattle.local_check.specs.Judgement.{IsVerdict}
 use Rattle.tile_text.specs.Spelling.{spelling, end_of_print, version_of}
 use Rattle.tile_text.proofs.PrintLemmas.{has_version}

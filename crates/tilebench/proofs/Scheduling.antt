@@ -11,10 +11,10 @@ use Rattle.atam.specs.Assembly.{Fits}
 use Rattle.atam.specs.Placements.{tile_at}
 use Rattle.atam.proofs.Placements.{tile_at-Contains}
 use Rattle.grow_core.specs.declared.placed_tile.PlacedTile.{PlacedTile}
-use Rattle.grow_core.specs.declared.event.Event.{Event}
-use Rattle.grow_core.specs.declared.event.Seen.{Seen}
-use Rattle.grow_core.specs.declared.event.CoreStop.{CoreStop}
-use Rattle.grow_core.specs.declared.event.CoreStop.TheVariants.{NoMemory}
+use Rattle.atam.specs.declared.event.Event.{Event}
+use Rattle.atam.specs.declared.event.Seen.{Seen}
+use Rattle.atam.specs.declared.event.CoreStop.{CoreStop}
+use Rattle.atam.specs.declared.event.CoreStop.TheVariants.{NoMemory}
 use Rattle.grow_core.specs.Core.{CoreState, places, CoreInvariant}
 use Rattle.grow_core.specs.Steps.{place, CoreStep, CoreRun, no_such_scout, no_other_scout, same_scout, looks_outside, claims_outside, unsupported, one_number, no_memory, saw_none, saw_tile, won, held, divided, joined, stopped, stepped}
 use Rattle.seq_text.specs.SeenLines.{HasLine}

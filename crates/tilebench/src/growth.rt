@@ -7,7 +7,7 @@ ghost use Rattle.tilebench.specs.Inner.Rooms.{GrowsTo, HasTypes, IsJudgedGrowth,
 use crate::judged::{JudgedGrowth, is_unique};
 use crate::room::Reply;
 use assembly::{Grid, Sequence};
-use local_check::Verdict;
+use atam::Verdict;
 use seq_text::{PlacePieces, put_closed, put_places, put_verdict};
 use tile_io::{Chunk, Failed, Sink};
 use tile_system::{Site, System, TypeId};

@@ -3,12 +3,10 @@ ghost use Rattle.std.specs.Prelude.{◌≡◌, true};
 ghost use Rattle.tile_text.specs.Spelling.{spelling};
 
 use crate::room::Reply;
-use counter_compile::CounterTiles;
-use quadrant_compile::QuadrantTiles;
 use tile_io::{Failed, Sink};
 use tile_system::System;
+use tile_table::{ListedTiles, Table};
 use tile_text::print_system;
-use turing_compile::MachineTiles;
 
 /// A system, to be spelled.
 #[derive(Drop)]
@@ -32,7 +30,7 @@ impl Reply for Spelled {
     }
 }
 
-impl Reply for MachineTiles {
+impl<K: Copy + Drop, G: Copy + Drop, T: Table<K, G> + Drop> Reply for ListedTiles<K, G, T> {
     ghost text = { λ tiles. spelling tiles };
 
     ghost yes = { λ tiles. true };
@@ -43,39 +41,7 @@ impl Reply for MachineTiles {
         true
     }
 
-    fn print<K: Sink>(&self, out: &mut K) -> Result<(), Failed> {
-        self.print_tiles(out)
-    }
-}
-
-impl Reply for QuadrantTiles {
-    ghost text = { λ tiles. spelling tiles };
-
-    ghost yes = { λ tiles. true };
-
-    ghost printable = { λ tiles. Unit {0} };
-
-    fn is_yes(&self) -> bool {
-        true
-    }
-
-    fn print<K: Sink>(&self, out: &mut K) -> Result<(), Failed> {
-        self.print_tiles(out)
-    }
-}
-
-impl Reply for CounterTiles {
-    ghost text = { λ tiles. spelling tiles };
-
-    ghost yes = { λ tiles. true };
-
-    ghost printable = { λ tiles. Unit {0} };
-
-    fn is_yes(&self) -> bool {
-        true
-    }
-
-    fn print<K: Sink>(&self, out: &mut K) -> Result<(), Failed> {
+    fn print<S: Sink>(&self, out: &mut S) -> Result<(), Failed> {
         self.print_tiles(out)
     }
 }

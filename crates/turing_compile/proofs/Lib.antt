@@ -10,4 +10,3 @@ pub mod Runs
 pub mod Named
 pub mod TypesShown
 pub mod ConfigsShown
-mod Counts

@@ -6,12 +6,9 @@ mod kind;
 mod laws;
 mod listing;
 mod names;
-mod numbers;
 mod reading;
 mod table;
-mod tiles;
 
-pub use compiler::compile;
+pub use compiler::{MachineTiles, compile, machine_tiles};
 pub use laws::{law_run, law_valid};
 pub use reading::row_config;
-pub use tiles::MachineTiles;

@@ -3,11 +3,11 @@ ghost use Rattle.std.specs.Prelude.{◌≡◌, ◌≤◌, ◌<◌, ◌+◌, ◌�
 ghost use Rattle.turing_compile.specs.Compiled.{kind_name, label_name, pair_name, state_name, symbol_name};
 ghost use Rattle.turing_compile.specs.Inner.Members.{IsKind, IsLabel};
 ghost use Rattle.machine_text.specs.Machines.{IsMachine};
-ghost use Rattle.table_text.specs.declared.short_text.TheConstants.{SHORT_ROOM};
+ghost use Rattle.tile_table.specs.declared.short_text.TheConstants.{SHORT_ROOM};
 
 use crate::kind::{Kind, Label};
 use machine_text::Machine;
-use table_text::ShortText;
+use tile_table::ShortText;
 
 /// Adds the name of a kind to a text.
 pub fn add_kind_name(text: &mut ShortText, machine: &Machine, kind: Kind)

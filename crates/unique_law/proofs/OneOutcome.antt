@@ -14,8 +14,8 @@ use Rattle.atam.proofs.Confluence.{confluence, deterministic_settles}
 use Rattle.atam.proofs.Extension.{deterministic_extension}
 use Rattle.atam.proofs.SameVerdict.{same_verdict}
 use Rattle.atam.proofs.Tiles.{SamePlacements-trans, same_back}
-use Rattle.local_check.specs.declared.verdict.Verdict.{Verdict}
-use Rattle.local_check.specs.declared.verdict.Verdict.TheVariants.{Yes}
+use Rattle.atam.specs.declared.verdict.Verdict.{Verdict}
+use Rattle.atam.specs.declared.verdict.Verdict.TheVariants.{Yes}
 use Rattle.local_check.specs.Judgement.{IsVerdict}
 use Rattle.local_check.proofs.Existence.{verdict_exists}
 use Rattle.local_check.proofs.Verdicts.{verdict_yes}

@@ -18,8 +18,8 @@ use Rattle.atam.proofs.Confluence.{Settles, settled, settled_part}
 use Rattle.atam.proofs.Extension.{legal_extension}
 use Rattle.atam.proofs.SameVerdict.{exact_too, no_rival_too}
 use Rattle.atam.proofs.Tiles.{SamePlacements-trans, SameTiles-from, same_back}
-use Rattle.local_check.specs.declared.verdict.Verdict.{Verdict}
-use Rattle.local_check.specs.declared.verdict.Verdict.TheVariants.{Yes, NotExact, Rival, NotTerminal}
+use Rattle.atam.specs.declared.verdict.Verdict.{Verdict}
+use Rattle.atam.specs.declared.verdict.Verdict.TheVariants.{Yes, NotExact, Rival, NotTerminal}
 use Rattle.local_check.specs.Judgement.{IsVerdict}
 use Rattle.local_check.proofs.Verdicts.{verdict_unique}
 use Rattle.unique_law.specs.Matches.{IsMatchedIn}

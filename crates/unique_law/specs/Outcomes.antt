@@ -8,7 +8,7 @@ use Rattle.atam.specs.TileSystem.{TileSystem}
 use Rattle.atam.specs.Growth.{IsFullGrowth, IsLeastOpenOutside}
 use Rattle.atam.specs.Canonical.{IsCanonical}
 use Rattle.atam.specs.Determinism.{IsLocallyDeterministic}
-use Rattle.local_check.specs.declared.verdict.Verdict.{Verdict}
+use Rattle.atam.specs.declared.verdict.Verdict.{Verdict}
 use Rattle.local_check.specs.Judgement.{IsVerdict}
 
 -- a canonical sequence, the least open site outside the box, and the verdict on the sequence

@@ -10,7 +10,7 @@ use Rattle.atam.specs.Placements.{HasDistinctSites, SamePlacements}
 use Rattle.atam.specs.TileSystem.{TileSystem}
 use Rattle.atam.specs.Growth.{IsLegal, GrowsInto, IsFullGrowth}
 use Rattle.atam.specs.Determinism.{HasExactInputs, HasNoRivals, IsDeterministicInBox}
-use Rattle.local_check.specs.declared.verdict.Verdict.TheVariants.{NotTerminal}
+use Rattle.atam.specs.declared.verdict.Verdict.TheVariants.{NotTerminal}
 use Rattle.unique_law.specs.Matches.{IsMatchedIn}
 use Rattle.unique_law.specs.Outcomes.{Outcome, IsOutcome}
 use Rattle.unique_law.specs.Within.{LiesInBox, IsDeterministicWithin, IsYesWithin, IsWithinInSomeOrder}

@@ -9,9 +9,10 @@ use crate::rules::quadrants::{
 };
 use crate::rules::texts::largest;
 use assembly::{Grid, Sequence};
-use local_check::{Verdict, inputs, judge};
+use atam::{Legality, Verdict};
+use local_check::{inputs, judge};
 use quadrant_compile::compile_quadrant;
-use replay_order::{Legality, check_legal};
+use replay_order::check_legal;
 use std::alloc::Global;
 use std::test::Fail;
 use tile_io::MemorySink;

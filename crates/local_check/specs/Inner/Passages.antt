@@ -4,7 +4,7 @@ use Rattle.atam.specs.declared.place.Place.{Place}
 use Rattle.atam.specs.Placements.{SamePlacements}
 use Rattle.atam.specs.TileSystem.{TileSystem}
 use Rattle.atam.specs.Growth.{IsLegal}
-use Rattle.replay_order.specs.declared.legal.Legality.TheVariants as legality
+use Rattle.atam.specs.declared.legality.Legality.TheVariants as legality
 use Rattle.replay_order.specs.Legalities.{IsLegalityAnswer}
 use Rattle.local_check.specs.declared.passage.Passage.{Passage}
 use Rattle.local_check.specs.declared.passage.Passed.{Passed}

@@ -2,7 +2,7 @@
 use Rattle.std.specs.Prelude.{ℕ, Bool, true, false, if◌then◌else◌, List, codes, bytes_eq, Option, Some, None}
 use Rattle.tile_io.specs.Checks.{Keyword}
 use Rattle.atam.specs.TileSystem.{TileSystem}
-use Rattle.grow_core.specs.declared.event.Event.{Event}
+use Rattle.atam.specs.declared.event.Event.{Event}
 use Rattle.seq_text.specs.declared.kind.LineKind.{LineKind}
 use Rattle.seq_text.specs.declared.kind.LineKind.TheVariants as kinds
 use Rattle.seq_text.specs.declared.action.Action.{Action}

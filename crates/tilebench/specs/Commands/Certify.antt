@@ -4,7 +4,7 @@ use Rattle.atam.specs.declared.place.Place.{Place}
 use Rattle.atam.specs.TileSystem.{TileSystem}
 use Rattle.atam.specs.Determinism.{IsLocallyDeterministic}
 use Rattle.replay_order.specs.ReplayAnswers.{IsWholeOrder}
-use Rattle.local_check.specs.declared.verdict.Verdict.{Verdict}
+use Rattle.atam.specs.declared.verdict.Verdict.{Verdict}
 use Rattle.local_check.specs.Judgement.{IsVerdict}
 use Rattle.seq_text.specs.GrowthText.{grid_format}
 use Rattle.seq_text.specs.VerdictLines.{verdict_line}

@@ -2,7 +2,7 @@
 use Rattle.std.specs.Prelude.{◌≡◌, ℕ, Bool, true, false, List, ◌++◌}
 use Rattle.atam.specs.declared.place.Place.{Place}
 use Rattle.atam.specs.TileSystem.{TileSystem}
-use Rattle.replay_order.specs.declared.legal.Legality.TheVariants as legality
+use Rattle.atam.specs.declared.legality.Legality.TheVariants as legality
 use Rattle.local_check.specs.declared.once.Judged.{Judged}
 use Rattle.local_check.specs.declared.once.Judged.TheVariants.{Legal, Breach}
 use Rattle.local_check.specs.Judged.{IsJudged}

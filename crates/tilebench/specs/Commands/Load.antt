@@ -6,8 +6,8 @@ use Rattle.atam.specs.TileSystem.{TileSystem}
 use Rattle.tile_io.specs.Lines.{line_of}
 use Rattle.site_table.specs.Seats.{GrownValue}
 use Rattle.grow_workers.specs.Workers.{IsGrownBy}
-use Rattle.local_check.specs.declared.verdict.Verdict.{Verdict}
-use Rattle.local_check.specs.declared.verdict.Verdict.TheVariants.{Yes}
+use Rattle.atam.specs.declared.verdict.Verdict.{Verdict}
+use Rattle.atam.specs.declared.verdict.Verdict.TheVariants.{Yes}
 use Rattle.counter_compile.specs.Counters.{counter_refusal, counter_system, row_count}
 use Rattle.seq_text.specs.GrowthLines.{closed_line}
 use Rattle.seq_text.specs.VerdictLines.{verdict_line}

@@ -3,9 +3,9 @@ use Rattle.std.specs.Prelude.{◌≡◌, ℕ, List, [], ◌∷◌, string_bytes,
 use Rattle.atam.specs.declared.place.Place.{Place}
 use Rattle.atam.specs.TileSystem.{TileSystem, IsType}
 use Rattle.atam.specs.Growth.{IsLeastOpenOutside}
-use Rattle.grow_core.specs.declared.event.Event.{Event}
+use Rattle.atam.specs.declared.event.Event.{Event}
 use Rattle.seq_text.specs.SeenLines.{HasLine}
-use Rattle.seq_text.specs.VerdictLines.{NamesTypes}
+use Rattle.atam.specs.Verdicts.{NamesTypes}
 use Rattle.unique_law.specs.Outcomes.{Outcome}
 use Rattle.cert_check.specs.Certificates.{places_of}
 use Rattle.tilebench.specs.declared.commands.certify.Certification.{Certification}

@@ -4,7 +4,7 @@ ghost use Rattle.tilebench.specs.Commands.Counter.{counter_row};
 use crate::resources::Resources;
 use crate::room::{PlainRoom, Room};
 use crate::stop::Stop;
-use counter_compile::CounterTiles;
+use counter_compile::{CounterTiles, counter_tiles};
 use site_table::Grown;
 use std::thread::Threads;
 use tile_io::Gate;
@@ -34,7 +34,7 @@ impl PlainRoom for Counter {
         resources: &Resources<'_, R, G>,
         _input: Vec<u8>,
     ) -> Result<(CounterTiles, Option<Grown>), Stop> {
-        let tiles = CounterTiles::new(resources.alloc, self.bits, self.start)?;
+        let tiles = counter_tiles(resources.alloc, self.bits, self.start)?;
         Ok((tiles, None))
     }
 }

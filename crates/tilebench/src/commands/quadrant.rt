@@ -7,7 +7,7 @@ use crate::input::read_quadrant_alone;
 use crate::resources::Resources;
 use crate::room::{PlainRoom, Room};
 use crate::stop::Stop;
-use quadrant_compile::QuadrantTiles;
+use quadrant_compile::{QuadrantTiles, quadrant_tiles};
 use site_table::Grown;
 use std::thread::Threads;
 use tile_io::Gate;
@@ -35,7 +35,7 @@ impl PlainRoom for Quadrant {
         input: Vec<u8>,
     ) -> Result<(QuadrantTiles, Option<Grown>), Stop> {
         let quadrant = read_quadrant_alone(resources.alloc, &input)?;
-        let tiles = QuadrantTiles::new(resources.alloc, quadrant)?;
+        let tiles = quadrant_tiles(resources.alloc, quadrant)?;
         Ok((tiles, None))
     }
 }

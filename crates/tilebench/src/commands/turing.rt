@@ -10,7 +10,7 @@ use crate::stop::Stop;
 use site_table::Grown;
 use std::thread::Threads;
 use tile_io::Gate;
-use turing_compile::MachineTiles;
+use turing_compile::{MachineTiles, machine_tiles};
 
 /// The command.
 #[derive(Clone, Copy)]
@@ -35,7 +35,7 @@ impl PlainRoom for Turing {
         input: Vec<u8>,
     ) -> Result<(MachineTiles, Option<Grown>), Stop> {
         let machine = read_machine_alone(resources.alloc, &input)?;
-        let tiles = MachineTiles::new(resources.alloc, machine)?;
+        let tiles = machine_tiles(resources.alloc, machine)?;
         Ok((tiles, None))
     }
 }

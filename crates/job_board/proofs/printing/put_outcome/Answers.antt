@@ -4,7 +4,7 @@ use Rattle.atam.specs.declared.place.Place.{Place}
 use Rattle.atam.specs.declared.place.TypeId.{TypeId}
 use Rattle.atam.specs.declared.site.Site.{Site}
 use Rattle.atam.specs.TileSystem.{TileSystem}
-use Rattle.local_check.specs.declared.verdict.Verdict.{Verdict}
+use Rattle.atam.specs.declared.verdict.Verdict.{Verdict}
 use Rattle.tile_io.proofs.Printing.{PassesOn-then, PassesOn-both, PassesOn-fails, PassesOn-stopped, PassesOn-text}
 use Rattle.seq_text.specs.GrowthLines.{place_lines, closed_line}
 use Rattle.seq_text.specs.VerdictLines.{verdict_line}

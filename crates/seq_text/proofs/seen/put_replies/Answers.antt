@@ -1,8 +1,8 @@
 use Rattle.std.proofs.Common.{None, Result, Ok}
 use Rattle.std.proofs.lemmas.Result.{err_from_is_err_and}
-use Rattle.grow_core.specs.declared.event.Seen.{Seen}
-use Rattle.grow_core.specs.declared.event.Seen.TheVariants.{Saw}
-use Rattle.grow_core.specs.declared.event.CoreStop.{CoreStop}
+use Rattle.atam.specs.declared.event.Seen.{Seen}
+use Rattle.atam.specs.declared.event.Seen.TheVariants.{Saw}
+use Rattle.atam.specs.declared.event.CoreStop.{CoreStop}
 use Rattle.tile_io.proofs.Printing.{PassesOn-next, PassesOn-halted}
 use Rattle.seq_text.specs.SeenLines.{seen_line}
 use Rattle.seq_text.proofs.seen.put_replies.Goals as goal

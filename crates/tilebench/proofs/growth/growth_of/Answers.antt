@@ -1,5 +1,6 @@
 use Rattle.std.proofs.Common.{refl}
-use Rattle.seq_text.proofs.NamedTypes.{open_type, verdict_types}
+use Rattle.local_check.proofs.Verdicts.{verdict_types}
+use Rattle.seq_text.proofs.NamedTypes.{open_type}
 use Rattle.tilebench.proofs.Growths.{producible_fits}
 use Rattle.tilebench.proofs.growth.growth_of.Goals as goal
 

@@ -4,7 +4,7 @@ use Rattle.atam.specs.Sites.{InBox}
 use Rattle.atam.specs.Assembly.{Fits}
 use Rattle.atam.specs.Assembly as model
 use Rattle.atam.specs.Placements.{tile_at}
-use Rattle.grow_core.specs.declared.event.Event.TheVariants.{Claim}
+use Rattle.atam.specs.declared.event.Event.TheVariants.{Claim}
 use Rattle.grow_core.specs.Core.{CoreInvariant, places}
 use Rattle.grow_core.specs.Steps.{Supports, no_such_scout, claims_outside, unsupported}
 use Rattle.grow_core.specs.Core.{state_of}

@@ -2,7 +2,7 @@ use Rattle.std.proofs.Common.{◌≡◌, None, refl, sym, ◌∙◌, ap}
 use Rattle.std.proofs.lemmas.Bool.{false≢true}
 use Rattle.atam.specs.Sites.{InBox}
 use Rattle.atam.specs.Placements.{tile_at}
-use Rattle.grow_core.specs.declared.event.Event.TheVariants.{Look}
+use Rattle.atam.specs.declared.event.Event.TheVariants.{Look}
 use Rattle.grow_core.specs.Core.{CoreInvariant, places}
 use Rattle.grow_core.specs.Steps.{no_such_scout, looks_outside, saw_none}
 use Rattle.grow_core.specs.Core.{state_of}

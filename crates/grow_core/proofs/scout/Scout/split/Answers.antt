@@ -1,6 +1,7 @@
-use Rattle.std.proofs.Common.{◌≡◌, ◌<◌, ◌^◌, ◌==◌, not, filter, refl, ap, arith, rules}
+use Rattle.std.proofs.Common.{◌≡◌, ◌<◌, ◌^◌, ◌==◌, not, filter, OnOk, refl, ap, subst, arith, rules}
 use Rattle.std.proofs.lemmas.Nat.{one_shl}
 use Rattle.std.proofs.lemmas.Fn.{filter_same}
+use Rattle.atam.specs.Placements.{HasDistinctSites}
 use Rattle.grow_core.specs.declared.placed_tile.PlacedTile.{PlacedTile}
 use Rattle.grow_core.specs.Inner.Entries.{BoxedScout}
 use Rattle.grow_core.proofs.Assembled.{same_seen}
@@ -27,6 +28,6 @@ returns-clause-kept c =
     record {
       owned = rw (one_shl c.last_number-number.result 64 c.last_number-number.ensures.within, number, owned) refl;
       seen = rw seen (same_seen c.args.self.now.scout.seen);
-      distinct = rw seen c.in_ok-given.ensures.distinct;
+      distinct = rw seen (subst (λ r. OnOk r (HasDistinctSites c.args.self.now.scout.seen)) c.in-Ok.is c.given_part.ensures.distinct);
       mine = rw (kept, number, mine) refl;
     }

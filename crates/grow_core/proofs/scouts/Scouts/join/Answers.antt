@@ -1,5 +1,5 @@
 use Rattle.std.proofs.Common.{sym, ◌∙◌, ap, inl, inr, arith, None}
-use Rattle.grow_core.specs.declared.event.Event.TheVariants.{Join}
+use Rattle.atam.specs.declared.event.Event.TheVariants.{Join}
 use Rattle.grow_core.specs.Core.{scout_at}
 use Rattle.grow_core.proofs.Named.{length_set, named_other}
 use Rattle.grow_core.proofs.Entries.{name_within, where_none, where_some}

@@ -1,5 +1,5 @@
 use Rattle.std.proofs.Common.{◌∙◌, ap}
-use Rattle.grow_core.specs.declared.event.Event.TheVariants.{Split}
+use Rattle.atam.specs.declared.event.Event.TheVariants.{Split}
 use Rattle.grow_core.specs.Core.{least}
 use Rattle.grow_core.specs.Inner.Entries.{BoxedScout}
 use Rattle.grow_core.proofs.Named.{length_set}

@@ -1,5 +1,5 @@
 use Rattle.tilebench.proofs.Certificates.{certificate_given, certificate_types, refuted_given}
-use Rattle.seq_text.proofs.NamedTypes.{verdict_types}
+use Rattle.local_check.proofs.Verdicts.{verdict_types}
 use Rattle.tilebench.proofs.commands.certify.certification_with.Goals as goal
 
 pub returns-in_ok-certificate-in-Yes-clause-certified : goal.returns-in_ok-certificate-in-Yes-clause-certified

@@ -1,6 +1,6 @@
 use Rattle.std.proofs.Common.{◌<◌, ◌+◌, [], take, List, Result, All, sym, subst, arith, length}
-use Rattle.grow_core.specs.declared.event.Seen.{Seen}
-use Rattle.grow_core.specs.declared.event.CoreStop.{CoreStop}
+use Rattle.atam.specs.declared.event.Seen.{Seen}
+use Rattle.atam.specs.declared.event.CoreStop.{CoreStop}
 use Rattle.seq_text.specs.SeenLines.{HasLine}
 use Rattle.tilebench.specs.Commands.Schedule.{IsRunOf}
 use Rattle.tilebench.proofs.Scheduling.{run_none, run_next, told_more}

@@ -1,7 +1,7 @@
 use Rattle.std.proofs.Common.{Global, Vec}
 use Rattle.std.proofs.lemmas.Result.{err_from_is_err_and}
 use Rattle.atam.specs.TileSystem.{TileSystem}
-use Rattle.grow_core.specs.declared.event.Event.{Event}
+use Rattle.atam.specs.declared.event.Event.{Event}
 use Rattle.seq_text.specs.ScheduleText.{schedule_format, ReadsEvents}
 use Rattle.tilebench.specs.Commands.Schedule.{IsSystemThenEvents}
 use Rattle.tilebench.proofs.Orders.{stops_within}

@@ -1,6 +1,6 @@
 use Rattle.std.proofs.Common.{ℕ, List, refl, subst}
 use Rattle.tilebench.specs.Commands.Schedule.{IsSystemThenEvents}
-use Rattle.grow_core.specs.declared.event.Event.{Event}
+use Rattle.atam.specs.declared.event.Event.{Event}
 use Rattle.tilebench.specs.Inner.Rooms.{Schedules}
 use Rattle.tilebench.proofs.Scheduling.{schedule_answer}
 use Rattle.tilebench.proofs.commands.schedule.SchedulePlainRoom.answer.Goals as goal

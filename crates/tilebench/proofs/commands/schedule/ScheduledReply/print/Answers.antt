@@ -1,6 +1,6 @@
 use Rattle.std.proofs.Common.{ℕ, List, Result, ap}
-use Rattle.grow_core.specs.declared.event.Seen.{Seen}
-use Rattle.grow_core.specs.declared.event.CoreStop.{CoreStop}
+use Rattle.atam.specs.declared.event.Seen.{Seen}
+use Rattle.atam.specs.declared.event.CoreStop.{CoreStop}
 use Rattle.tile_io.proofs.Printing.{Prints-text, Prints-then}
 use Rattle.seq_text.specs.SeenLines.{seen_lines}
 use Rattle.tilebench.proofs.commands.schedule.ScheduledReply.print.Goals as goal

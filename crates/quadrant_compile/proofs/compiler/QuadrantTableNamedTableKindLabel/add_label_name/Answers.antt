@@ -1,5 +1,0 @@
-use Rattle.quadrant_compile.proofs.Listed.{listed_label}
-use Rattle.quadrant_compile.proofs.compiler.QuadrantTableNamedTableKindLabel.add_label_name.Goals as goal
-
-pub add_label_name-requires-clause-label : goal.add_label_name-requires-clause-label
-add_label_name-requires-clause-label c = listed_label c.args.self.now.quadrant.now c.symbols.ensures.valid c.args.label c.requires.listed

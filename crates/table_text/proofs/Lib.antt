@@ -1,2 +1,0 @@
-pub mod TableSpelled
-pub mod Lines

@@ -1,5 +1,0 @@
-use Rattle.turing_compile.proofs.Listed.{listed_kind}
-use Rattle.turing_compile.proofs.compiler.MachineNamesNamedTableKindLabel.side.Goals as goal
-
-pub row_of_kind-requires-clause-kind : goal.row_of_kind-requires-clause-kind
-row_of_kind-requires-clause-kind c = listed_kind c.args.self.now.machine.now c.states.ensures.valid c.args.kind c.requires
