@@ -1,5 +1,5 @@
 // Tables of runs.
-use crate::running::{Outcome, answered};
+use crate::running::{EndedRun, answered};
 use std::alloc::{AllocError, Global};
 use std::sync::Wait;
 use std::thread::Threads;
@@ -39,7 +39,7 @@ pub fn behind<R: Threads + Wait + Sync>(
     words: &[&str],
     system: &str,
     behind: &str,
-) -> Result<Outcome, AllocError> {
+) -> Result<EndedRun, AllocError> {
     let mut text = String::from_str(alloc, system)?;
     text.push_str(behind)?;
     answered(rt, alloc, words, text.as_str())

@@ -5,4 +5,4 @@ mod cases;
 mod running;
 
 pub use cases::{Case, Change, behind, first_unlike, first_unlike_change};
-pub use running::{Failures, Outcome, answered, run, run_at};
+pub use running::{EndedRun, Failures, answered, run, run_at};

@@ -13,14 +13,14 @@ const ROOM: usize = 1 << 21;
 
 /// How a run ended, the growth that it handed out, and what its sinks hold.
 #[derive(Drop)]
-pub struct Outcome {
+pub struct EndedRun {
     pub status: Status,
     pub grown: Option<Grown>,
     pub out: Vec<u8>,
     pub err: Vec<u8>,
 }
 
-impl Outcome {
+impl EndedRun {
     /// Whether the run ended so.
     pub fn is(&self, status: Status, out: &str, err: &str) -> bool {
         self.status == status
@@ -53,7 +53,7 @@ pub fn answered<R: Threads + Wait + Sync>(
     alloc: Global,
     words: &[&str],
     text: &str,
-) -> Result<Outcome, AllocError> {
+) -> Result<EndedRun, AllocError> {
     run(rt, alloc, words, text.as_bytes(), Failures::NONE)
 }
 
@@ -64,7 +64,7 @@ pub fn run<R: Threads + Wait + Sync>(
     words: &[&str],
     input: &[u8],
     failures: Failures,
-) -> Result<Outcome, AllocError> {
+) -> Result<EndedRun, AllocError> {
     run_at(rt, alloc, words, input.to_vec(alloc)?, failures, &OpenGate)
 }
 
@@ -76,14 +76,14 @@ pub fn run_at<R: Threads + Wait + Sync, G: Gate>(
     input: Vec<u8>,
     failures: Failures,
     gate: &G,
-) -> Result<Outcome, AllocError> {
+) -> Result<EndedRun, AllocError> {
     let words = words_of(alloc, words)?;
     let most = failures.most.max(1);
     let mut source = MemorySource::make(input, most, [failures.source].to_vec(alloc)?);
     let mut out = sink_of(alloc, most, failures.out)?;
     let mut err = sink_of(alloc, most, failures.err)?;
     let ran = tilebench(rt, alloc, &words, &mut source, &mut out, &mut err, gate);
-    Ok(Outcome {
+    Ok(EndedRun {
         status: ran.status,
         grown: ran.grown,
         out: out.bytes().to_vec(alloc)?,

@@ -1,7 +1,7 @@
 // Inputs of more than one block, which are read block by block.
 use crate::block_ends::ends_so;
 use crate::limits::items;
-use program_runs::{Failures, Outcome, answered, run};
+use program_runs::{EndedRun, Failures, answered, run};
 use std::alloc::{AllocError, Global};
 use std::sync::Wait;
 use std::test::Fail;
@@ -94,7 +94,7 @@ fn replayed<R: Threads + Wait + Sync>(
     places: &str,
     behind: &str,
     failures: Failures,
-) -> Result<Outcome, AllocError> {
+) -> Result<EndedRun, AllocError> {
     let text = format!(in alloc; "{FILLED}{before}{places}{behind}")?;
     run(rt, alloc, &["replay"], text.as_bytes(), failures)
 }

@@ -9,7 +9,7 @@ ghost use Rattle.grow_workers.specs.Workers.{IsGrownBy, IsSeenOrder};
 ghost use Rattle.tilebench.specs.Growths.{is_unique};
 ghost use Rattle.tilebench.specs.Inner.Rooms.{IsJudgedGrowth};
 
-use crate::order::{grow_ordered, order_of};
+use crate::order::{grow_ordered, known_or_found_order};
 use crate::resources::{Crew, Resources};
 use assembly::{Grid, Sequence};
 use atam::Verdict;
@@ -91,7 +91,7 @@ pub fn judge_grid<R: Threads + Sync, G: Gate>(
 {
     grid.recall_sites();
     let judges = judges_of(&known, workers);
-    let SeenOrder { order, clean } = order_of(resources, sys, grid, known, workers)?;
+    let SeenOrder { order, clean } = known_or_found_order(resources, sys, grid, known, workers)?;
     let outside = types.least_open_outside(sys, grid);
     let verdict = verdict_on(resources, sys, types, grid, &order, clean, outside, judges)?;
     Ok(JudgedGrowth {

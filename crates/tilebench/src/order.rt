@@ -57,7 +57,7 @@ pub fn grow_by_crew<R: Threads + Sync, G: Gate>(
 }
 
 /// The canonical sequence of a producible grid, which may be known, by so many workers.
-pub fn order_of<R: Threads + Sync, G: Gate>(
+pub fn known_or_found_order<R: Threads + Sync, G: Gate>(
     resources: &Resources<'_, R, G>,
     sys: &System,
     grid: &Grid,

@@ -1,5 +1,5 @@
 // Systems that the program compiles, grown by it.
-use program_runs::{Failures, Outcome, answered, run};
+use program_runs::{EndedRun, Failures, answered, run};
 use std::alloc::{AllocError, Global};
 use std::sync::Wait;
 use std::test::Fail;
@@ -67,7 +67,7 @@ fn grown<R: Threads + Wait + Sync>(
     words: &[&str],
     text: &str,
     workers: &str,
-) -> Result<Outcome, AllocError> {
+) -> Result<EndedRun, AllocError> {
     let made = answered(rt, alloc, words, text)?;
     run(
         rt,

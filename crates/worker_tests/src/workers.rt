@@ -1,6 +1,6 @@
 // What several workers do, and that they come.
 use meeting_gate::MeetingGate;
-use program_runs::{Failures, Outcome, answered, run_at};
+use program_runs::{EndedRun, Failures, answered, run_at};
 use site_table::Grown;
 use std::alloc::{AllocError, Global};
 use std::sync::Wait;
@@ -72,7 +72,7 @@ fn gated<R: Threads + Wait + Sync, G: Gate>(
     words: &[&str],
     system: &str,
     gate: &G,
-) -> Result<Outcome, AllocError> {
+) -> Result<EndedRun, AllocError> {
     let input = system.as_bytes().to_vec(alloc)?;
     run_at(rt, alloc, words, input, Failures::NONE, gate)
 }

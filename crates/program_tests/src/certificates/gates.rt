@@ -1,7 +1,7 @@
 // Who comes to the gate of `verify`, and that its workers run side by side.
 use crate::certificates::CHAIN_MARKS;
 use meeting_gate::MeetingGate;
-use program_runs::{Failures, Outcome, run_at};
+use program_runs::{EndedRun, Failures, run_at};
 use std::alloc::{AllocError, Global};
 use std::sync::Wait;
 use std::test::Fail;
@@ -16,7 +16,7 @@ fn gated<R: Threads + Wait + Sync, G: Gate>(
     alloc: Global,
     words: &[&str],
     gate: &G,
-) -> Result<Outcome, AllocError> {
+) -> Result<EndedRun, AllocError> {
     let mut input = CHAIN.as_bytes().to_vec(alloc)?;
     input.extend_from_slice(CHAIN_MARKS.as_bytes())?;
     run_at(rt, alloc, words, input, Failures::NONE, gate)

@@ -1,8 +1,8 @@
 use Rattle.tilebench.proofs.Growths.{order_closed, order_outside, producible_fits}
 use Rattle.tilebench.proofs.judged.judge_grid.Goals as goal
 
-pub order_of-requires-clause-fits : goal.order_of-requires-clause-fits
-order_of-requires-clause-fits g c κs within =
+pub known_or_found_order-requires-clause-fits : goal.known_or_found_order-requires-clause-fits
+known_or_found_order-requires-clause-fits g c κs within =
     producible_fits c.args.sys.now c.args.grid.now.area c.args.grid.now.tiles c.requires.area c.recall_sites.ensures.inside c.requires.producible
 
 pub least_open_outside-outside-requires-clause-fits : goal.least_open_outside-outside-requires-clause-fits

@@ -2,7 +2,7 @@ use Rattle.std.proofs.Common.{subst, Option, IfSome}
 use Rattle.grow_workers.specs.declared.ordered.SeenOrder.{SeenOrder}
 use Rattle.grow_workers.specs.Workers.{IsSeenOrder}
 use Rattle.tilebench.proofs.Orders.{canonical_whole}
-use Rattle.tilebench.proofs.order.order_of.Goals as goal
+use Rattle.tilebench.proofs.order.known_or_found_order.Goals as goal
 
 -- the order that was known
 pub returns-in-Some-clause-order : goal.returns-in-Some-clause-order

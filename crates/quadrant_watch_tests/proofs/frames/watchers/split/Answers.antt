@@ -4,7 +4,7 @@ use Rattle.atam.specs.Placements.{SamePlacements}
 use Rattle.atam.proofs.Tiles.{SamePlacements-trans, same_back}
 use Rattle.grow_core.specs.Core.{OwnsTwoOrMore}
 use Rattle.grow_core.proofs.Numbers.{two-all}
-use Rattle.command_tests.proofs.frames.watchers.split.Goals as goal
+use Rattle.quadrant_watch_tests.proofs.frames.watchers.split.Goals as goal
 
 -- who has seen the same as one that has seen the seeds
 from_seeds : (seeds seen part tiles : List Place) → SamePlacements seeds seen → SamePlacements seen part → SamePlacements seeds tiles → SamePlacements part tiles

@@ -2,7 +2,7 @@
 ghost use Rattle.std.specs.Prelude.{◌≤◌};
 
 use meeting_gate::MeetingGate;
-use program_runs::{Failures, Outcome, run_at};
+use program_runs::{EndedRun, Failures, run_at};
 use std::alloc::{AllocError, Global};
 use std::sync::Wait;
 use std::test::Fail;
@@ -20,7 +20,7 @@ fn gated<R: Threads + Wait + Sync, G: Gate>(
     words: &[&str],
     system: &str,
     gate: &G,
-) -> Result<Outcome, AllocError> {
+) -> Result<EndedRun, AllocError> {
     let input = system.as_bytes().to_vec(alloc)?;
     run_at(rt, alloc, words, input, Failures::NONE, gate)
 }
