@@ -3,6 +3,7 @@ import glob
 import os
 import re
 import subprocess
+import sys
 
 import constants
 import prose
@@ -192,6 +193,14 @@ def headline():
     return made.splitlines()
 
 
+def page():
+    """tilebench.html is made of the crates and of page/ as they are (page/make --check compares the module itself)."""
+    sys.path.append(f"{TOP}/page")
+    import bundle
+
+    return bundle.behind(read("tilebench.html"))
+
+
 CHECKS = {
     "clauses of PROVED.md": promises,
     "crates of ARCHITECTURE.md": layers,
@@ -203,5 +212,6 @@ CHECKS = {
     "names": names,
     "the list of what the headline reaches": headline,
     "the manual page": manual,
+    "tilebench.html": page,
     "constants that clauses cite": lambda: constants.unsaid(crates(), contracts),
 } | prose.CHECKS
