@@ -1,0 +1,167 @@
+// The page: begins its parts, and ties them together.
+import { STATE } from "../generated.js";
+import { beginBoard, redraw, showAll, showSite, zoomMiddle } from "./board.js";
+import { beginByHand } from "./by_hand.js";
+import { beginCertificate } from "./certificate.js";
+import { Kinds } from "./colours.js";
+import { beginCommand } from "./command.js";
+import { beginCounterForm } from "./counter_form.js";
+import { $ } from "./dom.js";
+import { beginDrawer, openDrawer } from "./drawer.js";
+import { beginEditor, goTo, lineAt, mark, put, text } from "./editor.js";
+import { beginFiles, notice } from "./files.js";
+import { exampleText, FIRST } from "./gallery.js";
+import { beginLegend } from "./legend.js";
+import { beginLive, isLive } from "./live.js";
+import { growNow, grownLater, kindNamed, timings } from "./loading.js";
+import { beginMenus, closeMenus } from "./menus.js";
+import { beginPicture } from "./picture.js";
+import { beginPlayer, move, show, toggle } from "./player.js";
+import { beginPointer } from "./pointer.js";
+import { lack } from "./program.js";
+import { beginRivals, theSearch } from "./rivals.js";
+import { textOfHash } from "./share.js";
+import { on, page, tell } from "./state.js";
+import { keepText, keptText } from "./storage.js";
+import { beginTape, theTape } from "./tape_panel.js";
+import { beginTileForm } from "./tile_form.js";
+import { beginTiles } from "./tiles_tab.js";
+import { beginVerdict, lineOf } from "./verdict_card.js";
+import { view } from "./view.js";
+
+// ---- a text is opened, or typed on
+
+function opened(given, name = "") {
+  notice("");
+  openDrawer("");
+  put(given, name);
+  $("search").value = "";
+  page.found = null;
+  page.chosen = -1;
+  keepText("text", text());
+  tell("showText");
+  growNow({ isNew: true });
+}
+
+function typed(isAtOnce) {
+  keepText("text", text());
+  grownLater(isAtOnce);
+}
+
+// ---- a tile and its line
+
+function choose(kind) {
+  page.chosen = kind === page.chosen ? -1 : kind;
+  const type = page.kinds.isType ? page.chosen : -1;
+  markLine(type, true);
+  tell("chosen");
+}
+
+function markLine(type, goes) {
+  const line = lineOf(type);
+  mark({ chosen: line });
+  if (line && goes) goTo(line, false);
+}
+
+// A click on a tile marks its type, and goes to its line.
+function clicked({ x, y }) {
+  if (page.mode === "hand") return;
+  const n = page.growth.numberAt(x, y);
+  if (n < 0 || n >= page.shown) {
+    page.chosen = -1;
+    mark({ chosen: 0 });
+  } else {
+    const type = page.growth.types[n], kind = page.kinds.of[type];
+    const isSame = kind === page.chosen;
+    page.chosen = isSame ? -1 : kind;
+    if (isSame) mark({ chosen: 0 });
+    else markLine(type, true);
+  }
+  tell("chosen");
+}
+
+// The caret on the line of a tile marks its type in the picture.
+function caret(line) {
+  if (!page.system || page.kind !== "system" || page.isStale) return;
+  const words = lineAt(line).split(" ").filter(Boolean), type = words[0] === "tile" ? page.system.types.numberOf(words[1] ?? "") : -1;
+  const kind = type < 0 ? -1 : page.kinds.of[type];
+  mark({ chosen: type < 0 ? 0 : line });
+  if (kind === page.chosen) return;
+  page.chosen = kind;
+  tell("chosen");
+}
+
+function recolour(by) {
+  page.by = by;
+  if (!page.system) return;
+  const { shown } = page;
+  page.kinds = new Kinds(page.system, by);
+  page.chosen = -1;
+  beginPicture();
+  show(shown);
+  tell("recoloured");
+}
+
+// ---- keys
+
+const FIELDS = ["TEXTAREA", "SELECT", "INPUT", "BUTTON", "CANVAS"];
+
+function pressed(event) {
+  if (event.ctrlKey || event.metaKey || event.altKey || FIELDS.includes(event.target.tagName) || document.querySelector("dialog[open]")) return;
+  const keys = {
+    ArrowLeft: () => move(event.shiftKey ? -10 : -1), ArrowRight: () => move(event.shiftKey ? 10 : 1), " ": toggle,
+    Home: () => show(page.system?.seeds.length ?? 0), End: () => show(page.growth?.count ?? 0),
+    "+": () => zoomMiddle(1.5), "-": () => zoomMiddle(1 / 1.5), 0: showAll, "?": () => $("help-form").showModal(), Escape: closeMenus,
+    "/": () => $("search").focus(), e: () => $("examples").click(),
+  };
+  if (!keys[event.key]) return;
+  event.preventDefault();
+  keys[event.key]();
+}
+
+function beginDialogs() {
+  for (const it of ["help", "about"]) {
+    $(`open-${it}`).addEventListener("click", () => $(`${it}-form`).showModal());
+    $(`close-${it}`).addEventListener("click", () => $(`${it}-form`).close());
+  }
+  $("state").textContent = STATE.crates ? `Made from the sources ${STATE.crates.slice(0, 12)}` : "";
+  $("state-crates").textContent = STATE.crates;
+  $("state-module").textContent = STATE.module ? `${STATE.module}, ${STATE.bytes.toLocaleString("en")} bytes` : "none in this page";
+}
+
+// ---- what is there at the beginning
+
+// The text of a link, the one that was there before, or the first example.
+async function begin() {
+  if (isLive) return;
+  const kept = keptText("text"), linked = await textOfHash(location.hash);
+  if (linked?.bytes) {
+    if (kept) put(kept);
+    opened(linked.bytes);
+    return;
+  }
+  opened(kept || exampleText(FIRST), kept ? "" : FIRST);
+  if (linked) notice(linked.why);
+  if (lack) notice(lack);
+}
+
+async function hashChanged() {
+  const linked = await textOfHash(location.hash);
+  if (linked?.bytes) opened(linked.bytes);
+  else if (linked) notice(linked.why);
+}
+
+for (const part of [beginEditor, beginBoard, beginPointer, beginPlayer, beginLegend, beginVerdict, beginDrawer, beginTape, beginByHand, beginRivals,
+  beginCertificate, beginCommand, beginTileForm, beginTiles, beginCounterForm, beginFiles, beginMenus, beginDialogs, beginLive]) part();
+on("opened", opened);
+on("typed", typed);
+on("choose", choose);
+on("clicked", clicked);
+on("caret", caret);
+on("recolour", recolour);
+on("openTool", openDrawer);
+window.addEventListener("keydown", pressed);
+window.addEventListener("hashchange", hashChanged);
+// what the checks of the page look at
+Object.assign((window.tilebench ??= {}), { page: { state: page, view, timings, search: theSearch, tape: theTape, showSite, redraw, kindNamed } });
+begin();
