@@ -2,6 +2,7 @@
 """Bundles the page into one HTML file: its document, its style, its modules and the program's, with nothing that is fetched.
 
     page/bundle.py [--module FILE] OUT.html      the program of a module, or of none: then the page draws what it is given
+                                                 (the page tells of no crates then, as page/make alone knows of which it is made)
     page/bundle.py --of tilebench.html OUT.html  the program of a page that was made before
 
 A module of the page imports by `import { a, b as c } from "./file.js";` and exports functions, classes and constants that are
@@ -195,7 +196,7 @@ def main():
         module, crates = taken_from(read(asked.of)) if asked.of else (b"", "")
         if asked.module:
             with open(asked.module, "rb") as it:
-                module, crates = it.read(), sources.checksum()
+                module = it.read()
         text = page(module, crates)
         with open(asked.out, "w", encoding="utf-8") as it:
             it.write(text)

@@ -40,7 +40,8 @@ class ProgramWorker {
     await this.ready;
     const heard = await new Promise((resolve) => {
       this.settle = resolve;
-      this.worker.postMessage({ words, input });
+      // (the whole buffer behind a list of bytes would go along with a part of it)
+      this.worker.postMessage({ words, input: input.length < input.buffer.byteLength ? input.slice() : input });
     });
     this.settle = null;
     if (heard.answer) return heard.answer;
@@ -76,7 +77,7 @@ export class Workers {
     this.keepOne();
     const answer = worker.run(words, input).then(
       (found) => { this.giveBack(worker); return found; },
-      (error) => { worker.end(); throw error; },
+      (error) => { worker.end(); throw error instanceof Failure ? error : failure("memory"); },
     );
     return { answer, end: () => worker.end() };
   }

@@ -93,7 +93,8 @@ class Chromium(Page):
         return self.call("Page.captureScreenshot")["data"]
 
     def key(self, held, key):
-        code = CODES.get(key, ord(key.upper()) if len(key) == 1 else 0)
+        # (signs have no code here: theirs depend on the keyboard)
+        code = CODES.get(key, ord(key.upper()) if len(key) == 1 and key.isalnum() else 0)
         letter = {"Enter": "\r", "Tab": ""}.get(key, key if len(key) == 1 else "")
         bits = sum(HELD[it] for it in held)
         given = {"key": key, "windowsVirtualKeyCode": code, "modifiers": bits}

@@ -116,7 +116,8 @@ def framed(page):
         page.value(f"it.contentWindow.postMessage({{ tilebench: {{ id: 7, words: ['grow'], text: {json.dumps(CHAIN)} }} }}, '*')")
         answer = page.wait("heard.find((it) => it.id === 7)")
         assert answer["status"] == 0 and answer["out"].endswith("unique yes\n"), answer
-        page.value("it.contentWindow.postMessage({ tilebench: { id: 8, words: 5 } }, '*'); it.contentWindow.postMessage('x', '*')")
+        page.value("it.contentWindow.postMessage({ tilebench: { id: 8, words: 5 } }, '*')")
+        page.value("it.contentWindow.postMessage('x', '*')")
         page.value("it.contentWindow.postMessage({ tilebench: { id: 9, words: [5], text: '' } }, '*')")
         assert page.wait("heard.find((it) => it.id === 9)")["kind"] == "asked"
 
@@ -156,9 +157,10 @@ def checksums(page):
 def one_file(page):
     with open(page.address.removeprefix("file://"), encoding="utf-8") as it:
         text = it.read()
-    for word in ("<link", "<img", "<iframe", "<script src", "@import", "import("):
+    for word in ("<img", "<iframe", "<script src", "@import", "import("):
         assert word not in text, word
-    assert page.value("performance.getEntriesByType('resource').filter((it) => !it.name.startsWith('blob:')).map((it) => it.name)") == []
+    assert text.count("<link") == text.count('<link rel="icon" href="data:') <= 1
+    assert page.value("performance.getEntriesByType('resource').filter((it) => !/^(blob|data):/.test(it.name)).map((it) => it.name)") == []
 
 
 @check("in a browser without 64-bit memories the page says what it needs")
