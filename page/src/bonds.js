@@ -29,6 +29,8 @@ export function bondWords(system, bonds) {
   return told.length ? `${told.join(" + ")} = ${sumOf(bonds)}` : "no bond";
 }
 
+const MOST_KEPT = 200000;
+
 // Answers which types attach between glues; what was asked once is kept.
 export class Attaching {
   constructor(system) {
@@ -59,7 +61,10 @@ export class Attaching {
     const many = this.system.glues.count + 1;
     const key = facing.reduce((all, it) => all * many + it + 1, 0);
     let found = this.kept.get(key);
-    if (!found) this.kept.set(key, (found = this.found(facing)));
+    if (!found) {
+      if (this.kept.size > MOST_KEPT) this.kept.clear();
+      this.kept.set(key, (found = this.found(facing)));
+    }
     return found;
   }
 

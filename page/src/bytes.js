@@ -101,9 +101,11 @@ export function integerIn(bytes, from, to) {
   return isNegative ? -value : value;
 }
 
+export const FIRST_HASH = 0x811c9dc5, HASH_STEP = 0x01000193;
+
 export function hashOf(bytes, from, to) {
-  let hash = 0x811c9dc5;
-  for (let at = from; at < to; at++) hash = Math.imul(hash ^ bytes[at], 0x01000193);
+  let hash = FIRST_HASH;
+  for (let at = from; at < to; at++) hash = Math.imul(hash ^ bytes[at], HASH_STEP);
   return hash >>> 0;
 }
 
@@ -153,6 +155,15 @@ export class Names {
     for (let n = 0; n < this.count; n++) {
       this.slots[this.slotOf(this.sources[n], this.spans[2 * n], this.spans[2 * n + 1])] = n;
     }
+  }
+
+  // All names as one piece: their signs, where each begins, and the slots of their hashes.
+  packed() {
+    const starts = new Int32Array(this.count + 1);
+    for (let n = 0; n < this.count; n++) starts[n + 1] = starts[n] + this.spans[2 * n + 1] - this.spans[2 * n];
+    const signs = new Uint8Array(starts[this.count]);
+    for (let n = 0; n < this.count; n++) signs.set(this.bytesOf(n), starts[n]);
+    return { slots: this.slots, starts, signs };
   }
 
   bytesOf(n) {

@@ -49,7 +49,7 @@ function beginDrop() {
 const SAVED = {
   "save-system": () => download(KINDS[page.kind].file, editedBytes()),
   "save-compiled": () => download("system.tiles", page.systemBytes),
-  "save-growth": () => download("growth.grown", joined([placesBytes(page.growth), encode(page.meanings.map((it) => `${it.words.join(" ")}\n`).join(""))])),
+  "save-growth": () => download("growth.grown", joined([placesBytes(page.growth), encode(page.meanings.filter((it) => ["closed", "unique"].includes(it.words[0])).map((it) => `${it.words.join(" ")}\n`).join(""))])),
   "save-certificate": () => download("assembly.certificate", theCertificate()),
   "save-svg": () => download("assembly.svg", svgText(), "image/svg+xml"),
   "save-png": async () => download("assembly.png", await pngBlob()),

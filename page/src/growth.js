@@ -1,5 +1,5 @@
 // Reads what stands behind a system: places, frames, marks of a certificate, and the lines that tell something.
-import { Fault, Lines, encode, joined } from "./bytes.js";
+import { FIRST_HASH, Fault, HASH_STEP, Lines, encode, joined } from "./bytes.js";
 import { LETTERS, typeIn } from "./system.js";
 
 export const ANSWERS = ["closed", "unique", "legal", "stuck", "verified"];
@@ -68,33 +68,40 @@ export function readGrowth(system, bytes, from = system.length, number = system.
   return growth;
 }
 
-// Reads lines as the program prints them, `place X Y NAME`, as long as they are so; always true.
+// Reads lines as the program prints them, `place X Y NAME`, as long as they are so; always true. (All is written out within
+// one loop: a large growth has a million of them.)
 function readPlaces(growth, lines) {
-  const { system } = growth, { bytes } = lines, { types } = system, [x0, , , y1] = system.box;
+  const { system } = growth, { bytes } = lines, [x0, y0, x1, y1] = system.box, { wide } = system;
   if (growth.isFramed || growth.told.length) return true;
-  let at = lines.at, value = 0;
-  const integer = () => {
-    const isNegative = bytes[at] === MINUS;
-    if (isNegative) at++;
-    const first = at;
-    for (value = 0; bytes[at] >= 48 && bytes[at] <= 57; at++) value = value * 10 + bytes[at] - 48;
-    if (isNegative) value = -value;
-    return at > first && at < first + 8 && bytes[at++] === SPACE;
-  };
-  for (;;) {
-    at = lines.at;
+  const { slots, starts, signs } = system.types.packed(), mask = slots.length - 1;
+  for (let at = lines.at; ; lines.at = at, lines.number++) {
     if (bytes[at] !== 112 || bytes[at + 1] !== 108 || bytes[at + 4] !== 101 || bytes[at + 5] !== SPACE) return true;
+    let x = 0, y = 0;
     at += 6;
-    if (!integer()) return true;
-    const x = value;
-    if (!integer()) return true;
-    const y = value, begin = at;
-    while (at < bytes.length && bytes[at] !== NEWLINE && bytes[at] !== SPACE) at++;
-    const type = bytes[at] === NEWLINE ? types.find(bytes, begin, at) : -1;
-    if (type < 0 || !system.isInside(x, y)) return true;
-    growth.add((y1 - y) * system.wide + x - x0, type);
-    lines.at = at + 1;
-    lines.number++;
+    for (let n = 0; n < 2; n++) {
+      const isNegative = bytes[at] === MINUS, first = isNegative ? ++at : at;
+      let value = 0;
+      for (let digit = bytes[at] - 48; digit >= 0 && digit <= 9; digit = bytes[++at] - 48) value = value * 10 + digit;
+      if (at === first || at > first + 7 || bytes[at++] !== SPACE) return true;
+      x = y;
+      y = isNegative ? -value : value;
+    }
+    if (x < x0 || x > x1 || y < y0 || y > y1) return true;
+    const begin = at;
+    let hash = FIRST_HASH;
+    while (bytes[at] > SPACE) hash = Math.imul(hash ^ bytes[at++], HASH_STEP);
+    const length = at - begin;
+    if (bytes[at++] !== NEWLINE) return true;
+    for (let slot = hash & mask; ; slot = (slot + 1) & mask) {
+      const type = slots[slot];
+      if (type < 0) return true;
+      const from = starts[type];
+      let same = starts[type + 1] - from === length ? 0 : -1;
+      while (same >= 0 && same < length) same = signs[from + same] === bytes[begin + same] ? same + 1 : -1;
+      if (same < 0) continue;
+      growth.add((y1 - y) * wide + x - x0, type);
+      break;
+    }
   }
 }
 

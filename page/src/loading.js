@@ -17,8 +17,8 @@ import { setTape } from "./tape_panel.js";
 import { refusedVerdict, verdictOf } from "./verdict.js";
 import { fit, view } from "./view.js";
 
-// how long the last growth took, for the pause in typing; when the last key came; what was grown last
-const timing = { took: 20, key: 0, picture: 0 };
+// how long the last growth took, for the pause in typing; when the last key came, and its picture; how many texts were done
+const timing = { took: 20, key: 0, picture: 0, count: 0 };
 let last = null, asked = 0;
 
 export const timings = timing;
@@ -50,6 +50,7 @@ export async function growNow({ isNew = false, words = [] } = {}) {
   busy.stop();
   $("busy").hidden = true;
   timing.took = performance.now() - began;
+  timing.count++;
 }
 
 const later = paused(() => growNow());
@@ -60,7 +61,7 @@ export function grownLater(isAtOnce) {
   typing.stop();
   asked++;
   last = null;
-  later(isAtOnce ? 0 : Math.max(25, Math.min(250, timing.took / 2)));
+  later(isAtOnce ? 0 : Math.max(20, Math.min(120, timing.took / 4)));
 }
 
 // Puts what grew on the page.

@@ -1,12 +1,12 @@
 // The page: begins its parts, and ties them together.
 import { STATE } from "../generated.js";
-import { beginBoard, redraw, showAll, showSite, zoomMiddle } from "./board.js";
+import { beginBoard, drawNow, redraw, showAll, showSite, zoomMiddle } from "./board.js";
 import { beginByHand } from "./by_hand.js";
 import { beginCertificate } from "./certificate.js";
 import { Kinds } from "./colours.js";
 import { beginCommand } from "./command.js";
 import { beginCounterForm } from "./counter_form.js";
-import { $ } from "./dom.js";
+import { $, paused } from "./dom.js";
 import { beginDrawer, openDrawer } from "./drawer.js";
 import { beginEditor, goTo, lineAt, mark, put, text } from "./editor.js";
 import { beginFiles, notice } from "./files.js";
@@ -19,6 +19,7 @@ import { beginPicture } from "./picture.js";
 import { beginPlayer, move, show, toggle } from "./player.js";
 import { beginPointer } from "./pointer.js";
 import { lack } from "./program.js";
+import { reasons } from "./refusals.js";
 import { beginRivals, theSearch } from "./rivals.js";
 import { textOfHash } from "./share.js";
 import { on, page, tell } from "./state.js";
@@ -43,9 +44,15 @@ function opened(given, name = "") {
   growNow({ isNew: true });
 }
 
+const keeping = paused(() => keepText("text", text()));
+
 function typed(isAtOnce) {
-  keepText("text", text());
+  keeping(300);
   grownLater(isAtOnce);
+}
+
+function keepNow() {
+  if (keeping.isDue()) keepText("text", text());
 }
 
 // ---- a tile and its line
@@ -162,6 +169,7 @@ on("recolour", recolour);
 on("openTool", openDrawer);
 window.addEventListener("keydown", pressed);
 window.addEventListener("hashchange", hashChanged);
+window.addEventListener("pagehide", keepNow);
 // what the checks of the page look at
-Object.assign((window.tilebench ??= {}), { page: { state: page, view, timings, search: theSearch, tape: theTape, showSite, redraw, kindNamed } });
+Object.assign((window.tilebench ??= {}), { page: { state: page, view, timings, search: theSearch, tape: theTape, showSite, redraw, drawNow, kindNamed, reasons } });
 begin();

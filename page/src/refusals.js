@@ -5,15 +5,17 @@ import { guessBytes, guessHeader, guessLine, guessName, guessNumber, guessRange,
   guessDouble } from "./guesses.js";
 import { RefusedText, visible, wordsIn } from "./refused_text.js";
 
+const SHOWN = 600;
 const kindOf = (command) => REFUSALS.KINDS[command] ?? REFUSALS.KINDS.system;
 
 // What is to be said of a refused text, line by line.
 export function reasons(bytes, number, cause, command) {
-  const text = new RefusedText(bytes), line = text.line(number);
+  // (a line that is much too long is shown by its start)
+  const text = new RefusedText(bytes), whole = text.line(number), line = whole && whole.subarray(0, SHOWN);
   const words = wordsIn(line ?? new Uint8Array()), limit = REFUSALS.LIMITS[words[0] ?? ""] ?? "more than there may be";
   const said = (REFUSALS.CAUSES[cause] ?? "a cause that this page does not know")
     .replace("{limit}", limit).replace("{header}", kindOf(command).header);
-  const shown = line ? `    ${visible(line)}` : number ? "    (behind the last line)" : "    (the whole input)";
+  const shown = line ? `    ${visible(line)}${whole.length > SHOWN ? " .." : ""}` : number ? "    (behind the last line)" : "    (the whole input)";
   const it = { text, line: line ?? new Uint8Array(), words, number, command, kind: kindOf(command), cause, isPast: !line };
   return [`line ${number}: ${cause}: ${said}`, shown, ...[...guesses(it)].map((guess) => `  - ${guess}`)];
 }
