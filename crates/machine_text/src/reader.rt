@@ -20,6 +20,7 @@ pub fn read_machine(alloc: Global, text: &[u8], from: Mark) -> Result<(Machine, 
     requires mark { IsMark text.now from }
     ensures read { ReadsOrStops machine_format text.now from
         (λ found. ReadsMachine text.now from found.0 found.1) result }
+    ensures mark { IfOk result (λ found. IsMark text.now found.1) }
     ensures valid { IfOk result (λ found. IsMachine found.0) }
 {
     let Ok(parts) = MachineParts::new(alloc) else {

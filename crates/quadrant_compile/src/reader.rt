@@ -24,6 +24,7 @@ pub fn read_quadrant(alloc: Global, text: &[u8], from: Mark) -> Result<(Quadrant
     requires mark { IsMark text.now from }
     ensures read { ReadsOrStops quadrant_format text.now from
         (λ found. ReadsQuadrant text.now from found.0 found.1) result }
+    ensures mark { IfOk result (λ found. IsMark text.now found.1) }
     ensures valid { IfOk result (λ found. IsWeave found.0) }
 {
     let Ok(parts) = QuadrantParts::new(alloc) else {

@@ -11,15 +11,15 @@ module _ {S : Type 0} (left : S → Option (List ℕ)) (faults : S → ℕ) (old
     pub taken : TakesOn (left old) (left new) [] text
     pub short : length text ≤ 67108864
     pub whole : is_whole ≡ true → IsAtEnd (left new)
-    pub stays : faults new ≡ faults old
+    pub later : faults old ≤ faults new
 
   pub begun_text : (text : List ℕ) (is_whole : Bool) → ReadsUpTo left faults [] text 1048576 old new is_whole → IsBegun text is_whole
   begun_text text true read =
       let few : length text < 1048576 = read.2 in
-      record { taken = read.0; short = omega (arith, few); whole = λ _. read.1; stays = read.3 }
+      record { taken = read.0; short = omega (arith, few); whole = λ _. read.1; later = read.3 }
   begun_text text false read =
       let full : length text ≡ 1048576 = read.1 in
-      record { taken = read.0; short = omega (arith, full); whole = λ is. absurd (true≢false (sym is)); stays = read.2 }
+      record { taken = read.0; short = omega (arith, full); whole = λ is. absurd (true≢false (sym is)); later = read.2 }
 
   -- what stopped before a block was full stopped before the text was too long
   pub stops_begun : (front : List ℕ) (stop : ReadStop) → StopsBefore left faults front 1048576 old new stop → IsUnread left faults front old new stop

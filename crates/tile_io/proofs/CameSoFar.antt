@@ -1,5 +1,6 @@
 -- A text that comes in blocks, as far as it came and as far as its lines were taken.
 use Rattle.std.proofs.Common.{◌≡◌, ◌≤◌, ◌+◌, ◌-◌, ℕ, true, List, [], ◌++◌, length, take, drop, Option, Ok, Err, refl, sym, ap, subst, ◌∙◌, arith, length-append, length-drop, length-take-le, append_assoc, append-nil, take-append-drop}
+use Rattle.std.proofs.Math.Nat.{le_refl, le_trans}
 use Rattle.std.proofs.lemmas.List.{drop_at}
 use Rattle.std.proofs.lemmas.List.Elements.{All-append}
 use Rattle.std.specs.Io.KnownBytes.{Consumes, IsAtEnd}
@@ -13,7 +14,6 @@ use Rattle.tile_io.specs.declared.whole.ReadStop.{ReadStop}
 use Rattle.tile_io.specs.declared.whole.ReadStop.TheVariants.{Failed, TooLong, NoMemory}
 use Rattle.tile_io.specs.declared.blocks.InputStop.TheVariants.{Unread}
 use Rattle.tile_io.specs.Blocks.{TakesOn, IsWholeText, ReadsInBlocks, stop_of_text}
-use Rattle.tile_io.specs.Faults.{Rose}
 use Rattle.tile_io.specs.Formats.{Format, ReadsOrStops, missing_cause}
 use Rattle.tile_io.specs.Checks.{Table, table_format}
 use Rattle.tile_io.specs.LineReader.{ReadsInto}
@@ -24,6 +24,7 @@ use Rattle.tile_io.specs.Inner.Stops.{IsStopBelow, stop_after}
 use Rattle.tile_io.specs.Inner.Stretches.{Progress, ReadsSoFar, EndsInto, IsStretch, ReadsRest, moved}
 use Rattle.tile_io.proofs.TakenOn.{takes_more}
 use Rattle.tile_io.proofs.Coming.{comes_none}
+use Rattle.tile_io.proofs.Rising.{Rose-then}
 use Rattle.tile_io.proofs.Prefixes.{AllEnded, progress_on, end_line_on, fault_on, all_ended, passed_ended}
 use Rattle.tile_io.proofs.Progress.{progress_none, same_marks, rest_of, start}
 use Rattle.tile_io.proofs.Stretching.{fault_few, told_here, last_ends, last_fails}
@@ -102,7 +103,7 @@ module _ {S : Type 0} (left : S → Option (List ℕ)) (faults : S → ℕ) {Ite
   pub record CameSoFar (old now : S) (Holds : List Item → Type 0) (kept : List ℕ) (came passed : ℕ) (missing : Cause) : Type 0 where
     pub part : List ℕ
     pub taken : TakesOn (left old) (left now) front (part ++ kept)
-    pub stays : faults now ≡ faults old
+    pub later : faults old ≤ faults now
     pub so_far : ReadsSoFar format part from Holds (behind_part part passed) missing
     pub count : came ≡ length part + length kept
     pub short : came ≤ 67108864
@@ -122,7 +123,7 @@ module _ {S : Type 0} (left : S → Option (List ℕ)) (faults : S → ℕ) {Ite
       record {
         part = part;
         taken = ([], (comes_none left faults (length front) source short).taken, take-append-drop from.at front ∙ sym (append-nil front));
-        stays = refl;
+        later = le_refl (faults source);
         so_far = record { items = []; held = empty; progress = subst At same (progress_none format part from); missing_is = refl };
         count = omega (arith, size, rest, within);
         short = short;
@@ -141,7 +142,7 @@ module _ {S : Type 0} (left : S → Option (List ℕ)) (faults : S → ℕ) {Ite
         record {
           part = before.part;
           taken = subst Taken onward (takes_more (left old) (left now) (left next) front (before.part ++ kept) more before.taken comes.taken);
-          stays = comes.stays ∙ before.stays;
+          later = le_trans before.later comes.later;
           so_far = before.so_far;
           count = omega (arith, size, total, count);
           short = comes.short;
@@ -171,7 +172,7 @@ module _ {S : Type 0} (left : S → Option (List ℕ)) (faults : S → ℕ) {Ite
         record {
           part = part ++ cut;
           taken = subst Taken whole before.taken;
-          stays = before.stays;
+          later = before.later;
           so_far = record { items = so_far.items; held = so_far.held; progress = subst At same so_far.progress; missing_is = so_far.missing_is };
           count = omega (arith, size, rest, front_size, total, within);
           short = before.short;
@@ -187,14 +188,14 @@ module _ {S : Type 0} (left : S → Option (List ℕ)) (faults : S → ℕ) {Ite
         record { taken = before.taken; at_end = end; short = omega (arith, size, count, short) }
 
     -- or the rest of it comes,
-    pub rest_came : (next : S) (more : List ℕ) → Comes left faults came (came + length more) more now next → IsAtEnd (left next) → IsWholeText (left old) (left next) front ((before.part ++ kept) ++ more) × (faults next ≡ faults old)
+    pub rest_came : (next : S) (more : List ℕ) → Comes left faults came (came + length more) more now next → IsAtEnd (left next) → IsWholeText (left old) (left next) front ((before.part ++ kept) ++ more) × (faults old ≤ faults next)
     rest_came next more comes end =
         let size : length ((before.part ++ kept) ++ more) ≡ length (before.part ++ kept) + length more = length-append (before.part ++ kept) more in
         let here : length (before.part ++ kept) ≡ length before.part + length kept = length-append before.part kept in
         let count : came ≡ length before.part + length kept = before.count in
         let short : came + length more ≤ 67108864 = comes.short in (
           record { taken = takes_more (left old) (left now) (left next) front (before.part ++ kept) more before.taken comes.taken; at_end = end; short = omega (arith, size, here, count, short) },
-          comes.stays ∙ before.stays,
+          le_trans before.later comes.later,
         )
 
     more_taken : (next : S) (more : List ℕ) → Consumes (left now) (left next) more → TakesOn (left old) (left next) front ((before.part ++ kept) ++ more) × (length ((before.part ++ kept) ++ more) ≡ came + length more)
@@ -208,10 +209,9 @@ module _ {S : Type 0} (left : S → Option (List ℕ)) (faults : S → ℕ) {Ite
     pub stops_coming : {Answer : Type 0} (IsReadAs : List ℕ → Answer → Type 0) (next : S) (stop : ReadStop) → StopsComing left faults came now next stop → ReadsInBlocks left faults format front from IsReadAs old next (Err (Unread stop))
     stops_coming IsReadAs next Failed h =
         let all = more_taken next h.0.0 h.0.1 in
-        let Raised : ℕ → Type 0 = λ f. Rose f (faults next) in
-        (((before.part ++ kept) ++ h.0.0, all.0, (let few = h.0.2 in omega (arith, all.1, few))), subst Raised before.stays h.1)
-    stops_coming IsReadAs next TooLong h = let all = more_taken next h.0.0 h.0.1 in (((before.part ++ kept) ++ h.0.0, all.0, all.1 ∙ h.0.2), h.1 ∙ before.stays)
-    stops_coming IsReadAs next NoMemory h = let all = more_taken next h.0.0 h.0.1 in (((before.part ++ kept) ++ h.0.0, all.0, (let few = h.0.2 in omega (arith, all.1, few))), h.1 ∙ before.stays)
+        (((before.part ++ kept) ++ h.0.0, all.0, (let few = h.0.2 in omega (arith, all.1, few))), Rose-then before.later h.1)
+    stops_coming IsReadAs next TooLong h = let all = more_taken next h.0.0 h.0.1 in (((before.part ++ kept) ++ h.0.0, all.0, all.1 ∙ h.0.2), le_trans before.later h.1)
+    stops_coming IsReadAs next NoMemory h = let all = more_taken next h.0.0 h.0.1 in (((before.part ++ kept) ++ h.0.0, all.0, (let few = h.0.2 in omega (arith, all.1, few))), le_trans before.later h.1)
 
     module _ (count : ℕ) (more : List ℕ) (After : List Item → Type 0) where
       -- what comes behind whole lines
@@ -242,5 +242,5 @@ module _ {S : Type 0} (left : S → Option (List ℕ)) (faults : S → ℕ) {Ite
         stop_few format whole from bytes passed Holds stop (subst Here (sym is.taken.2) (mark is.taken.0)) is.short fails
 
     -- and is one of the text
-    pub whole_stops : {Answer : Type 0} (IsReadAs : List ℕ → Answer → Type 0) → faults new ≡ faults old → ReadsInBlocks left faults format front from IsReadAs old new (Err (stop_of_text (stop_after passed stop)))
+    pub whole_stops : {Answer : Type 0} (IsReadAs : List ℕ → Answer → Type 0) → faults old ≤ faults new → ReadsInBlocks left faults format front from IsReadAs old new (Err (stop_of_text (stop_after passed stop)))
     whole_stops IsReadAs same = stopped left faults format front from IsReadAs old new whole (stop_after passed stop) is same (rest_stops format whole from bytes passed Holds (IsReadAs whole) stop fails)

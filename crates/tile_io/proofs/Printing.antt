@@ -2,10 +2,11 @@
 use Rattle.std.proofs.Common.{◌≡◌, ◌<◌, ℕ, zero, suc, ◌+◌, List, [], ◌∷◌, ◌++◌, length, take, drop, flat_map, get_or, Option, Some, None, Result, Ok, Err, ◌∙◌, ap, sym, subst, append_assoc, append-nil, add-one, arith, refl}
 use Rattle.std.proofs.Math.Nat.{le_trans}
 use Rattle.std.specs.Io.KnownBytes.{Appends}
-use Rattle.tile_io.specs.Faults.{HasCause, next_count}
+use Rattle.tile_io.specs.Faults.{HasCause}
 use Rattle.tile_io.specs.Prints.{AppendsFront, Prints}
 use Rattle.tile_io.specs.Chunks.{Carries, PassesOn}
 use Rattle.tile_io.proofs.Bytes.{Appends-then, Front-after}
+use Rattle.tile_io.proofs.Rising.{Rose-then}
 
 -- doing nothing appends nothing
 Appends-nothing : (a : Option (List ℕ)) → Appends a a []
@@ -37,12 +38,12 @@ Front-carried a b c i j p q first failed =
 module _ {S : Type 0} {faults : S → ℕ} where
   -- a call that succeeds, and then another
   HasCause-then : {T U E F : Type 0} {a b c : S} {x : T} (r : Result U F) → HasCause {T = T} {E = E} faults a b (Ok x) → HasCause faults b c r → HasCause faults a c r
-  HasCause-then (Ok y) first second = record { stays = second.stays ∙ first.stays; failed = tt; later = le_trans first.later second.later }
-  HasCause-then (Err e) first second = record { stays = tt; failed = second.failed ∙ ap next_count first.stays; later = le_trans first.later second.later }
+  HasCause-then (Ok y) first second = record { failed = tt; later = le_trans first.later second.later }
+  HasCause-then (Err e) first second = record { failed = Rose-then first.later second.failed; later = le_trans first.later second.later }
 
   -- a call that failed, told as another error
   HasCause-failed : {T U E F : Type 0} {a b : S} {e : E} {d : F} → HasCause {T = T} faults a b (Err e) → HasCause {T = U} faults a b (Err d)
-  HasCause-failed cause = record { stays = tt; failed = cause.failed; later = cause.later }
+  HasCause-failed cause = record { failed = cause.failed; later = cause.later }
 
 -- a sink, by what was written to it and the count of its faults
 module _ {S : Type 0} {written : S → Option (List ℕ)} {faults : S → ℕ} where
@@ -131,7 +132,7 @@ module _ {S : Type 0} {written : S → Option (List ℕ)} {faults : S → ℕ} w
       let all : i ++ p ≡ out ++ k =
       ap (λ l. l ++ p) (sym (append-nil i)) ∙ ap (λ l. l ++ p) passed.taken.2 ∙ append_assoc out j p ∙ ap (λ l. out ++ l) (sym held)
       in
-      record { taken = (out, passed.taken.1, all); front = tt; dropped = tt; cause = HasCause-then (Ok y) passed.cause (record { stays = refl; failed = tt; later = omega arith }) }
+      record { taken = (out, passed.taken.1, all); front = tt; dropped = tt; cause = HasCause-then (Ok y) passed.cause (record { failed = tt; later = omega arith }) }
 
   -- all that was held goes out, and then a piece that is written past the chunk
   pub PassesOn-past : {T U E F : Type 0} {a b c : S} {i j : List ℕ} {x : T} {p : List ℕ} (r : Result U F) → j ≡ [] →

@@ -1,5 +1,5 @@
 -- Why a source was not read whole.
-use Rattle.std.proofs.Common.{◌≡◌, ◌≤◌, ◌+◌, ℕ, List, [], ◌++◌, length, length-append, Option, Err, refl, ap, arith}
+use Rattle.std.proofs.Common.{◌≡◌, ◌≤◌, ◌+◌, ℕ, List, [], ◌++◌, length, length-append, Option, Err, ap, arith}
 use Rattle.tile_io.specs.declared.whole.ReadStop.{ReadStop}
 use Rattle.tile_io.specs.declared.whole.ReadStop.TheVariants.{Failed, TooLong, NoMemory}
 use Rattle.tile_io.specs.Blocks.{StopsBefore}
@@ -27,12 +27,10 @@ module _ {S Bytes : Type 0} (left : S → Option (List ℕ)) (faults : S → ℕ
         no_memory = λ is. absurd (cc is);
         failed = λ _. (read.0.1.0, read.0.1.1, (let few = read.0.2 in omega (arith, size, few)));
         rose = λ _. raised;
-        stays = λ is. absurd (is refl);
         later = later;
       }
   not_whole NoMemory read =
       let size = taken_size read.0.0 read.0.1.0 read.0.1.2 in
-      let same : faults new ≡ faults old = read.1 in
       record {
         bytes = tt;
         end = tt;
@@ -41,7 +39,6 @@ module _ {S Bytes : Type 0} (left : S → Option (List ℕ)) (faults : S → ℕ
         no_memory = λ _. (read.0.1.0, read.0.1.1, (let few = read.0.2 in omega (arith, size, few)));
         failed = λ is. absurd (cc is);
         rose = λ is. absurd (cc is);
-        stays = λ _. same;
         later = later;
       }
   not_whole TooLong read = absurd read

@@ -26,13 +26,13 @@ stop_of_text stops.NoMemory = Unread NoMemory
 module _ {S : Type 0} (left : S → Option (List ℕ)) (faults : S → ℕ) where
   -- bytes were taken until there were so many, or up to the source's end, where there are fewer
   abbrev pub ReadsUpTo : List ℕ → List ℕ → ℕ → S → S → Bool → Type 0
-  ReadsUpTo front whole most old new true = TakesOn (left old) (left new) front whole × IsAtEnd (left new) × (length whole < most) × (faults new ≡ faults old)
-  ReadsUpTo front whole most old new false = TakesOn (left old) (left new) front whole × (length whole ≡ most) × (faults new ≡ faults old)
+  ReadsUpTo front whole most old new true = TakesOn (left old) (left new) front whole × IsAtEnd (left new) × (length whole < most) × (faults old ≤ faults new)
+  ReadsUpTo front whole most old new false = TakesOn (left old) (left new) front whole × (length whole ≡ most) × (faults old ≤ faults new)
 
   -- before there were so many, the source failed, or there was no memory
   abbrev pub StopsBefore : List ℕ → ℕ → S → S → ReadStop → Type 0
   StopsBefore front most old new Failed = ((all : List ℕ) × TakesOn (left old) (left new) front all × (length all < most)) × Rose (faults old) (faults new)
-  StopsBefore front most old new NoMemory = ((all : List ℕ) × TakesOn (left old) (left new) front all × (length all < most)) × (faults new ≡ faults old)
+  StopsBefore front most old new NoMemory = ((all : List ℕ) × TakesOn (left old) (left new) front all × (length all < most)) × (faults old ≤ faults new)
   StopsBefore front most old new TooLong = ⊥
 
   -- one or the other
@@ -50,8 +50,8 @@ module _ {S : Type 0} (left : S → Option (List ℕ)) (faults : S → ℕ) wher
   -- why a text that begins with these bytes did not come whole: the source failed; or the text was found to be too long; or there was no memory
   abbrev pub IsUnread : List ℕ → S → S → ReadStop → Type 0
   IsUnread front old new Failed = ((all : List ℕ) × TakesOn (left old) (left new) front all × (length all ≤ MOST_INPUT)) × Rose (faults old) (faults new)
-  IsUnread front old new TooLong = ((all : List ℕ) × TakesOn (left old) (left new) front all × (length all ≡ MOST_INPUT + 1)) × (faults new ≡ faults old)
-  IsUnread front old new NoMemory = ((all : List ℕ) × TakesOn (left old) (left new) front all × (length all ≤ MOST_INPUT)) × (faults new ≡ faults old)
+  IsUnread front old new TooLong = ((all : List ℕ) × TakesOn (left old) (left new) front all × (length all ≡ MOST_INPUT + 1)) × (faults old ≤ faults new)
+  IsUnread front old new NoMemory = ((all : List ℕ) × TakesOn (left old) (left new) front all × (length all ≤ MOST_INPUT)) × (faults old ≤ faults new)
 
   -- a text was begun by the first block of what was left of a source, or by all of it where that is less
   abbrev pub Begins : S → S → Result Begun ReadStop → Type 0
@@ -60,16 +60,16 @@ module _ {S : Type 0} (left : S → Option (List ℕ)) (faults : S → ℕ) wher
 
   -- a text that begins with these bytes was read whole
   abbrev pub Completes : {Text : Type 0} → (Text → List ℕ) → List ℕ → S → S → Result Text ReadStop → Type 0
-  Completes bytes front old new (Ok text) = IsWholeText (left old) (left new) front (bytes text) × (faults new ≡ faults old)
+  Completes bytes front old new (Ok text) = IsWholeText (left old) (left new) front (bytes text) × (faults old ≤ faults new)
   Completes bytes front old new (Err stop) = IsUnread front old new stop
 
   module _ {Item : Type 0} (format : Format Item) (front : List ℕ) (from : Mark) where
     -- the whole text has this fault, or did not come
     abbrev pub StopsInBlocks : S → S → InputStop → Type 0
-    StopsInBlocks old new (Refused fault) = ((whole : List ℕ) × IsWholeText (left old) (left new) front whole × Fault format whole from fault.line fault.cause) × (faults new ≡ faults old)
+    StopsInBlocks old new (Refused fault) = ((whole : List ℕ) × IsWholeText (left old) (left new) front whole × Fault format whole from fault.line fault.cause) × (faults old ≤ faults new)
     StopsInBlocks old new (Unread stop) = IsUnread front old new stop
 
     -- the whole text reads as what is answered
     abbrev pub ReadsInBlocks : {Answer : Type 0} → (List ℕ → Answer → Type 0) → S → S → Result Answer InputStop → Type 0
-    ReadsInBlocks IsReadAs old new (Ok answer) = ((whole : List ℕ) × IsWholeText (left old) (left new) front whole × IsReadAs whole answer) × (faults new ≡ faults old)
+    ReadsInBlocks IsReadAs old new (Ok answer) = ((whole : List ℕ) × IsWholeText (left old) (left new) front whole × IsReadAs whole answer) × (faults old ≤ faults new)
     ReadsInBlocks IsReadAs old new (Err stop) = StopsInBlocks old new stop

@@ -21,5 +21,4 @@ pub record ReadsWhole {S Bytes : Type 0} (left : S → Option (List ℕ)) (fault
   pub no_memory : IsErrOf result NoMemory → ConsumesAtMost left old new MOST_INPUT
   pub failed : IsErrOf result Failed → ConsumesAtMost left old new MOST_INPUT
   pub rose : IsErrOf result Failed → Rose (faults old) (faults new)
-  pub stays : ¬ IsErrOf result Failed → faults new ≡ faults old
   pub later : faults old ≤ faults new

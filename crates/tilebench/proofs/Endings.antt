@@ -30,7 +30,7 @@ no_read_fault false is = cc
 
 module _ {K : Type 0} (written : K → Option (List ℕ)) (faults : K → ℕ) (old new : K) (told outcome : Status) (text : List ℕ) where
   pub written_later : Writes written faults old new told outcome text → faults old ≤ faults new
-  written_later (inl whole) = let same = whole.quiet in omega arith
+  written_later (inl whole) = whole.later
   written_later (inr cut) = cut.later
 
 module _ {S K E : Type 0} (read_faults : S → ℕ) (written : K → Option (List ℕ)) (out_faults : K → ℕ) (told : E → Option (List ℕ)) (err_faults : E → ℕ)
@@ -46,11 +46,11 @@ module _ {S K E : Type 0} (read_faults : S → ℕ) (written : K → Option (Lis
     After = Ends read_faults written out_faults told err_faults Answer' Refusal' WordsRefusal' source after out out_after err err_after
 
     pub Ends-map : (s : Status) (grown : Option GrownValue) → Before s grown → After s grown
-    Ends-map status.Done grown (gained, same) = (record { text = gained.text; said = answer grown true gained.text gained.said; whole = gained.whole; quiet = gained.quiet }, same)
-    Ends-map status.No grown (gained, same) = (record { text = gained.text; said = answer grown false gained.text gained.said; whole = gained.whole; quiet = gained.quiet }, same)
+    Ends-map status.Done grown (gained, same) = (record { text = gained.text; said = answer grown true gained.text gained.said; whole = gained.whole }, same)
+    Ends-map status.No grown (gained, same) = (record { text = gained.text; said = answer grown false gained.text gained.said; whole = gained.whole }, same)
     Ends-map status.Words grown ((gained, same, unread), none) =
-        ((record { text = gained.text; said = words gained.text gained.said; whole = gained.whole; quiet = gained.quiet }, same, unread), none)
-    Ends-map status.Text grown ((gained, same), none) = ((record { text = gained.text; said = refusal gained.text gained.said; whole = gained.whole; quiet = gained.quiet }, same), none)
+        ((record { text = gained.text; said = words gained.text gained.said; whole = gained.whole }, same, unread), none)
+    Ends-map status.Text grown ((gained, same), none) = ((record { text = gained.text; said = refusal gained.text gained.said; whole = gained.whole }, same), none)
     Ends-map status.ReadFault grown ends = ends
     Ends-map status.WriteFault grown (inl (cut, same), none) =
         let (lost, is_yes, said) = cut.said in
@@ -92,19 +92,19 @@ module _ {S K E : Type 0} (read_faults : S → ℕ) (written : K → Option (Lis
     pub run_ended : (result : Result (A × Option GrownValue) Stop) (ran : Ran) → Given result → Told result ran → Ended ran.status ran.grown
     run_ended (Ok found) ran given (inl (whole, handed), same) =
         ended_as ran (answer_status (positive found.0)) found.1 whole.is handed
-        (ended_answer found.1 (positive found.0) (record { text = text found.0; said = given.0.answer; whole = whole.whole; quiet = whole.quiet }) same)
+        (ended_answer found.1 (positive found.0) (record { text = text found.0; said = given.0.answer; whole = whole.whole }) same)
     run_ended (Ok found) ran given (inr (cut, none), same) =
         ended_as ran status.WriteFault None cut.is none
         (inl (record { text = text found.0; said = (found.1, positive found.0, given.0.answer); front = cut.front; fault = cut.fault }, same), refl)
     run_ended (Err (Text fault)) ran given (inl whole, none, same) =
         ended_as ran status.Text None whole.is none
-        ((record { text = refused_text fault; said = fault_line fault given.0; whole = whole.whole; quiet = whole.quiet }, same), refl)
+        ((record { text = refused_text fault; said = fault_line fault given.0; whole = whole.whole }, same), refl)
     run_ended (Err (Text fault)) ran given (inr cut, none, same) =
         ended_as ran status.WriteFault None cut.is none
         (inr (record { text = refused_text fault; said = inl (fault_line fault given.0); front = cut.front; fault = cut.fault }, same), refl)
     run_ended (Err (Counter stop)) ran given (inl whole, none, same) =
         ended_as ran status.Words None whole.is none
-        ((record { text = refused_counter stop; said = numbers_line stop given.0; whole = whole.whole; quiet = whole.quiet }, same, given.1), refl)
+        ((record { text = refused_counter stop; said = numbers_line stop given.0; whole = whole.whole }, same, given.1), refl)
     run_ended (Err (Counter stop)) ran given (inr cut, none, same) =
         ended_as ran status.WriteFault None cut.is none
         (inr (record { text = refused_counter stop; said = inr (numbers_line stop given.0); front = cut.front; fault = cut.fault }, same), refl)
@@ -112,16 +112,8 @@ module _ {S K E : Type 0} (read_faults : S → ℕ) (written : K → Option (Lis
     run_ended (Err NoMemory) ran given ((is, same_err), none, same_out) = ended_as ran status.NoMemory None is none ((same_out, same_err), refl)
     run_ended (Err (Words stop)) ran given told = absurd given
 
-    pub run_quiet : (result : Result (A × Option GrownValue) Stop) (ran : Ran) → Given result → Told result ran → ran.status ≢ status.ReadFault → read_faults after ≡ read_faults source
-    run_quiet (Ok found) ran given told other = given.1
-    run_quiet (Err (Text fault)) ran given told other = given.1
-    run_quiet (Err (Counter stop)) ran given told other = ap read_faults given.1
-    run_quiet (Err ReadFault) ran given ((is, same_err), none, same_out) other = absurd (other is)
-    run_quiet (Err NoMemory) ran given told other = given
-    run_quiet (Err (Words stop)) ran given told other = absurd given
-
     answer_later : (is_yes : Bool) (text : List ℕ) (grown : Option GrownValue) (ran : Ran) → WritesAnswer written out_faults out out_after is_yes text grown ran → out_faults out ≤ out_faults out_after
-    answer_later is_yes text grown ran (inl (whole, handed)) = let same = whole.quiet in omega arith
+    answer_later is_yes text grown ran (inl (whole, handed)) = whole.later
     answer_later is_yes text grown ran (inr (cut, none)) = cut.later
 
     pub run_out_later : (result : Result (A × Option GrownValue) Stop) (ran : Ran) → Given result → Told result ran → out_faults out ≤ out_faults out_after
@@ -178,7 +170,6 @@ module _ {S K E A : Type 0} (left : S → Option (List ℕ)) (read_faults : S �
         record {
           ends = run_ended read_faults written out_faults told err_faults source after out out_after err err_after positive text printable answers row.refuses fails result ran given tells;
           unread = λ reads. (unread reads, told_no_read_fault result (unfailing reads) tells);
-          quiet = run_quiet read_faults written out_faults told err_faults source after out out_after err err_after positive text printable answers row.refuses fails result ran given tells;
           source_later = later;
           out_later = run_out_later read_faults written out_faults told err_faults source after out out_after err err_after positive text printable answers row.refuses fails result ran given tells;
           err_later = run_err_later read_faults written out_faults told err_faults source after out out_after err err_after positive text printable answers row.refuses fails result ran given tells;

@@ -1,5 +1,6 @@
 -- An input that is read in parts: a front with a system, and what follows it in blocks.
 use Rattle.std.proofs.Common.{◌≡◌, ◌++◌, ◌∙◌, ℕ, true, Bool, List, [], length, Option, Result, Ok, Err, refl, sym, subst, arith, inl, inr}
+use Rattle.std.proofs.Math.Nat.{le_trans}
 use Rattle.std.specs.Io.KnownBytes.{Consumes}
 use Rattle.tile_io.specs.declared.blocks.InputStop.{InputStop}
 use Rattle.tile_io.specs.declared.blocks.InputStop.TheVariants.{Unread, Refused}
@@ -8,7 +9,7 @@ use Rattle.tile_io.specs.declared.mark.Mark.{Mark}
 use Rattle.tile_io.specs.declared.whole.ReadStop.{ReadStop}
 use Rattle.tile_io.specs.declared.whole.ReadStop.TheVariants as read
 use Rattle.tile_io.specs.Blocks.{TakesOn, IsWholeText, IsUnread, StopsInBlocks}
-use Rattle.tile_io.specs.Faults.{Rose}
+use Rattle.tile_io.proofs.Rising.{Rose-then}
 use Rattle.tile_io.specs.Formats.{Format}
 use Rattle.tile_io.specs.NextLine.{IsMark}
 use Rattle.tile_io.proofs.Progress.{start_is_mark}
@@ -51,21 +52,21 @@ module _ {S : Type 0} (left : S → Option (List ℕ)) (faults : S → ℕ) wher
         (inl (record { taken = all; read = taken_all before (left after) all (taken_behind before (left source) (left after) front all taken h.0.1); long = omega (arith, long); told = refl }), h.1)
     unread_behind Fails before source after front read.NoMemory taken h = h.1
 
-    -- counts of faults are those of the source before, where they stayed
-    pub from_before : (Fails : List ℕ → TextFault → Type 0) (source middle after : S) (result : Result T Stop) → faults middle ≡ faults source →
+    -- counts of faults are seen from the source before, where they did not fall
+    pub from_before : (Fails : List ℕ → TextFault → Type 0) (source middle after : S) (result : Result T Stop) → faults source ≤ faults middle →
         GivesBehind (left source) left faults Holds Fails middle after result → GivesRead left faults Holds Fails source after result
-    from_before Fails source middle after (Ok value) same h = (h.0, h.1 ∙ same)
-    from_before Fails source middle after (Err (Text fault)) same h = (h.0, h.1 ∙ same)
-    from_before Fails source middle after (Err ReadFault) same h = subst (λ (n : ℕ). Rose n (faults after)) same h
-    from_before Fails source middle after (Err NoMemory) same h = h ∙ same
-    from_before Fails source middle after (Err (Words stop)) same h = h
-    from_before Fails source middle after (Err (Counter stop)) same h = h
+    from_before Fails source middle after (Ok value) later h = (h.0, le_trans later h.1)
+    from_before Fails source middle after (Err (Text fault)) later h = (h.0, le_trans later h.1)
+    from_before Fails source middle after (Err ReadFault) later h = Rose-then later h
+    from_before Fails source middle after (Err NoMemory) later h = le_trans later h
+    from_before Fails source middle after (Err (Words stop)) later h = h
+    from_before Fails source middle after (Err (Counter stop)) later h = h
 
     module _ {Item : Type 0} (format : TileSystem → Format Item) where
       -- a fault of the system
       pub front_stop : (source after : S) (stop : Stop) → GivesRead left faults IsFront FailsAtFront source after (Err stop) → GivesRead left faults Holds (FailsWithin format) source after (Err stop)
-      front_stop source after (Text fault) (inl long, quiet) = (inl long, quiet)
-      front_stop source after (Text fault) (inr faulty, quiet) = (inr (record { input = faulty.input; whole = faulty.whole; fails = inl faulty.fails }), quiet)
+      front_stop source after (Text fault) (inl long, later) = (inl long, later)
+      front_stop source after (Text fault) (inr faulty, later) = (inr (record { input = faulty.input; whole = faulty.whole; fails = inl faulty.fails }), later)
       front_stop source after ReadFault h = h
       front_stop source after NoMemory h = h
       front_stop source after (Words stop) h = h
@@ -82,19 +83,19 @@ module _ {S : Type 0} (left : S → Option (List ℕ)) (faults : S → ℕ) wher
           let onward = subst Reads (sym is.taken.2) (any_on text is.taken.0 first_mark end sys (omega arith) reads) in
           (inr (record { input = whole; whole = whole_input before (left source) (left after) text whole taken is; fails = inr (sys, record { end = end; reads = onward; rest = h.0.2 }) }), h.1)
 
-      pub blocks_stop : (source middle after : S) (front : SystemFront) (stop : InputStop) → IsFront (left source) (left middle) front → faults middle ≡ faults source →
+      pub blocks_stop : (source middle after : S) (front : SystemFront) (stop : InputStop) → IsFront (left source) (left middle) front → faults source ≤ faults middle →
           StopsInBlocks left faults (format front.sys) front.begun.text.items front.end middle after stop → GivesRead left faults Holds (FailsWithin format) source after (Err (stop_of_input stop))
-      blocks_stop source middle after front stop is same h =
-          from_before (FailsWithin format) source middle after (Err (stop_of_input stop)) same (blocks_behind (left source) middle after front.begun.text.items front.sys front.end stop is.taken is.reads h)
+      blocks_stop source middle after front stop is later h =
+          from_before (FailsWithin format) source middle after (Err (stop_of_input stop)) later (blocks_behind (left source) middle after front.begun.text.items front.sys front.end stop is.taken is.reads h)
 
   -- the front of a whole text is faulty
-  pub front_faulty : (before : Option (List ℕ)) (source after : S) (whole : List ℕ) (stop : Stop) → IsWholeInput before (left after) whole → faults after ≡ faults source →
+  pub front_faulty : (before : Option (List ℕ)) (source after : S) (whole : List ℕ) (stop : Stop) → IsWholeInput before (left after) whole → faults source ≤ faults after →
       Gives {T = TileSystem × Mark} (λ found. ReadsAny whole first_mark found.0 found.1) (FailsAtFront whole) (Err stop) → GivesBehind before left faults IsFront FailsAtFront source after (Err stop)
-  front_faulty before source after whole (Text fault) is quiet h = (inr (record { input = whole; whole = is; fails = h }), quiet)
-  front_faulty before source after whole NoMemory is quiet h = quiet
-  front_faulty before source after whole ReadFault is quiet h = absurd h
-  front_faulty before source after whole (Words stop) is quiet h = absurd h
-  front_faulty before source after whole (Counter stop) is quiet h = absurd h
+  front_faulty before source after whole (Text fault) is later h = (inr (record { input = whole; whole = is; fails = h }), later)
+  front_faulty before source after whole NoMemory is later h = later
+  front_faulty before source after whole ReadFault is later h = absurd h
+  front_faulty before source after whole (Words stop) is later h = absurd h
+  front_faulty before source after whole (Counter stop) is later h = absurd h
 
   -- a stop of the reading is one of the command
   module _ {A T : Type 0} (positive : A → Bool) (text : A → List ℕ) (printable : A → Type 0) (row : RoomRow) (reads : row.reads ≡ true) (Holds : Option (List ℕ) → Option (List ℕ) → T → Type 0) where

@@ -79,7 +79,7 @@ module _ {S K E : Type 0} (left : S → Option (List ℕ)) (read_faults : S → 
       answer_said calls is_yes gained =
           let same : command ≡ other = call_once words command other called calls in
           let Answers : Command → Type 0 = λ c. AnswersLeft (room_of c) ran.grown (left source) (left after) is_yes gained.text in
-          record { text = gained.text; said = says is_yes gained.text (subst Answers same gained.said); whole = gained.whole; quiet = gained.quiet }
+          record { text = gained.text; said = says is_yes gained.text (subst Answers same gained.said); whole = gained.whole }
 
       status_said : IsCallOf words other → (is_yes : Bool) → Run (answer_status is_yes) → Gains written out_faults (Said is_yes) out out_after
       status_said calls true ends = answer_said calls true ends.0
@@ -134,7 +134,7 @@ module _ {S K E : Type 0} (left : S → Option (List ℕ)) (read_faults : S → 
   words_ended : (stop : WordsStop) → IsRefusedAs words stop → (s : Status) → Writes told err_faults err err_after status.Words s (refused_words stop) → out_after ≡ out → Ended source s None
   words_ended stop refused s (inl whole) same =
       subst Unanswered (sym whole.is)
-      ((record { text = refused_words stop; said = inl (record { stop = stop; refused = refused; told = refl }); whole = whole.whole; quiet = whole.quiet }, same, refl), refl)
+      ((record { text = refused_words stop; said = inl (record { stop = stop; refused = refused; told = refl }); whole = whole.whole }, same, refl), refl)
   words_ended stop refused s (inr cut) same =
       subst Unanswered (sym cut.is)
       (inr (record { text = refused_words stop; said = inr (inl (record { stop = stop; refused = refused; told = refl })); front = cut.front; fault = cut.fault }, same), refl)

@@ -5,14 +5,13 @@ use Rattle.tile_io.specs.Faults.{Rose}
 use Rattle.tile_io.specs.Prints.{AppendsFront}
 
 module _ {K : Type 0} (written : K → Option (List ℕ)) (faults : K → ℕ) where
-  -- a text of this kind, and no fault was counted
+  -- a text of this kind
   pub record Gains (IsSaid : List ℕ → Type 0) (old new : K) : Type 0 where
     pub text : List ℕ
     pub said : IsSaid text
     pub whole : Appends (written old) (written new) text
-    pub quiet : faults new ≡ faults old
 
-  -- a front of a text of this kind, and a fault was counted
+  -- a front of a text of this kind, where the count of faults rose
   pub record GainsFront (IsSaid : List ℕ → Type 0) (old new : K) : Type 0 where
     pub text : List ℕ
     pub said : IsSaid text

@@ -76,10 +76,9 @@ pub fn tilebench<R: Threads + Wait + Sync, S: Source, K: Sink, E: Sink, G: Gate>
     ensures no_command { command_named (map string_bytes words.now) ≡ None
         → (result.status ≡ Status.Words) ⊎ (result.status ≡ Status.WriteFault) }
 
-    // Counts of faults never fall, and the source's stays where it did not fail.
+    // Counts of faults never fall.
     ensures faults { (S.faults source.old ≤ S.faults source.new)
         × (K.faults out.old ≤ K.faults out.new) × (E.faults err.old ≤ E.faults err.new) }
-    ensures quiet { result.status ≢ Status.ReadFault → S.faults source.new ≡ S.faults source.old }
 
     // Where the words, their numbers and the input are in order and nothing fails, there is an answer, or no
     // memory for it.

@@ -19,15 +19,15 @@ module _ {S : Type 0} (left : S → Option (List ℕ)) (faults : S → ℕ) wher
   -- why a text of which so many bytes came before does not come whole
   abbrev pub StopsComing : ℕ → S → S → ReadStop → Type 0
   StopsComing came old new Failed = ((more : List ℕ) × Consumes (left old) (left new) more × (came + length more ≤ MOST_INPUT)) × Rose (faults old) (faults new)
-  StopsComing came old new TooLong = ((more : List ℕ) × Consumes (left old) (left new) more × (came + length more ≡ MOST_INPUT + 1)) × (faults new ≡ faults old)
-  StopsComing came old new NoMemory = ((more : List ℕ) × Consumes (left old) (left new) more × (came + length more ≤ MOST_INPUT)) × (faults new ≡ faults old)
+  StopsComing came old new TooLong = ((more : List ℕ) × Consumes (left old) (left new) more × (came + length more ≡ MOST_INPUT + 1)) × (faults old ≤ faults new)
+  StopsComing came old new NoMemory = ((more : List ℕ) × Consumes (left old) (left new) more × (came + length more ≤ MOST_INPUT)) × (faults old ≤ faults new)
 
   -- bytes of it that came
   pub record Comes (came came_after : ℕ) (more : List ℕ) (old new : S) : Type 0 where
     pub taken : Consumes (left old) (left new) more
     pub count : came_after ≡ came + length more
     pub short : came_after ≤ MOST_INPUT
-    pub stays : faults new ≡ faults old
+    pub later : faults old ≤ faults new
 
   -- a block more stands behind the bytes that were kept
   abbrev pub ReadsBlock : List ℕ → List ℕ → ℕ → ℕ → S → S → Result Bool ReadStop → Type 0

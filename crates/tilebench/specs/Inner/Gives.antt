@@ -1,5 +1,5 @@
 -- What the steps towards an answer hand back: a value, or why there is none.
-use Rattle.std.specs.Prelude.{◌≡◌, ℕ, Bool, true, false, List, Option, Result, Ok, Err}
+use Rattle.std.specs.Prelude.{◌≡◌, ◌≤◌, ℕ, Bool, true, false, List, Option, Result, Ok, Err}
 use Rattle.tile_io.specs.declared.fault.TextFault.{TextFault}
 use Rattle.tile_io.specs.Faults.{Rose}
 use Rattle.site_table.specs.Seats.{GrownValue}
@@ -21,10 +21,10 @@ Gives Holds Fails (Err ReadFault) = ⊥
 -- what is read from a source behind what was left before: a value with a fact; or the first fault of all that was left; or the source failed; or no memory
 module _ {S T : Type 0} (before : Option (List ℕ)) (left : S → Option (List ℕ)) (faults : S → ℕ) where
   abbrev pub GivesBehind : (Option (List ℕ) → Option (List ℕ) → T → Type 0) → (List ℕ → TextFault → Type 0) → S → S → Result T Stop → Type 0
-  GivesBehind Holds Fails source after (Ok value) = Holds before (left after) value × (faults after ≡ faults source)
-  GivesBehind Holds Fails source after (Err (Text fault)) = FailsInput Fails before (left after) fault × (faults after ≡ faults source)
+  GivesBehind Holds Fails source after (Ok value) = Holds before (left after) value × (faults source ≤ faults after)
+  GivesBehind Holds Fails source after (Err (Text fault)) = FailsInput Fails before (left after) fault × (faults source ≤ faults after)
   GivesBehind Holds Fails source after (Err ReadFault) = Rose (faults source) (faults after)
-  GivesBehind Holds Fails source after (Err NoMemory) = faults after ≡ faults source
+  GivesBehind Holds Fails source after (Err NoMemory) = faults source ≤ faults after
   GivesBehind Holds Fails source after (Err (Words stop)) = ⊥
   GivesBehind Holds Fails source after (Err (Counter stop)) = ⊥
 
@@ -54,11 +54,11 @@ module _ {A : Type 0} (positive : A → Bool) (text : A → List ℕ) (printable
 -- an answer to what was left of the source, or a fault of it; or why the numbers are refused, with the source unread; or the source failed
 module _ {S A : Type 0} (faults : S → ℕ) (positive : A → Bool) (text : A → List ℕ) (printable : A → Type 0) where
   abbrev pub GivesFromSource : (Option GrownValue → Bool → List ℕ → Type 0) → (CounterStop → Type 0) → (TextFault → Type 0) → S → S → Result (A × Option GrownValue) Stop → Type 0
-  GivesFromSource Answers Refuses Fails source after (Ok found) = IsReply positive text printable (Answers found.1) found.0 × (faults after ≡ faults source)
-  GivesFromSource Answers Refuses Fails source after (Err (Text fault)) = Fails fault × (faults after ≡ faults source)
+  GivesFromSource Answers Refuses Fails source after (Ok found) = IsReply positive text printable (Answers found.1) found.0 × (faults source ≤ faults after)
+  GivesFromSource Answers Refuses Fails source after (Err (Text fault)) = Fails fault × (faults source ≤ faults after)
   GivesFromSource Answers Refuses Fails source after (Err (Counter stop)) = Refuses stop × (after ≡ source)
   GivesFromSource Answers Refuses Fails source after (Err ReadFault) = Rose (faults source) (faults after)
-  GivesFromSource Answers Refuses Fails source after (Err NoMemory) = faults after ≡ faults source
+  GivesFromSource Answers Refuses Fails source after (Err NoMemory) = faults source ≤ faults after
   GivesFromSource Answers Refuses Fails source after (Err (Words stop)) = ⊥
 
 -- what a command that reads in blocks answers to all that was left of a source

@@ -28,7 +28,6 @@ module _ {S K E : Type 0} (left : S → Option (List ℕ)) (read_faults : S → 
     pub ends : Ends read_faults written out_faults told err_faults (λ grown. AnswersLeft row grown (left source) (left source_after))
         (IsFaultLine (FailsLeft row (left source) (left source_after))) (IsNumbersLine row.refuses) source source_after out out_after err err_after ran.status ran.grown
     pub unread : row.reads ≡ false → (source_after ≡ source) × (ran.status ≢ ReadFault)
-    pub quiet : ran.status ≢ ReadFault → read_faults source_after ≡ read_faults source
     pub source_later : read_faults source ≤ read_faults source_after
     pub out_later : out_faults out ≤ out_faults out_after
     pub err_later : err_faults err ≤ err_faults err_after

@@ -22,7 +22,7 @@ module _ {K : Type 0} (written : K → Option (List ℕ)) (faults : K → ℕ) w
   pub record WritesWhole (old new : K) (told outcome : Status) (text : List ℕ) : Type 0 where
     pub is : outcome ≡ told
     pub whole : Appends (written old) (written new) text
-    pub quiet : faults new ≡ faults old
+    pub later : faults old ≤ faults new
 
   -- a write failed, and a front of it was
   pub record WritesFront (old new : K) (outcome : Status) (text : List ℕ) : Type 0 where

@@ -1,6 +1,8 @@
 use Rattle.std.proofs.Common.{sym, subst}
 use Rattle.std.specs.Prelude.{None, []}
+use Rattle.tile_io.proofs.Progress.{reads_is_mark}
 use Rattle.quadrant_compile.specs.Weaves.{Weave}
+use Rattle.quadrant_compile.specs.WeaveText.{quadrant_format}
 use Rattle.quadrant_compile.specs.Inner.SoFar.{HoldsLines, weave_in}
 use Rattle.quadrant_compile.proofs.Built.{nothing_held, IsWeave-read}
 use Rattle.quadrant_compile.proofs.reader.read_quadrant.Goals as goal
@@ -13,3 +15,8 @@ new-requires-2 c =
     let read = c.in_ok-to.ensures.read in
     let reader = c.read_text.new.reader in
     IsWeave-read (weave_in reader.parts) reader.last read.items c.args.text.now c.args.from c.in_ok-to.to read.held read.reads
+
+pub returns-clause-mark : goal.returns-clause-mark
+returns-clause-mark c =
+    let read = c.in_ok-to.ensures.read in
+    reads_is_mark quadrant_format c.args.text.now c.args.from c.in_ok-to.to read.items c.requires.mark read.reads

@@ -161,9 +161,9 @@ returns-then-branch-clause-read g c =
     let IsReadAs : List ℕ → Unit {0} → Type 0 = λ text _. (to : Mark) × ReadsInto format text from After to in
     let Answers : _ → Type 0 = λ r. ReadsInBlocks left faults format front from IsReadAs source next r in
     elim c.match-read_last_lines.branch [
-      | in-Ok w ↦ subst Answers (sym w.result-is) ((whole, is_whole, (moved (length now.part) passed w.in-Ok.field-0, subst Rest w.in-Ok.is told)), now.stays)
+      | in-Ok w ↦ subst Answers (sym w.result-is) ((whole, is_whole, (moved (length now.part) passed w.in-Ok.field-0, subst Rest w.in-Ok.is told)), now.later)
       | in-Err w ↦
-          let stops = whole_stops left faults format front from source next whole is_whole (length now.part) passed After w.in-Err.stop (subst Rest w.in-Err.is told) IsReadAs now.stays in
+          let stops = whole_stops left faults format front from source next whole is_whole (length now.part) passed After w.in-Err.stop (subst Rest w.in-Err.is told) IsReadAs now.later in
           let Stops : _ → Type 0 = λ s. Answers (Err s) in
           subst Answers (sym w.result-is) (subst Stops (sym (w.into.ensures ∙ ap stop_of_text w.stop_after.ensures)) stops)
     ]

@@ -1,4 +1,5 @@
-use Rattle.std.proofs.Common.{ℕ, List, [], Err, sym, subst, ◌∙◌, append-nil, refl}
+use Rattle.std.proofs.Common.{ℕ, List, [], Err, sym, subst, ◌∙◌, append-nil}
+use Rattle.std.proofs.Math.Nat.{le_refl}
 use Rattle.std.proofs.lemmas.Result.{err_from_is_err_and}
 use Rattle.tile_io.specs.declared.mark.Mark.{Mark}
 use Rattle.tile_io.specs.Checks.{table_format}
@@ -21,7 +22,7 @@ returns-in_err-read_text-clause-read g c =
     let As : List ℕ → Mark → Type 0 = λ text to. ReadsInto format text c.args.from (g.R.LineReader.holds c.read_text.new.reader) to in
     let Stops : List ℕ → Type 0 = λ text. ReadsOrStops format text c.args.from (As text) (Err c.in_err-read_text.field-0.0) in
     let whole = all_there (g.S.Source.left c.args.source.now) text c.requires.short (c.requires.whole c.if-begun.true) in
-    rw (p.1, p.2) (stopped g.S.Source.left g.S.Source.faults format text c.args.from As c.args.source.now c.args.source.now text c.in_err-read_text.field-0.0 whole refl (subst Stops c.deref.ensures.value c.in_err-read_text.ensures.read))
+    rw (p.1, p.2) (stopped g.S.Source.left g.S.Source.faults format text c.args.from As c.args.source.now c.args.source.now text c.in_err-read_text.field-0.0 whole (le_refl (g.S.Source.faults c.args.source.now)) (subst Stops c.deref.ensures.value c.in_err-read_text.ensures.read))
 
 pub returns-then-begun-clause-read : goal.returns-then-begun-clause-read
 returns-then-begun-clause-read g c =
@@ -29,4 +30,4 @@ returns-then-begun-clause-read g c =
     let text = c.args.begun.text.items in
     let Into : List ℕ → Type 0 = λ text. ReadsInto format text c.args.from (g.R.LineReader.holds c.read_text.new.reader) c.in_ok-read_text.field-0 in
     let whole = all_there (g.S.Source.left c.args.source.now) text c.requires.short (c.requires.whole c.if-begun.true) in
-    ((text, whole, (c.in_ok-read_text.field-0, subst Into c.deref.ensures.value c.in_ok-read_text.ensures.read)), refl)
+    ((text, whole, (c.in_ok-read_text.field-0, subst Into c.deref.ensures.value c.in_ok-read_text.ensures.read)), le_refl (g.S.Source.faults c.args.source.now))

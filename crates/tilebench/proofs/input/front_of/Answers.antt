@@ -23,7 +23,7 @@ pub returns-in-Ok-clause-read : goal.returns-in-Ok-clause-read
 returns-in-Ok-clause-read g c =
     let begun = begun_text g.S.Source.left g.S.Source.faults c.args.source.now c.begin_text.new.source c.in_ok-begun.begun.text.items c.in_ok-begun.begun.is_whole c.in_ok-begun.ensures.read in
     let Reads : List ℕ → Type 0 = λ text. ReadsAny text first_mark c.in-Ok.sys c.in-Ok.end in
-    (record { taken = begun.taken; short = begun.short; whole = begun.whole; reads = subst Reads c.deref.ensures.value c.in-Ok.ensures.read }, begun.stays)
+    (record { taken = begun.taken; short = begun.short; whole = begun.whole; reads = subst Reads c.deref.ensures.value c.in-Ok.ensures.read }, begun.later)
 
 pub returns-in-Err-clause-read : goal.returns-in-Err-clause-read
 returns-in-Err-clause-read g c =
@@ -34,10 +34,10 @@ returns-in-Err-clause-read g c =
     let begun = begun_text left g.S.Source.faults source after text c.in_ok-begun.begun.is_whole c.in_ok-begun.ensures.read in
     let Faulty : List ℕ → Type 0 = λ text. Gives {T = TileSystem × Mark} (λ found. ReadsAny text first_mark found.0 found.1) (FailsAtFront text) (Err c.in-Err.stop) in
     let whole = whole_input (left source) (left after) (left after) text text begun.taken (all_there (left after) text begun.short (begun.whole c.if-begun.true)) in
-    front_faulty left g.S.Source.faults (left source) source after text c.in-Err.stop whole begun.stays (subst Faulty c.deref.ensures.value c.in-Err.ensures.read)
+    front_faulty left g.S.Source.faults (left source) source after text c.in-Err.stop whole begun.later (subst Faulty c.deref.ensures.value c.in-Err.ensures.read)
 
 pub returns-clause-read : goal.returns-clause-read
 returns-clause-read g c =
     let left = g.S.Source.left in
     let begun = begun_text left g.S.Source.faults c.args.source.now c.begin_text.new.source c.in_ok-begun.begun.text.items c.in_ok-begun.begun.is_whole c.in_ok-begun.ensures.read in
-    from_before left g.S.Source.faults IsFront FailsAtFront c.args.source.now c.begin_text.new.source c.front_of_whole.new.source c.front_of_whole.result begun.stays (c.front_of_whole.ensures.read (left c.args.source.now) begun.taken)
+    from_before left g.S.Source.faults IsFront FailsAtFront c.args.source.now c.begin_text.new.source c.front_of_whole.new.source c.front_of_whole.result begun.later (c.front_of_whole.ensures.read (left c.args.source.now) begun.taken)

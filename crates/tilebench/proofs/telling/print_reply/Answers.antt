@@ -4,7 +4,7 @@ use Rattle.tilebench.proofs.telling.print_reply.Goals as goal
 
 pub returns-in-Ok : goal.returns-in-Ok
 returns-in-Ok g c =
-    inl (record { is = c.answer_status-status.ensures ∙ ap answer_status c.is_yes.ensures; whole = c.in-Ok.ensures.whole; quiet = c.in-Ok.ensures.cause.stays }, refl)
+    inl (record { is = c.answer_status-status.ensures ∙ ap answer_status c.is_yes.ensures; whole = c.in-Ok.ensures.whole; later = c.in-Ok.ensures.cause.later }, refl)
 
 pub returns-in-Err : goal.returns-in-Err
 returns-in-Err g c =

@@ -35,9 +35,6 @@ returns-in-Ok-clause-faults g c =
     let run = c.run_command.ensures in
     (run.source_later, run.out_later, run.err_later)
 
-pub returns-in-Ok-clause-quiet : goal.returns-in-Ok-clause-quiet
-returns-in-Ok-clause-quiet g c = c.run_command.ensures.quiet
-
 pub returns-in-Ok-clause-complete : goal.returns-in-Ok-clause-complete
 returns-in-Ok-clause-complete g c = call_complete _ _ _ _ _ _ _ _ _ _ _ _ _ c.in-Ok.command c.in-Ok.ensures.called c.run_command.result c.run_command.ensures
 
