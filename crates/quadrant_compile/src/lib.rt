@@ -23,7 +23,7 @@ mod tile;
 pub use cells::cell_at;
 pub use compiler::{QuadrantTiles, compile_quadrant, quadrant_tiles};
 pub use laws::{law_example, law_quadrant, law_quadrant_text, law_recurrence, law_valid};
-pub use limits::{LONGEST_SIDE, MOST_SYMBOLS};
+pub use limits::{LONGEST_SIDE, MOST_SYMBOLS, law_limits};
 pub use quadrant::Quadrant;
 pub use reader::read_quadrant;
 pub use rule::{Answer, Rule};

@@ -1,6 +1,5 @@
 -- The marks of names, and the first name of each mark.
 use Rattle.std.specs.Prelude.{◌≡◌, ℕ, ◌+◌, ◌*◌, ◌%◌, ◌<◌, ◌==◌, Bool, List, length, fold, position, slice_get, Option, Some}
-use Rattle.machine_text.specs.declared.name_list.TheConstants.{MARKS}
 
 abbrev pub mix : ℕ → ℕ → ℕ
 mix mark byte = (mark * 31 + byte) % 256
@@ -14,5 +13,5 @@ has_mark mark name = mark_of name == mark
 
 -- the number of the first name of each mark, if a name has it
 pub record AreFirsts (names : List (List ℕ)) (firsts : List (Option ℕ)) : Type 0 where
-  pub size : length firsts ≡ MARKS
-  pub each : (mark : ℕ) → mark < MARKS → slice_get firsts mark ≡ Some (position (has_mark mark) names)
+  pub size : length firsts ≡ 256
+  pub each : (mark : ℕ) → mark < 256 → slice_get firsts mark ≡ Some (position (has_mark mark) names)
