@@ -28,7 +28,7 @@ use Rattle.site_table.specs.Seats.{SeatValue, GoesOn}
 use Rattle.site_table.specs.Rule.{IsPossible}
 use Rattle.site_table.proofs.Seen.{seen_fits}
 use Rattle.frontier_seat.specs.declared.growing.Growing.{Growing}
-use Rattle.frontier_seat.specs.Growths.{EndsBurst, IsGrowing, GrowsOn}
+use Rattle.frontier_seat.specs.Growths.{ClaimsNothing, EndsBurst, IsGrowing, GrowsOn}
 use Rattle.frontier_seat.specs.declared.bursting.Burst.{Burst}
 use Rattle.frontier_seat.specs.declared.bursting.Burst.TheVariants.{Quiet, Spent}
 use Rattle.frontier_seat.specs.Inner.Looks.{CatchesUp, Puts, ClaimsAt, ClaimsPick, IsClosedBut, ListsOpen, LooksAt}
@@ -255,24 +255,25 @@ ended_quiet sys old new most Spent fewer ends = let all = ends.1 in absurd (omeg
 
 -- what another placed at a site is seen, and the listed sites follow
 pub caught_up : (sys : TileSystem) (before after : Growing) (spot : Spot) (old mid new : Numbers) → IsSpot sys.area spot → tile_at before.grid.tiles spot.site ≡ None → ListsOpen sys before.grid.tiles old → Removes old mid spot.number →
-    ClaimsAt sys spot.site before after → ListsAround sys.area after.grid.tiles spot.site mid new → CatchesUp sys before after new
-caught_up sys before after spot old mid new is empty lists removes claim around =
+    ClaimsAt sys spot.site before after → ClaimsNothing before after → ListsAround sys.area after.grid.tiles spot.site mid new → CatchesUp sys before after new
+caught_up sys before after spot old mid new is empty lists removes claim idle around =
     let gone : ¬ IsIn mid spot.number = λ still. ((removes spot.number).0 still).1 refl in
     let looks = looked_at_some sys before after spot mid new is (closed_taken sys before.grid.tiles old mid spot.number removes lists.all) gone (λ n still. lists.empty n ((removes n).0 still).0) empty claim around in
     record {
       growing = looks.growing;
       goes = looks.goes;
       more = let count = claim.count in omega (arith, count);
+      idle = idle;
       lists = record { empty = looks.listed; all = looks.closed };
     }
 
 -- step by step
 pub caught_more : (sys : TileSystem) (a b c : Growing) (one two : Numbers) → CatchesUp sys a b one → CatchesUp sys b c two → CatchesUp sys a c two
-caught_more sys a b c one two first second = record { growing = second.growing; goes = goes_further a b c first.goes second.goes; more = le_trans first.more second.more; lists = second.lists }
+caught_more sys a b c one two first second = record { growing = second.growing; goes = goes_further a b c first.goes second.goes; more = le_trans first.more second.more; idle = record { mine = second.idle.mine ∙ first.idle.mine; won = second.idle.won ∙ first.idle.won }; lists = second.lists }
 
 -- nothing was seen yet
 pub caught_none : (sys : TileSystem) (g : Growing) (numbers : Numbers) → IsGrowing sys g → ListsOpen sys g.grid.tiles numbers → CatchesUp sys g g numbers
-caught_none sys g numbers growing lists = record { growing = growing; goes = goes_nowhere g; more = omega arith; lists = lists }
+caught_none sys g numbers growing lists = record { growing = growing; goes = goes_nowhere g; more = omega arith; idle = record { mine = refl; won = refl }; lists = lists }
 
 -- how a burst ends, by whether a type attaches still
 pub ended_open : (sys : TileSystem) (old new : Growing) (most : ℕ) (numbers : Numbers) → ListsOpen sys new.grid.tiles numbers → ((n : ℕ) → ¬ IsIn numbers n) ⊎ (length new.grid.tiles ≡ length old.grid.tiles + most) →

@@ -31,6 +31,11 @@ pub record GrowsOn (old new : Growing) : Type 0 where
   pub placer : All (λ t. t.placer ≡ least old.seat.scout.owned) wins
   pub won : new.won ≡ old.won + length wins
 
+-- Nothing was claimed: its own tiles are as they were, and so is the count of those that it won.
+pub record ClaimsNothing (old new : Growing) : Type 0 where
+  pub mine : new.seat.scout.mine ≡ old.seat.scout.mine
+  pub won : new.won ≡ old.won
+
 -- how a burst of at most so many claims ends: quiet exactly where the box is closed, and else all claims were made, of which each added a site
 abbrev pub EndsBurst : TileSystem → Growing → Growing → ℕ → Burst → Type 0
 EndsBurst sys old new most Quiet = IsClosedInBox sys new.grid.tiles

@@ -4,7 +4,7 @@ ghost use Rattle.atam.specs.Placements.{tile_at};
 ghost use Rattle.atam.specs.Growth.{IsCandidate};
 ghost use Rattle.assembly.specs.Cells.{cell_count, site_at};
 ghost use Rattle.site_table.specs.Seats.{IsSeatOf};
-ghost use Rattle.frontier_seat.specs.Growths.{IsGrowing};
+ghost use Rattle.frontier_seat.specs.Growths.{ClaimsNothing, IsGrowing};
 ghost use Rattle.frontier_seat.specs.Inner.Listings.{IsSpot};
 ghost use Rattle.frontier_seat.specs.Inner.Looks.{ClaimsAt, ClaimsPick, Puts};
 
@@ -82,8 +82,9 @@ impl Growing {
         requires growing { IsGrowing sys.now self.old }
         requires spot { IsSpot sys.now.area spot }
         requires empty { tile_at self.old.grid.tiles spot.site ≡ None }
-        ensures { MatchBool result (ClaimsAt sys.now spot.site self.old self.new)
+        ensures sees { MatchBool result (ClaimsAt sys.now spot.site self.old self.new)
             (self.new ≡ self.old) }
+        ensures idle { ClaimsNothing self.old self.new }
     {
         self.seat.recall_possible();
         sys.recall_valid();

@@ -6,7 +6,7 @@ ghost use Rattle.atam.specs.Growth.{IsClosedInBox};
 ghost use Rattle.assembly.specs.Cells.{cell_count};
 ghost use Rattle.site_table.specs.Seats.{IsSeatOf};
 ghost use Rattle.site_table.specs.Laws.{IsFinal};
-ghost use Rattle.frontier_seat.specs.Growths.{EndsBurst, IsGrowing, GrowsOn};
+ghost use Rattle.frontier_seat.specs.Growths.{ClaimsNothing, EndsBurst, IsGrowing, GrowsOn};
 ghost use Rattle.frontier_seat.specs.Orders.{AreCanonicalClaims};
 ghost use Rattle.type_index.specs.Clean.{GrewExact, OpensExact};
 ghost use Rattle.type_index.specs.Indexes.{IsIndexOf};
@@ -505,6 +505,7 @@ impl<'i> Scout<'i> {
         requires system { table.now.sys ≡ sys.now }
         requires share { share < of }
         ensures goes { GrowsOn self.old self.new }
+        ensures idle { ClaimsNothing self.old self.new }
         ensures seen { SamePlacements self.new.seat.scout.seen self.new.grid.tiles }
         ensures more { length self.old.grid.tiles ≤ length self.new.grid.tiles }
     {

@@ -12,7 +12,7 @@ use Rattle.number_set.specs.Numbers.{Numbers, IsIn, count_below}
 use Rattle.type_index.specs.Clean.{OpensExact}
 use Rattle.frontier_seat.specs.declared.growing.Growing.{Growing}
 use Rattle.frontier_seat.specs.declared.work_list.Spot.{Spot}
-use Rattle.frontier_seat.specs.Growths.{IsGrowing, GrowsOn}
+use Rattle.frontier_seat.specs.Growths.{ClaimsNothing, GrowsOn, IsGrowing}
 use Rattle.frontier_seat.specs.Orders.{LoggedClaims}
 use Rattle.frontier_seat.specs.Inner.Listings.{AreEmptySites}
 
@@ -75,6 +75,7 @@ pub record CatchesUp (sys : TileSystem) (old new : Growing) (numbers : Numbers) 
   pub growing : IsGrowing sys new
   pub goes : GrowsOn old new
   pub more : length old.grid.tiles ≤ length new.grid.tiles
+  pub idle : ClaimsNothing old new
   pub lists : ListsOpen sys new.grid.tiles numbers
 
 -- a type that attaches at the site; none exactly where none does

@@ -17,6 +17,6 @@ returns-then-see-clause-catches c =
     let new = c.list_around.new.self.numbers in
     let is = c.requires.spot in
     let empty : tile_at before.grid.tiles spot.site ≡ None = ap (tile_at before.grid.tiles) (sym is.site ∙ ap (λ (a : BoxArea). site_at a spot.number) (sym c.requires.growing.area)) ∙ (sym c.tile.ensures ∙ c.in_default.is) in
-    let claim : ClaimsAt sys spot.site before after = subst (λ (b : Bool). MatchBool b (ClaimsAt sys spot.site before after) (after ≡ before)) c.if-see.true c.see.ensures in
+    let claim : ClaimsAt sys spot.site before after = subst (λ (b : Bool). MatchBool b (ClaimsAt sys spot.site before after) (after ≡ before)) c.if-see.true c.see.ensures.sees in
     let around = subst (λ (a : BoxArea). ListsAround a after.grid.tiles spot.site mid new) (c.drop_spot.ensures.area ∙ c.requires.area) c.list_around.ensures.lists in
-    caught_up sys before after spot c.args.work.now.numbers mid new is empty c.requires.lists c.drop_spot.ensures.removes claim around
+    caught_up sys before after spot c.args.work.now.numbers mid new is empty c.requires.lists c.drop_spot.ensures.removes claim c.see.ensures.idle around

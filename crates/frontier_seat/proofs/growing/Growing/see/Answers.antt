@@ -6,8 +6,8 @@ use Rattle.frontier_seat.specs.declared.growing.Growing.{Growing}
 use Rattle.frontier_seat.proofs.Looked.{claim_lost}
 use Rattle.frontier_seat.proofs.growing.Growing.see.Goals as goal
 
-pub returns : goal.returns
-returns c =
+pub returns-clause-sees : goal.returns-clause-sees
+returns-clause-sees c =
     let old = c.args.self.now in
     let mid : Growing = record { seat = c.look_at.new.seat; grid = old.grid; won = old.won } in
     let sees = c.in-Some.ensures.sees in
