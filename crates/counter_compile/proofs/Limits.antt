@@ -18,12 +18,10 @@ use Rattle.tile_table.proofs.Names.{numbered_name, numbered_apart}
 use Rattle.tile_text.proofs.PlainWords.{name_short}
 use Rattle.counter_compile.specs.declared.kind.Kind.{Kind}
 use Rattle.counter_compile.specs.declared.kind.Kind.TheVariants.{First, AddEast, AddMiddle, AddWest, CopyWest, CopyMiddle, CopyEast}
-use Rattle.counter_compile.specs.declared.kind.TheConstants.{LATER_KINDS}
 use Rattle.counter_compile.specs.declared.label.Label.{Label}
 use Rattle.counter_compile.specs.declared.label.Label.TheVariants.{BitWest, Bit, BitEast, SumEast, Carry, SumWest, GoAhead, Chain}
-use Rattle.counter_compile.specs.declared.label.TheConstants.{FIXED_LABELS}
 use Rattle.counter_compile.specs.declared.stop.CounterStop.TheVariants.{BitsOutOfRange, StartTooLarge, TooTall}
-use Rattle.counter_compile.specs.Tiles.{kind_name, label_name, strength, kinds_of, labels_of, tiles_of}
+use Rattle.counter_compile.specs.Tiles.{kind_name, label_name, strength, kinds_of, labels_of, tiles_of, later_kinds, fixed_labels}
 use Rattle.counter_compile.specs.Counters.{counter_refusal, row_count, counter_box, counter_system}
 use Rattle.counter_compile.specs.Inner.Accepted.{IsAccepted}
 use Rattle.counter_compile.proofs.Listed.{IsKind, IsLabel, listed_kind, listed_label, kind_listed, is_tile_set}
@@ -54,7 +52,7 @@ module _ {X : Type 0} (name : X → List ℕ) (xs : List X) where
   found_apart x y at_x at_y same = same_Some x y (sym at_x ∙ ap found same ∙ at_y)
 
 -- a kind is of the first row, or is found by its name, which then begins with another byte; likewise a label
-kind_sort : (k : Kind) → ((i : ℕ) × (k ≡ First i)) ⊎ ((found kind_name LATER_KINDS (kind_name k) ≡ Some k) × (get_or (kind_name k) 0 0 ≢ 116))
+kind_sort : (k : Kind) → ((i : ℕ) × (k ≡ First i)) ⊎ ((found kind_name later_kinds (kind_name k) ≡ Some k) × (get_or (kind_name k) 0 0 ≢ 116))
 unfolding digits
 kind_sort (First i) = inl (i, refl)
 kind_sort (AddEast false) = inr (refl, λ e. omega (arith, e))
@@ -74,7 +72,7 @@ kind_sort (CopyMiddle true) = inr (refl, λ e. omega (arith, e))
 kind_sort (CopyEast false) = inr (refl, λ e. omega (arith, e))
 kind_sort (CopyEast true) = inr (refl, λ e. omega (arith, e))
 
-label_sort : (g : Label) → ((i : ℕ) × (g ≡ Chain i)) ⊎ ((found label_name FIXED_LABELS (label_name g) ≡ Some g) × (get_or (label_name g) 0 0 ≢ 112))
+label_sort : (g : Label) → ((i : ℕ) × (g ≡ Chain i)) ⊎ ((found label_name fixed_labels (label_name g) ≡ Some g) × (get_or (label_name g) 0 0 ≢ 112))
 unfolding digits
 label_sort (BitWest false) = inr (refl, λ e. omega (arith, e))
 label_sort (BitWest true) = inr (refl, λ e. omega (arith, e))
@@ -104,7 +102,7 @@ kinds_apart last small j k listed_j listed_k same = elim (kind_sort j) [
   ]
   | inr later_j ↦ elim (kind_sort k) [
     | inl first_k ↦ absurd (later_j.1 (ap (λ n. get_or n 0 0) (same ∙ ap kind_name first_k.1)))
-    | inr later_k ↦ found_apart kind_name LATER_KINDS j k later_j.0 later_k.0 same
+    | inr later_k ↦ found_apart kind_name later_kinds j k later_j.0 later_k.0 same
   ]
 ]
 
@@ -122,7 +120,7 @@ labels_apart last small g h listed_g listed_h same = elim (label_sort g) [
   ]
   | inr fixed_g ↦ elim (label_sort h) [
     | inl chain_h ↦ absurd (fixed_g.1 (ap (λ n. get_or n 0 0) (same ∙ ap label_name chain_h.1)))
-    | inr fixed_h ↦ found_apart label_name FIXED_LABELS g h fixed_g.0 fixed_h.0 same
+    | inr fixed_h ↦ found_apart label_name fixed_labels g h fixed_g.0 fixed_h.0 same
   ]
 ]
 
@@ -200,10 +198,10 @@ weak GoAhead = omega arith
 weak (Chain i) = omega arith
 
 pub kinds_long : (last : ℕ) → length (kinds_of last) ≡ suc last + 16
-kinds_long last = length-append (map First (range_with_len 0 (suc last))) LATER_KINDS ∙ ap (λ n. n + 16) (length-map-range_with_len First 0 (suc last))
+kinds_long last = length-append (map First (range_with_len 0 (suc last))) later_kinds ∙ ap (λ n. n + 16) (length-map-range_with_len First 0 (suc last))
 
 labels_long : (last : ℕ) → length (labels_of last) ≡ 13 + last
-labels_long last = length-append FIXED_LABELS (map Chain (range_with_len 1 last)) ∙ ap (λ n. 13 + n) (length-map-range_with_len Chain 1 last)
+labels_long last = length-append fixed_labels (map Chain (range_with_len 1 last)) ∙ ap (λ n. 13 + n) (length-map-range_with_len Chain 1 last)
 
 pub glue_count : (bits start : ℕ) → 1 ≤ bits → length (counter_system bits start).glues ≡ bits + 12
 glue_count bits start some =

@@ -15,9 +15,7 @@ use Rattle.counter_compile.specs.declared.kind.Kind.{Kind}
 use Rattle.counter_compile.specs.declared.kind.Kind.TheVariants.{First, AddEast, AddMiddle, AddWest, CopyWest, CopyMiddle, CopyEast}
 use Rattle.counter_compile.specs.declared.label.Label.{Label}
 use Rattle.counter_compile.specs.declared.label.Label.TheVariants.{BitWest, Bit, BitEast, SumEast, Carry, SumWest, GoAhead, Chain}
-use Rattle.counter_compile.specs.declared.kind.TheConstants.{LATER_KINDS}
-use Rattle.counter_compile.specs.declared.label.TheConstants.{FIXED_LABELS}
-use Rattle.counter_compile.specs.Tiles.{bit, by_column, kind_number, kinds_of, label_number, tiles_of}
+use Rattle.counter_compile.specs.Tiles.{bit, by_column, kind_number, kinds_of, label_number, tiles_of, later_kinds, fixed_labels}
 use Rattle.counter_compile.proofs.Cells.{side}
 
 -- one number more
@@ -51,10 +49,10 @@ range-behind f rest a (suc len) n =
 pub first_kind : (last i : ℕ) → i ≤ last → slice_get (kinds_of last) i ≡ Some (First i)
 first_kind last i within =
     let same : 0 + i ≡ i = omega arith in
-    range-front First LATER_KINDS 0 (suc last) i (omega (arith, within)) ∙ ap (λ n. Some (First n)) same
+    range-front First later_kinds 0 (suc last) i (omega (arith, within)) ∙ ap (λ n. Some (First n)) same
 
-pub later_kind : (last i n : ℕ) (k : Kind) → i ≡ suc last + n → slice_get LATER_KINDS n ≡ Some k → slice_get (kinds_of last) i ≡ Some k
-later_kind last i n k place there = ap (slice_get (kinds_of last)) place ∙ range-behind First LATER_KINDS 0 (suc last) n ∙ there
+pub later_kind : (last i n : ℕ) (k : Kind) → i ≡ suc last + n → slice_get later_kinds n ≡ Some k → slice_get (kinds_of last) i ≡ Some k
+later_kind last i n k place there = ap (slice_get (kinds_of last)) place ∙ range-behind First later_kinds 0 (suc last) n ∙ there
 
 module _ (last : ℕ) where
   -- the labels that the table names, and the kinds
@@ -67,28 +65,28 @@ module _ (last : ℕ) where
   IsKind _ = Unit {0}
 
 module _ (last v : ℕ) where
-  fixed_numbered : (n : ℕ) → n ≡ suc last → IsNumbered (kind_number last) n LATER_KINDS
+  fixed_numbered : (n : ℕ) → n ≡ suc last → IsNumbered (kind_number last) n later_kinds
   fixed_numbered n same = (omega arith, (omega arith, (omega arith, (omega arith, (omega arith, (omega arith, (omega arith, (omega arith, (omega arith, (omega arith, (omega arith, (omega arith, (omega arith, (omega arith, (omega arith, (omega arith, tt))))))))))))))))
 
-  kinds_numbered : IsNumbered (kind_number last) 0 (map First (range_with_len 0 (suc last)) ++ LATER_KINDS)
+  kinds_numbered : IsNumbered (kind_number last) 0 (map First (range_with_len 0 (suc last)) ++ later_kinds)
   kinds_numbered =
       let long : length (map First (range_with_len 0 (suc last))) ≡ suc last = length-map (range_with_len 0 (suc last)) First ∙ length-range_with_len 0 (suc last) in
-      numbered-append (kind_number last) 0 (map First (range_with_len 0 (suc last))) LATER_KINDS
+      numbered-append (kind_number last) 0 (map First (range_with_len 0 (suc last))) later_kinds
       (numbered-range (kind_number last) First 0 0 (suc last) (λ i less. refl))
       (fixed_numbered (0 + length (map First (range_with_len 0 (suc last)))) (ap (λ l. 0 + l) long ∙ omega arith))
 
-  labels_numbered : IsNumbered label_number 0 (FIXED_LABELS ++ map Chain (range_with_len 1 last))
+  labels_numbered : IsNumbered label_number 0 (fixed_labels ++ map Chain (range_with_len 1 last))
   labels_numbered =
-      numbered-append label_number 0 FIXED_LABELS (map Chain (range_with_len 1 last)) (refl, (refl, (refl, (refl, (refl, (refl, (refl, (refl, (refl, (refl, (refl, (refl, (refl, tt)))))))))))))
+      numbered-append label_number 0 fixed_labels (map Chain (range_with_len 1 last)) (refl, (refl, (refl, (refl, (refl, (refl, (refl, (refl, (refl, (refl, (refl, (refl, (refl, tt)))))))))))))
       (numbered-range label_number Chain 13 1 last (λ i less. omega arith))
 
-  fixed : (k : Kind) (n : ℕ) → slice_get LATER_KINDS n ≡ Some k → Contains (tiles_of last v).kinds k
-  fixed k n there = Contains-append_right (map First (range_with_len 0 (suc last))) LATER_KINDS k (slice_get-Contains LATER_KINDS n k there)
+  fixed : (k : Kind) (n : ℕ) → slice_get later_kinds n ≡ Some k → Contains (tiles_of last v).kinds k
+  fixed k n there = Contains-append_right (map First (range_with_len 0 (suc last))) later_kinds k (slice_get-Contains later_kinds n k there)
 
   pub kind_listed : (k : Kind) → IsKind last k → Contains (tiles_of last v).kinds k
   kind_listed (First i) within =
       let zero_and : 0 + i ≡ i = omega arith in
-      Contains-append_left (map First (range_with_len 0 (suc last))) LATER_KINDS (First i)
+      Contains-append_left (map First (range_with_len 0 (suc last))) later_kinds (First i)
       (subst (λ n. Contains (map First (range_with_len 0 (suc last))) (First n)) zero_and (range-has First 0 (suc last) i (omega (arith, within))))
   kind_listed (AddEast false) is_kind = fixed (AddEast false) 0 refl
   kind_listed (AddEast true) is_kind = fixed (AddEast true) 1 refl
@@ -108,16 +106,16 @@ module _ (last v : ℕ) where
   kind_listed (CopyEast true) is_kind = fixed (CopyEast true) 15 refl
 
   pub listed_kind : (k : Kind) → Contains (tiles_of last v).kinds k → IsKind last k
-  listed_kind k contains = elim (Contains-append_cases (map First (range_with_len 0 (suc last))) LATER_KINDS k contains) [
+  listed_kind k contains = elim (Contains-append_cases (map First (range_with_len 0 (suc last))) later_kinds k contains) [
     | inl first ↦
         let i = range-only First 0 (suc last) k first in
         let below = i.2 in
         subst (IsKind last) i.3 (omega (arith, below))
-    | inr later ↦ each-has (IsKind last) LATER_KINDS k (tt, (tt, (tt, (tt, (tt, (tt, (tt, (tt, (tt, (tt, (tt, (tt, (tt, (tt, (tt, (tt, tt)))))))))))))))) later
+    | inr later ↦ each-has (IsKind last) later_kinds k (tt, (tt, (tt, (tt, (tt, (tt, (tt, (tt, (tt, (tt, (tt, (tt, (tt, (tt, (tt, (tt, tt)))))))))))))))) later
   ]
 
-  fixed_label : (g : Label) (n : ℕ) → slice_get FIXED_LABELS n ≡ Some g → Contains (tiles_of last v).labels g
-  fixed_label g n there = Contains-append_left FIXED_LABELS (map Chain (range_with_len 1 last)) g (slice_get-Contains FIXED_LABELS n g there)
+  fixed_label : (g : Label) (n : ℕ) → slice_get fixed_labels n ≡ Some g → Contains (tiles_of last v).labels g
+  fixed_label g n there = Contains-append_left fixed_labels (map Chain (range_with_len 1 last)) g (slice_get-Contains fixed_labels n g there)
 
   label_listed : (g : Label) → IsLabel last g → Contains (tiles_of last v).labels g
   label_listed (BitWest false) is_label = fixed_label (BitWest false) 0 refl
@@ -137,12 +135,12 @@ module _ (last v : ℕ) where
   label_listed (Chain (suc i)) is_label =
       let within = is_label.1 in
       let one_and : 1 + i ≡ suc i = omega arith in
-      Contains-append_right FIXED_LABELS (map Chain (range_with_len 1 last)) (Chain (suc i))
+      Contains-append_right fixed_labels (map Chain (range_with_len 1 last)) (Chain (suc i))
       (subst (λ n. Contains (map Chain (range_with_len 1 last)) (Chain n)) one_and (range-has Chain 1 last i (omega (arith, within))))
 
   pub listed_label : (g : Label) → Contains (tiles_of last v).labels g → IsLabel last g
-  listed_label g contains = elim (Contains-append_cases FIXED_LABELS (map Chain (range_with_len 1 last)) g contains) [
-    | inl first ↦ each-has (IsLabel last) FIXED_LABELS g (tt, (tt, (tt, (tt, (tt, (tt, (tt, (tt, (tt, (tt, (tt, (tt, (tt, tt))))))))))))) first
+  listed_label g contains = elim (Contains-append_cases fixed_labels (map Chain (range_with_len 1 last)) g contains) [
+    | inl first ↦ each-has (IsLabel last) fixed_labels g (tt, (tt, (tt, (tt, (tt, (tt, (tt, (tt, (tt, (tt, (tt, (tt, (tt, tt))))))))))))) first
     | inr later ↦
         let i = range-only Chain 1 last g later in
         let low = i.1 in

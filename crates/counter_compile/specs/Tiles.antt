@@ -1,15 +1,13 @@
 -- The tiles of a binary counter. Its columns are 0, at the west, to `last`, and column i has the bit of weight 2^(last - i).
-use Rattle.std.specs.Prelude.{ℕ, zero, suc, ◌+◌, ◌-◌, ◌*◌, ◌==◌, nat_lt, Bool, true, false, not, ◌&&◌, if◌then◌else◌, List, ◌++◌, map, Option, Some, None, codes, decimal}
+use Rattle.std.specs.Prelude.{ℕ, zero, suc, ◌+◌, ◌-◌, ◌*◌, ◌==◌, nat_lt, Bool, true, false, not, ◌&&◌, if◌then◌else◌, List, [], ◌∷◌, ◌++◌, map, Option, Some, None, codes, decimal}
 use Rattle.std.specs.List.{range_with_len}
 use Rattle.std.specs.Int.{bit_at}
 use Rattle.atam.specs.declared.site.Side.{Side}
 use Rattle.atam.specs.declared.site.Side.TheVariants.{North, East, South, West}
 use Rattle.counter_compile.specs.declared.kind.Kind.{Kind}
 use Rattle.counter_compile.specs.declared.kind.Kind.TheVariants.{First, AddEast, AddMiddle, AddWest, CopyWest, CopyMiddle, CopyEast}
-use Rattle.counter_compile.specs.declared.kind.TheConstants.{LATER_KINDS}
 use Rattle.counter_compile.specs.declared.label.Label.{Label}
 use Rattle.counter_compile.specs.declared.label.Label.TheVariants.{BitWest, Bit, BitEast, SumEast, Carry, SumWest, GoAhead, Chain}
-use Rattle.counter_compile.specs.declared.label.TheConstants.{FIXED_LABELS}
 use Rattle.design.specs.TileSets.{TileSet}
 
 abbrev pub xor : Bool → Bool → Bool
@@ -123,13 +121,52 @@ label_number (SumWest b) = 10 + digit b
 label_number GoAhead = 12
 label_number (Chain i) = 12 + i
 
--- the tile of each column of the first row, then those of later rows
-abbrev pub kinds_of : ℕ → List Kind
-kinds_of last = map First (range_with_len 0 (suc last)) ++ LATER_KINDS
+-- the tiles of later rows: of those that add, and then of those that copy
+abbrev pub later_kinds : List Kind
+later_kinds =
+    AddEast false
+    ∷ AddEast true
+    ∷ AddMiddle false false
+    ∷ AddMiddle false true
+    ∷ AddMiddle true false
+    ∷ AddMiddle true true
+    ∷ AddWest false false
+    ∷ AddWest false true
+    ∷ AddWest true false
+    ∷ AddWest true true
+    ∷ CopyWest false
+    ∷ CopyWest true
+    ∷ CopyMiddle false
+    ∷ CopyMiddle true
+    ∷ CopyEast false
+    ∷ CopyEast true
+    ∷ []
 
--- those with bits, then those between the columns of the first row
+-- the labels but those between the columns of the first row
+abbrev pub fixed_labels : List Label
+fixed_labels =
+    BitWest false
+    ∷ BitWest true
+    ∷ Bit false
+    ∷ Bit true
+    ∷ BitEast false
+    ∷ BitEast true
+    ∷ SumEast false
+    ∷ SumEast true
+    ∷ Carry false
+    ∷ Carry true
+    ∷ SumWest false
+    ∷ SumWest true
+    ∷ GoAhead
+    ∷ []
+
+-- the types, in this order: the tile of each column of the first row, then those of later rows
+abbrev pub kinds_of : ℕ → List Kind
+kinds_of last = map First (range_with_len 0 (suc last)) ++ later_kinds
+
+-- the glues, in this order: the fixed ones, then those between the columns of the first row
 abbrev pub labels_of : ℕ → List Label
-labels_of last = FIXED_LABELS ++ map Chain (range_with_len 1 last)
+labels_of last = fixed_labels ++ map Chain (range_with_len 1 last)
 
 abbrev pub on_side : Sides → Side → Option Label
 on_side sides North = sides.north

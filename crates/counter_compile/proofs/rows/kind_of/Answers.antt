@@ -1,7 +1,7 @@
 use Rattle.std.proofs.Common.{arith, ◌-◌}
 use Rattle.std.proofs.lemmas.Option.{slice_get-get_or}
-use Rattle.counter_compile.specs.declared.kind.TheConstants.{LATER_KINDS}
 use Rattle.counter_compile.specs.declared.kind.Kind.TheVariants.{First}
+use Rattle.counter_compile.specs.Tiles.{later_kinds}
 use Rattle.counter_compile.proofs.Listed.{first_kind, later_kind}
 use Rattle.counter_compile.proofs.rows.kind_of.Goals as goal
 
@@ -14,4 +14,4 @@ returns-else-tile-bits c =
     let past = c.if-tile-bits.false in
     let some = c.requires.some in
     let listed = c.requires.listed in
-    later_kind (c.args.bits - 1) c.args.tile.0 n _ (omega (arith, past, some)) (slice_get-get_or LATER_KINDS n (First 0) (omega (arith, listed, past)))
+    later_kind (c.args.bits - 1) c.args.tile.0 n _ (omega (arith, past, some)) (slice_get-get_or later_kinds n (First 0) (omega (arith, listed, past)))
