@@ -1,7 +1,7 @@
 // Growing by hand: a click on an open site places a type that attaches there, and the program judges the sequence.
 import { joined } from "./bytes.js";
 import { $, announce, button, make, many, paused, swatch } from "./dom.js";
-import { redraw, showSite } from "./board.js";
+import { measure, redraw, showSite } from "./board.js";
 import { css } from "./colours.js";
 import { openDrawer } from "./drawer.js";
 import { linesOf } from "./growing.js";
@@ -13,6 +13,7 @@ import { show } from "./player.js";
 import { asking, ask, lack, Unanswered } from "./program.js";
 import { namesOf, pullAt } from "./site_words.js";
 import { on, page, tell } from "./state.js";
+import { fitBox, view } from "./view.js";
 
 const MOST_LISTED = 40;
 const judge = paused(() => judged());
@@ -28,12 +29,20 @@ function begin() {
   Object.assign(page, { growth: hand, mode: "hand", meanings: [], mark: null });
   $("took").textContent = "";
   beginPicture();
-  show(hand.count);
-  tell("loaded");
+  lookAtBox();
   changed();
 }
 
+// A small box is looked at as a whole, so that there is room for what is to come.
+function lookAtBox() {
+  if (Math.max(page.system.wide, page.system.high) > 40) return;
+  measure();
+  fitBox();
+  view.isFit = false;
+}
+
 function changed() {
+  page.meanings = [];
   show(page.growth.count);
   tell("loaded");
   list();

@@ -101,7 +101,8 @@ export function integerIn(bytes, from, to) {
   return isNegative ? -value : value;
 }
 
-export const FIRST_HASH = 0x811c9dc5, HASH_STEP = 0x01000193;
+export const FIRST_HASH = 0x811c9dc5;
+export const HASH_STEP = 0x01000193;
 
 export function hashOf(bytes, from, to) {
   let hash = FIRST_HASH;

@@ -102,8 +102,7 @@ function drawRow(pen, theme) {
 
 // The site that an answer speaks of.
 function drawMark(pen, theme, { words, site }) {
-  const isOutside = !page.system.isInside(site.x, site.y);
-  drawFrame(pen, site, isOutside ? theme.within : theme.no, theme, words[0] === "closed" ? [4, 3] : []);
+  drawFrame(pen, site, page.verdict?.tone === "no" ? theme.no : theme.within, theme, words[0] === "closed" ? [4, 3] : []);
 }
 
 function drawFrame(pen, site, colour, theme, dash) {

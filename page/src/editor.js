@@ -31,8 +31,9 @@ export function put(given, name = "") {
   changed();
 }
 
-// What was typed, or edited in a form.
+// What was typed, or edited in a form: from now on the text is what stands in the editor, and no longer what came.
 function keep(isTyped) {
+  held = { bytes: null, value: "" };
   history.keep({ text: area.value, start: area.selectionStart, end: area.selectionEnd, held, isLong: false, name: "" }, isTyped);
   changed();
 }

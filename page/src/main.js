@@ -39,6 +39,7 @@ function opened(given, name = "") {
   $("search").value = "";
   page.found = null;
   page.chosen = -1;
+  mark({ chosen: 0 });
   keepText("text", text());
   tell("showText");
   growNow({ isNew: true });
@@ -96,6 +97,12 @@ function caret(line) {
   if (kind === page.chosen) return;
   page.chosen = kind;
   tell("chosen");
+}
+
+// The mark stays on the line of the type that is chosen, wherever that line is now.
+function keepMark() {
+  const type = page.chosen >= 0 && page.kinds.isType ? page.chosen : -1;
+  mark({ chosen: lineOf(type) });
 }
 
 function recolour(by) {
@@ -166,6 +173,7 @@ on("choose", choose);
 on("clicked", clicked);
 on("caret", caret);
 on("recolour", recolour);
+on("loaded recoloured", keepMark);
 on("openTool", openDrawer);
 window.addEventListener("keydown", pressed);
 window.addEventListener("hashchange", hashChanged);

@@ -16,11 +16,11 @@ function show(site, at) {
   tell("row", isNear && page.system.isInside(site.x, site.y) ? site.y : null);
   if (!isNear) return;
   fill(wordsOfSite(site));
-  const { clientWidth, clientHeight } = card, gap = 16;
-  const x = at.x + gap + clientWidth > view.width ? at.x - gap - clientWidth : at.x + gap;
-  const y = at.y + gap + clientHeight > view.height ? at.y - gap - clientHeight : at.y + gap;
-  card.style.left = `${Math.max(2, Math.min(x, view.width - clientWidth - 2))}px`;
-  card.style.top = `${Math.max(2, Math.min(y, view.height - clientHeight - 2))}px`;
+  const { offsetWidth: wide, offsetHeight: high } = card, { clientWidth, clientHeight } = canvas, gap = 16;
+  const x = at.x + gap + wide > clientWidth ? at.x - gap - wide : at.x + gap;
+  const y = at.y + gap + high > clientHeight ? at.y - gap - high : at.y + gap;
+  card.style.left = `${Math.max(2, Math.min(x, clientWidth - wide - 2))}px`;
+  card.style.top = `${Math.max(2, Math.min(y, clientHeight - high - 2))}px`;
 }
 
 function isNearBox({ x, y }) {

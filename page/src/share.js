@@ -3,7 +3,7 @@ import { decode } from "./bytes.js";
 
 const MARK = "#t=";
 // how many bytes a link's text may have at most, packed and unpacked
-export const MOST_PACKED = 1 << 20, MOST_UNPACKED = 4 << 20;
+const MOST_PACKED = 1 << 19, MOST_UNPACKED = 4 << 20;
 
 async function through(bytes, stream, most) {
   const reader = new Blob([bytes]).stream().pipeThrough(stream).getReader(), pieces = [];

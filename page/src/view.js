@@ -2,7 +2,9 @@
 import { page } from "./state.js";
 
 export const view = { scale: 1, left: 0, top: 0, width: 0, height: 0 };
-const LEAST = 0.25, MOST = 160, MARGIN = 34;
+const LEAST = 0.25, MOST = 160;
+// room for coordinates in the west and the south, and for the buttons in the east
+const WEST = 40, EAST = 50, NORTH = 14, SOUTH = 30;
 
 export const columnAt = (px) => Math.floor((px - view.left) / view.scale);
 export const siteAt = (px, py) => {
@@ -28,25 +30,42 @@ export function pan(dx, dy) {
 // Brings columns and rows, counted from the upper left, into view.
 function frame(column, row, columns, rows) {
   const { width, height } = view;
-  const fits = Math.min((width - 2 * MARGIN) / (columns + 0.5), (height - 2 * MARGIN) / (rows + 0.5));
+  const [wide, high] = [width - WEST - EAST, height - NORTH - SOUTH], fits = Math.min(wide / (columns + 0.3), high / (rows + 0.3));
   view.scale = Math.max(LEAST, Math.min(64, fits));
   if (view.scale > 1) view.scale = Math.floor(view.scale);
-  view.left = Math.round((width - columns * view.scale) / 2 - column * view.scale);
-  view.top = Math.round((height - rows * view.scale) / 2 - row * view.scale);
+  view.left = Math.round(WEST + (wide - columns * view.scale) / 2 - column * view.scale);
+  view.top = Math.round(NORTH + (high - rows * view.scale) / 2 - row * view.scale);
 }
 
 export const fitBox = () => frame(0, 0, page.system.wide, page.system.high);
 
-// What stands, with the seeds and the sites that an answer speaks of, comes into view.
+// The columns and rows, counted from the upper left, that tiles stand in: [first, first, last, last].
+function standing({ cells, count }, wide) {
+  let [left, top, right, bottom] = [Infinity, Infinity, -Infinity, -Infinity];
+  for (let n = 0; n < count; n++) {
+    const row = Math.floor(cells[n] / wide), column = cells[n] - row * wide;
+    if (column < left) left = column;
+    if (column > right) right = column;
+    if (row < top) top = row;
+    if (row > bottom) bottom = row;
+  }
+  return [left, top, right, bottom];
+}
+
+// What stands, with the sites beside it that an answer speaks of, comes into view; the seeds where nothing stands.
 export function fit() {
-  const { system, growth, meanings } = page, sites = [];
-  let [x0, y0, x1, y1] = [Infinity, Infinity, -Infinity, -Infinity];
-  const take = (x, y) => { x0 = Math.min(x0, x); y0 = Math.min(y0, y); x1 = Math.max(x1, x); y1 = Math.max(y1, y); };
-  for (let n = 0; n < growth.count; n++) take(...growth.siteOf(n));
+  const { system, growth, meanings } = page, [x0, , , y1] = system.box;
+  let [left, top, right, bottom] = standing(growth, system.wide);
+  const take = (x, y) => {
+    left = Math.min(left, x - x0);
+    right = Math.max(right, x - x0);
+    top = Math.min(top, y1 - y);
+    bottom = Math.max(bottom, y1 - y);
+  };
+  const isNear = ({ x, y }) => x - x0 >= left - 2 && x - x0 <= right + 2 && y1 - y >= top - 2 && y1 - y <= bottom + 2;
   if (!growth.count) for (const it of system.seeds) take(it.x, it.y);
-  for (const { site } of meanings) if (site) sites.push(site);
-  for (const { x, y } of sites) if (x >= x0 - 2 && x <= x1 + 2 && y >= y0 - 2 && y <= y1 + 2) take(x, y);
-  frame(x0 - system.box[0], system.box[3] - y1, x1 - x0 + 1, y1 - y0 + 1);
+  for (const { site } of meanings) if (site && isNear(site)) take(site.x, site.y);
+  frame(left, top, right - left + 1, bottom - top + 1);
 }
 
 // Brings a site into view, where it is not; near enough that it can be read.

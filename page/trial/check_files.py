@@ -144,9 +144,9 @@ def bomb(page):
         assert verdict(page)[0] == "Unique"
 
 
-@check("a link of a million signs is not opened")
+@check("a link of 800,000 signs is not opened")
 def long_link(page):
-    page.value("location.hash = '#t=' + 'A'.repeat(3000000)")
+    page.value("location.hash = '#t=' + 'A'.repeat(800000)")
     page.wait('document.querySelector("#notice").textContent.includes("too long")')
     page.is_away = True
 

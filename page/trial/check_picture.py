@@ -147,6 +147,7 @@ def tile_card(page):
 @check("of an empty site it is told what is offered on each side, the sum, and that no type takes both")
 def none_takes(page):
     put(page, (TRIANGLE % (7, 7)).replace("tile r11 0 0 1 1\n", ""))
+    page.point_at(*site(page, 4, 4))
     page.point_at(*site(page, 1, 1))
     said = " ".join(card(page).split())
     assert "empty (1, 1)" in said and "south 1 (1) is offered" in said and "west 1 (1) is offered" in said, said

@@ -117,7 +117,7 @@ def kept(page):
 def no_storage(page):
     page.value('Object.defineProperty(window, "localStorage", { get() { throw new Error("no"); }, configurable: true }) && 0')
     put(page, CHAIN)
-    assert verdict(page)[0] == "Unique"
+    assert verdict(page)[0] == "Unique", (verdict(page), editor(page)[:60])
     page.is_away = True
 
 
@@ -163,7 +163,7 @@ def remarks(page):
     page.wait('document.querySelector("#verdict-word").textContent === "Refused"', 30)
     put_back = lambda: page.click("#undo")
     done(page, put_back)
-    assert verdict(page)[0] == "Unique"
+    assert verdict(page)[0] == "Unique", (verdict(page), editor(page)[:60])
 
 
 assert drop and sys
