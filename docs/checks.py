@@ -70,8 +70,8 @@ def limits():
 
 def commands():
     """The commands of the program: each has a row in README.md, and its parts in the other pages and the manual."""
-    source = read("crates/command_line/specs/Commands.antt")
-    names = re.findall(r'^row_of name\.\w+ = \(codes "([a-z]+)"', source, re.M)
+    made = subprocess.run([f"{TOP}/dev/commands", "--check"], check=False, stdout=subprocess.PIPE).stdout.decode().splitlines()
+    names = re.findall(r'^    "(\w+)": \(', read("python/tilebench/commands.py"), re.M)
     table = read("README.md").partition("\nCommand|")[2].partition("\n\n")[0]
     readme = {it.split()[0] for cells in rows(table) for it in CODE.findall(cells[0])}
     told = [f"README.md: no row for {it}" for it in names if it not in readme]
@@ -84,7 +84,7 @@ def commands():
         found = [len(re.findall(rf"^\.B tilebench {it}$", synopsis, re.M)),
                  len(re.findall(rf"^\.TP\n\.BI? {it}\b", parts, re.M))]
         told += [] if found == [1, 1] else [f"docs/tilebench.1: {it} stands {found} times in synopsis and commands"]
-    return told or ([] if names else ["no command was found in crates/command_line/specs/Commands.antt"])
+    return made + told
 
 
 # Where the names of refusals stand, and where the keywords of texts with their numbers of words.
@@ -96,9 +96,9 @@ KEYWORD = re.compile(r'codes "([a-z]+)"\)? \(?(?:exactly )?(\d+)')
 
 
 def refusals():
-    """What of the names of refusals FORMATS.md and tools/refusals.py lack."""
+    """What of the names of refusals FORMATS.md and python/tilebench/refusals.py lack."""
     found = [it for path in REFUSALS for it in REFUSAL.findall(read(f"crates/{path}.antt")) if it != "NoMemory"]
-    told = [f"{path}: nothing of {it}" for path in ("docs/FORMATS.md", "tools/refusals.py") for it in found
+    told = [f"{path}: nothing of {it}" for path in ("docs/FORMATS.md", "python/tilebench/refusals.py") for it in found
             if it not in read(path)]
     return told or ([] if len(found) > 10 else ["few refusals were found in the crates"])
 

@@ -21,10 +21,9 @@ import sys
 sys.dont_write_bytecode = True
 PAGE = os.path.dirname(os.path.realpath(__file__))
 TOP = os.path.dirname(PAGE)
-sys.path.insert(0, PAGE)
-sys.path.insert(0, f"{TOP}/tools")
-import refusals
+sys.path[:0] = [PAGE, f"{TOP}/python"]
 import sources
+from tilebench import refusals
 
 IMPORT = re.compile(r'^import \{([^}]*)\} from "([^"]+)";\n', re.M)
 EXPORT = re.compile(r"^export ((?:async )?function\*?|class|const) (\w+)", re.M)
@@ -96,7 +95,7 @@ def examples():
 
 
 def tables_of_refusals():
-    """What tools/refusals.py knows of refusals: its constant tables."""
+    """What python/tilebench/refusals.py knows of refusals: its constant tables."""
     found = {name: value for name, value in vars(refusals).items() if name.isupper() and isinstance(value, dict) and name != "KINDS"}
     kinds = {name: vars(kind) for name, kind in {**refusals.KINDS, "system": refusals.SYSTEM}.items()}
     return {**found, "KINDS": kinds}
@@ -155,7 +154,7 @@ def behind(text):
     # (another version of zlib packs the module otherwise)
     without = re.compile(r'(?<=id="tilebench-module">)[^<]*')
     if without.sub("", page(module, crates)) != without.sub("", text):
-        told.append("tilebench.html is behind page/, examples/ or tools/refusals.py: page/bundle.py --of tilebench.html tilebench.html")
+        told.append("tilebench.html is behind page/, examples/ or python/tilebench/refusals.py: page/bundle.py --of tilebench.html tilebench.html")
     return told
 
 

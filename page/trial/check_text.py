@@ -4,7 +4,7 @@ import sys
 from trial.check import check
 from trial.reading import CHAIN, STATE, TRIANGLE, add, done, drop, editor, pick, put, verdict
 
-import refusals
+from tilebench import refusals
 
 
 @check("what is typed grows at the pause")

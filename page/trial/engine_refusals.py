@@ -3,7 +3,7 @@ import base64
 import json
 import random
 
-import refusals
+from tilebench import refusals
 from trial import runs
 from trial.check import check
 

@@ -1,0 +1,85 @@
+"""The tiles of an assembly by their sites, in flat arrays that have one empty row and column around the box."""
+from __future__ import annotations
+
+import operator
+import sys
+from array import array
+from collections.abc import Iterable, Iterator
+
+from tilebench.system import STEPS, Site, System
+
+# which of the two bytes of an index tells whether a tile stands, and what it is turned into
+HIGH = 1 if sys.byteorder == "little" else 0
+STANDS = bytes([ord("1")] * 128 + [ord("0")] * 128)
+# the types around a site, by index and side, and those that came before the tile at it
+Signature = tuple[int, int, int, int, int, bool, bool, bool, bool]
+
+
+class Grid:
+    """What stands where: `cells` has the index of the type at each site, row by row from the south, -1 for none."""
+
+    def __init__(self, system: System, xs: Iterable[int], ys: Iterable[int], kinds: Iterable[int]):
+        x0, y0, x1, y1 = system.box
+        self.system, self.west, self.south = system, x0 - 1, y0 - 1
+        self.wide, self.high = x1 - x0 + 3, y1 - y0 + 3
+        self.cells = array("h", [-1]) * (self.wide * self.high)
+        cells, wide, first = self.cells, self.wide, self.south * self.wide + self.west
+        for x, y, kind in zip(xs, ys, kinds):
+            cells[y * wide + x - first] = kind
+
+    def number(self, site: Site) -> int:
+        """The number of a site's cell, or -1 for a site that has none."""
+        column, row = site[0] - self.west, site[1] - self.south
+        return row * self.wide + column if 0 <= column < self.wide and 0 <= row < self.high else -1
+
+    def site(self, number: int) -> Site:
+        """The site of a cell."""
+        return number % self.wide + self.west, number // self.wide + self.south
+
+    def at(self, site: Site) -> int:
+        """The index of the type that stands at a site, or -1."""
+        number = self.number(site)
+        return self.cells[number] if number >= 0 else -1
+
+    def around(self, site: Site) -> tuple[int, int, int, int]:
+        """The types around a site, by index and side, -1 for none."""
+        north, east, south, west = (self.at((site[0] + a, site[1] + b)) for a, b in STEPS)
+        return north, east, south, west
+
+    def row(self, y: int) -> array[int]:
+        """The indices in a row of the box, from the west."""
+        start = (y - self.south) * self.wide + 1
+        return self.cells[start : start + self.wide - 2]
+
+    def mask(self, row: int) -> int:
+        """The tiles of a row as bits, the west the lowest."""
+        part = self.cells[row * self.wide : (row + 1) * self.wide].tobytes()
+        return int(part[HIGH::2].translate(STANDS)[::-1], 2)
+
+    def open_sites(self) -> Iterator[Site]:
+        """The empty sites beside tiles, by y, then x; those just outside the box too."""
+        masks = [0, *map(self.mask, range(self.high)), 0]
+        for row in range(self.high):
+            south, mask, north = masks[row : row + 3]
+            near = (mask << 1 | mask >> 1 | south | north) & ~mask
+            while near:
+                low = near & -near
+                near ^= low
+                yield low.bit_length() - 1 + self.west, row + self.south
+
+    def signatures(self, order: array[int]) -> Iterator[Signature]:
+        """For each cell within the border the type there, those around it, and which of these came earlier."""
+        wide, cells = self.wide, self.cells
+        end = len(cells) - wide
+        beside = [(at, cells[wide + at : end + at]) for at in (wide, 1, -wide, -1)]
+        own = order[wide:end]
+        earlier = [map(operator.lt, order[wide + at : end + at], own) for at, _ in beside]
+        return zip(cells[wide:end], *(it for _, it in beside), *earlier)
+
+    def order(self, xs: Iterable[int], ys: Iterable[int]) -> array[int]:
+        """For each cell the number in the sequence of the tile there, -1 where none stands."""
+        found = array("i", [-1]) * len(self.cells)
+        wide, first = self.wide, self.south * self.wide + self.west
+        for at, (x, y) in enumerate(zip(xs, ys)):
+            found[y * wide + x - first] = at
+        return found

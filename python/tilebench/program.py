@@ -1,0 +1,102 @@
+"""The program itself: where it is, and what it answers to words and an input."""
+from __future__ import annotations
+
+import functools
+import os
+import shutil
+import subprocess
+from collections.abc import Iterable, Iterator
+from threading import Thread
+from typing import IO
+
+from tilebench.faults import NoProgram, ProgramFailed, Refused
+
+SINGLE = b"tiles 1\ntau 1\ntile S - - - -\nbox 0 0 0 0\nseed 0 0 S\nend\n"
+# how many bytes of an answer are taken at a time
+PIECE = 1 << 16
+
+
+def path() -> str:
+    """The program: TILEBENCH, or the one beside this checkout (or beside the tools where they are installed), or the one in PATH."""
+    named = os.environ.get("TILEBENCH")
+    if named:
+        return named
+    beside = os.path.join(os.path.dirname(os.path.dirname(os.path.dirname(os.path.realpath(__file__)))), "tilebench")
+    if os.path.isfile(beside):
+        return beside
+    found = shutil.which("tilebench")
+    if found is None:
+        raise NoProgram("the program is not found: name it by the variable TILEBENCH, or install it by ./install")
+    return found
+
+
+@functools.lru_cache(None)
+def require(program: str) -> None:
+    """Sees that the program grows a system, and raises NoProgram where it does not. One that is to be built first is built
+    here, and says so in the terminal; where a signal ends this process, the build ends too."""
+    try:
+        ran = subprocess.Popen([program, "grow"], stdin=subprocess.PIPE, stdout=subprocess.DEVNULL)
+    except OSError as why:
+        raise NoProgram(f"{program}: {why.strerror}") from None
+    try:
+        ran.communicate(SINGLE)
+    finally:
+        if ran.poll() is None:
+            ran.terminate()
+            ran.wait()
+    if ran.returncode:
+        raise NoProgram(f"{program} doesn't grow a tile set")
+
+
+def asked(words: Iterable[object], given: str | bytes = b"") -> subprocess.CompletedProcess[bytes]:
+    """What the program answers: its status and both outputs, whatever they are."""
+    program = path()
+    require(program)
+    return subprocess.run([program, *map(str, words)], input=given.encode() if isinstance(given, str) else given, capture_output=True, check=False)
+
+
+def raised(words: list[str], given: str | bytes, status: int, err: bytes) -> Exception:
+    """What is to be raised of a status that is no answer."""
+    said = err.decode(errors="replace").split()
+    text = given if isinstance(given, str) else given.decode(errors="replace")
+    if status == 2 and len(said) == 3:
+        return Refused(said[2], command=words[0])
+    if status == 3 and len(said) == 5:
+        return Refused(said[4], int(said[3]), text=text, command=words[0])
+    return ProgramFailed(status, " ".join(said))
+
+
+def answer(words: Iterable[object], given: str | bytes = b"") -> tuple[bool, bytes]:
+    """Whether the answer is a yes, and the answer; or what is to be raised."""
+    words = [*map(str, words)]
+    ran = asked(words, given)
+    if ran.returncode not in (0, 1):
+        raise raised(words, given, ran.returncode, ran.stderr)
+    return ran.returncode == 0, ran.stdout
+
+
+def answered_lines(words: Iterable[object], given: str) -> Iterator[bytes]:
+    """The lines of an answer as they come, each with its end; where the program fails, what is to be raised."""
+    program, words = path(), [*map(str, words)]
+    require(program)
+    pipes = {"stdin": subprocess.PIPE, "stdout": subprocess.PIPE, "stderr": subprocess.PIPE}
+    with subprocess.Popen([program, *words], **pipes) as ran:  # type: ignore[call-overload]
+        writer = Thread(target=hand_in, args=(ran.stdin, given.encode()), daemon=True)
+        writer.start()
+        try:
+            yield from ran.stdout
+            err = ran.stderr.read()
+        finally:
+            ran.kill()
+            writer.join()
+        if ran.wait() not in (0, 1):
+            raise raised(words, given, ran.returncode, err)
+
+
+def hand_in(pipe: IO[bytes], text: bytes) -> None:
+    """Writes the whole input, as far as the program reads it."""
+    try:
+        with pipe:
+            pipe.write(text)
+    except BrokenPipeError:
+        pass
