@@ -23,8 +23,8 @@ use type_index::TypeIndex;
 
 /// Checks a certificate that fits the system, by so many workers, each in a thread of its own but
 /// one. The answer is the same for any number of them. Each calls the gate once, and then looks
-/// once at each entry of its portion and at the sites beside it; where a seed is no entry's place
-/// none is started. The time grows with the number of entries and with the number of sites of the
+/// once at each entry of its portion and at the sites beside it, also where a seed is no entry's
+/// place, which is told then. The time grows with the number of entries and with the number of sites of the
 /// box. It takes memory for the number of an entry and a tile at each site of the box, for an index
 /// of the types, and for each worker for what it has found before: a slot for each type, and those
 /// of a `FacingCache`.
@@ -42,9 +42,10 @@ pub fn verify<R: Threads + Sync, G: Gate>(
     ensures { IfOk result (IsVerdict sys.now cert.now) }
 {
     let listing = Listing::make(alloc, sys, cert)?;
+    let found = check_listing(rt, alloc, sys, &listing, WorkerCount::new(workers), gate)?;
     match first_unlisted(sys, &listing) {
         Some(site) => Ok(CertVerdict::NoSeed(site)),
-        None => check_listing(rt, alloc, sys, &listing, WorkerCount::new(workers), gate),
+        None => Ok(found),
     }
 }
 
