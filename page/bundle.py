@@ -1,12 +1,14 @@
 #!/usr/bin/env python3
-"""Bundles the page into one HTML file: its document, its style, its modules and the program's, with nothing that is fetched.
+"""Bundles the page into one HTML file: its document, its style, its modules and the program's, with nothing
+that is fetched.
 
-    page/bundle.py [--module FILE] OUT.html      the program of a module, or of none: then the page draws what it is given
-                                                 (the page tells of no crates then, as page/make alone knows of which it is made)
-    page/bundle.py --of tilebench.html OUT.html  the program of a page that was made before
+    page/bundle.py --of tilebench.html OUT.html    with the program of a page that was made before
+    page/bundle.py --module FILE OUT.html          with a program of unknown sources, of which the page tells nothing
+    page/bundle.py OUT.html                        without a program: the page draws what it is given
 
-A module of the page imports by `import { a, b as c } from "./file.js";` and exports functions, classes and constants that are
-never assigned again. Each becomes a function that is called once, in the order of what they import.
+A module of the page imports by `import { a, b as c } from "./file.js";` and exports functions, classes and
+constants that are never assigned again. Each becomes a function that is called once, in the order of what
+they import.
 """
 import argparse
 import base64
@@ -91,12 +93,13 @@ def examples():
     """All of examples/, in the order of their names."""
     names = sorted(os.listdir(f"{TOP}/examples"))
     texts = {name: read(f"{TOP}/examples/{name}") for name in names}
-    return [{"name": name, "kind": name.rpartition(".")[2], "line": line_of(text), "text": text} for name, text in texts.items()]
+    return [{"name": name, "kind": name.rpartition(".")[2], "line": line_of(text), "text": text}
+            for name, text in texts.items()]
 
 
 def tables_of_refusals():
     """What python/tilebench/refusals.py knows of refusals: its constant tables."""
-    found = {name: value for name, value in vars(refusals).items() if name.isupper() and isinstance(value, dict) and name != "KINDS"}
+    found = {name: value for name, value in vars(refusals).items() if name.isupper() and isinstance(value, dict)}
     kinds = {name: vars(kind) for name, kind in {**refusals.KINDS, "system": refusals.SYSTEM}.items()}
     return {**found, "KINDS": kinds}
 
@@ -105,7 +108,8 @@ def generated(module, crates):
     """The text of the module generated.js: what the page has of files that stand elsewhere."""
     state = {"crates": crates, "module": hashlib.sha256(module).hexdigest() if module else "", "bytes": len(module)}
     values = {"EXAMPLES": examples(), "REFUSALS": tables_of_refusals(), "STATE": state}
-    return "".join(f"export const {name} = {json.dumps(value)};\n" for name, value in values.items()).replace("<", "\\u003c")
+    lines = [f"export const {name} = {json.dumps(value)};\n" for name, value in values.items()]
+    return "".join(lines).replace("<", "\\u003c")
 
 
 def hash_of(text):
@@ -113,7 +117,8 @@ def hash_of(text):
 
 
 def policy(script, style, is_live):
-    """What the page may do: run its own script and style, a worker out of its own text, and ask nobody but tools/live."""
+    """What the page may do: run its own script and style, a worker out of its own text, and ask nobody but
+    tools/live."""
     allowed = {
         "default-src": "'none'",
         "script-src": f"{hash_of(script)} 'wasm-unsafe-eval'",
@@ -154,7 +159,8 @@ def behind(text):
     # (another version of zlib packs the module otherwise)
     without = re.compile(r'(?<=id="tilebench-module">)[^<]*')
     if without.sub("", page(module, crates)) != without.sub("", text):
-        told.append("tilebench.html is behind page/, examples/ or python/tilebench/refusals.py: page/bundle.py --of tilebench.html tilebench.html")
+        again = "page/bundle.py --of tilebench.html tilebench.html"
+        told.append(f"tilebench.html is behind page/, examples/ or refusals.py: {again}")
     return told
 
 
@@ -164,8 +170,8 @@ def scripts(made):
 
 
 def page(module=b"", crates="", live=None, changed=str):
-    """The whole page. `module` is the program as WebAssembly, made of crates with that checksum; `live` has the address and
-    the file's name behind tools/live. (`changed` is what a check makes of the scripts.)"""
+    """The whole page. `module` is the program as WebAssembly, made of crates with that checksum; `live` has
+    the address and the file's name behind tools/live. (`changed` is what a check makes of the scripts.)"""
     script, worker = map(changed, scripts(generated(module, crates)))
     style = "\n" + read(f"{PAGE}/src/style.css")
     for text in (script, worker, style):
@@ -186,7 +192,8 @@ def page(module=b"", crates="", live=None, changed=str):
 
 
 def main():
-    words = argparse.ArgumentParser(prog="bundle", description=__doc__, formatter_class=argparse.RawDescriptionHelpFormatter)
+    plain = argparse.RawDescriptionHelpFormatter
+    words = argparse.ArgumentParser(prog="bundle", description=__doc__, formatter_class=plain)
     words.add_argument("--module", metavar="FILE")
     words.add_argument("--of", metavar="PAGE")
     words.add_argument("out", metavar="OUT.html")

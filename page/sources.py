@@ -9,7 +9,8 @@ TOP = os.path.dirname(os.path.dirname(os.path.realpath(__file__)))
 def crates_below(root, name="program"):
     """The crates that a crate stands on, with itself, in the order of crates.txt."""
     with open(f"{root}/crates.txt", encoding="utf-8") as it:
-        stands_on = {head.strip(): rest.split() for head, _, rest in (line.partition(":") for line in it) if head.strip()}
+        rows = [line.partition(":") for line in it if line.strip()]
+    stands_on = {head.strip(): rest.split() for head, _, rest in rows}
     wanted = set()
     waiting = [name]
     while waiting:

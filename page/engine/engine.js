@@ -1,5 +1,5 @@
-// Runs the program for the page: in a worker of its own, or by the server of tools/live. Words and bytes go in, a status and
-// the bytes of both outputs come out.
+// Runs the program for the page: in a worker of its own, or by the server of tools/live. Words and bytes go
+// in, a status and the bytes of both outputs come out.
 import { answerOthers } from "./others.js";
 import { Failure, failure } from "./failure.js";
 import { Server } from "./native.js";

@@ -1,4 +1,5 @@
-// What the program's module asks of its host: its words, its input, its outputs and its end. Nothing proves this code.
+// What the program's module asks of its host: its words, its input, its outputs and its end. Nothing proves
+// this code.
 
 // A list of bytes that grows as it is written to.
 class Output {
@@ -20,7 +21,8 @@ class Output {
   // What was written, in a buffer of its own length. (A large one is rather handed over than copied.)
   taken() {
     const { buffer } = this.bytes;
-    return typeof buffer.transfer === "function" ? new Uint8Array(buffer.transfer(this.length)) : this.bytes.slice(0, this.length);
+    if (typeof buffer.transfer === "function") return new Uint8Array(buffer.transfer(this.length));
+    return this.bytes.slice(0, this.length);
   }
 }
 
@@ -74,7 +76,8 @@ class Host {
   }
 }
 
-// One run of the program from its beginning, in a memory of its own: its status and its outputs. A trap is thrown on.
+// One run of the program from its beginning, in a memory of its own: its status and its outputs. A trap is
+// thrown on.
 export function runProgram(module, words, input) {
   const host = new Host(words, input), began = performance.now();
   const { exports } = new WebAssembly.Instance(module, { host: host.imports() });

@@ -1,11 +1,13 @@
 """The program as a WebAssembly module, made from what the toolchain builds and the gate proves.
 
-`rattle build` checks the program's crate, lowers the whole program to one LLVM module for x86-64 and has clang compile it. Here
-the same command is run with a folder of links in place of the toolchain's, whose `clang` keeps that module. It is then given
-the layout and the name of wasm64, compiled by the toolchain's own clang, and linked with the C of this folder.
+`rattle build` checks the program's crate, lowers the whole program to one LLVM module for x86-64 and has
+clang compile it. Here the same command is run with a folder of links in place of the toolchain's, whose
+`clang` keeps that module. It is then given the layout and the name of wasm64, compiled by the toolchain's own
+clang, and linked with the C of this folder.
 
-Wanted: the toolchain's kit (`rt doc` tells where it is), and a checkout in which the program is built, by `rt ci`, by
-./tilebench or by `rt run` in crates/program: the libraries of the crates below it are read, and nothing is written there.
+Wanted: the toolchain's kit (`rt doc` tells where it is), and a checkout in which the program is built, by `rt
+ci`, by ./tilebench or by `rt run` in crates/program: the libraries of the crates below it are read, and
+nothing is written there.
 """
 import contextlib
 import glob
@@ -96,7 +98,8 @@ def build_words(kit, root):
 
 def program_module(kit, root, work):
     """The LLVM module of the proved program, and what the toolchain said of the proof."""
-    more = ["--backend", "llvm", "--incremental", f"{work}/kept", "--toolchain", keeping_toolchain(kit, work), "-o", f"{work}/program.o"]
+    more = ["--backend", "llvm", "--incremental", f"{work}/kept", "--toolchain", keeping_toolchain(kit, work)]
+    more += ["-o", f"{work}/program.o"]
     said = run(build_words(kit, root) + more, cwd=f"{root}/crates/program")
     proved = next((it for it in said.split("\n") if it.startswith("logic=proved")), None)
     if not proved:
@@ -105,7 +108,8 @@ def program_module(kit, root, work):
 
 
 def for_wasm(text):
-    """The text of the module, with wasm64's layout and name, and its two instructions of x86-64 in wasm's terms."""
+    """The text of the module, with wasm64's layout and name, and its two instructions of x86-64 in wasm's
+    terms."""
     for pattern, replacement in RETARGET:
         text = re.sub(pattern, replacement, text, flags=re.M)
     text = "\n".join(ATTRIBUTES.sub("", line) if line.startswith("attributes #") else line for line in text.split("\n"))
@@ -120,27 +124,30 @@ def linked(clang, work, level):
     """Compiles the module's text and the C of this folder, and links both."""
     lowering = [word for it in LOWERING for word in ("-mllvm", it)]
     sections = ["-ffunction-sections", "-fdata-sections"]
-    run([clang, *WASM, *FEATURES, "-c", "-x", "ir", f"{work}/wasm.ll", "-o", f"{work}/program.o", level, *sections, *lowering])
+    ends = ["-c", "-x", "ir", f"{work}/wasm.ll", "-o", f"{work}/program.o"]
+    run([clang, *WASM, *FEATURES, *ends, level, *sections, *lowering])
     objects = []
     for path in sorted(glob.glob(f"{HERE}/c/*.c")):
         objects.append(f"{work}/{os.path.basename(path)}.o")
         run([clang, *WASM, *FEATURES, "-ffreestanding", "-fno-builtin", "-O2", "-c", path, "-o", objects[-1]])
     # (the toolchain's clang is LLD too, under this name)
     os.symlink(clang, f"{work}/wasm-ld")
-    words = ["-mwasm64", "--no-entry", "--export=run", "--gc-sections", "-z", f"stack-size={STACK}", "--stack-first", "-O2", "--strip-all"]
+    words = ["-mwasm64", "--no-entry", "--export=run", "--gc-sections", "-O2", "--strip-all"]
+    words += ["-z", f"stack-size={STACK}", "--stack-first"]
     run([f"{work}/wasm-ld", *words, "-o", f"{work}/program.wasm", f"{work}/program.o", *objects])
     with open(f"{work}/program.wasm", "rb") as it:
         return it.read()
 
 
 def module_of(root, level="-O3"):
-    """The program's WebAssembly module out of a checkout in which it is built, and the toolchain's line on its proof."""
+    """The program's WebAssembly module out of a checkout in which it is built, and the toolchain's line on
+    its proof."""
     kit = kit_folder()
     clang = f"{kit}/toolchain/bin/clang"
     with tempfile.TemporaryDirectory() as work:
         bitcode, proved = program_module(kit, os.path.realpath(root), work)
-        asked = ["-x", "ir", bitcode, "-S", "-emit-llvm", "-Xclang", "-disable-llvm-passes", "--target=x86_64-unknown-linux-gnu"]
-        run([clang, "--no-default-config", *asked, "-o", f"{work}/x86.ll"])
+        as_text = ["-S", "-emit-llvm", "-Xclang", "-disable-llvm-passes", "--target=x86_64-unknown-linux-gnu"]
+        run([clang, "--no-default-config", "-x", "ir", bitcode, *as_text, "-o", f"{work}/x86.ll"])
         with open(f"{work}/x86.ll", encoding="utf-8") as it:
             text = for_wasm(it.read())
         with open(f"{work}/wasm.ll", "w", encoding="utf-8") as it:

@@ -28,6 +28,7 @@ export class Server {
     if (!came.ok) throw new Failure("trap", new TextDecoder().decode(bytes).trim());
     // (the output stands first, and the error output behind it)
     const out = header("Out");
-    return { status: header("Status"), out: bytes.subarray(0, out), err: bytes.subarray(out), ms: header("Milliseconds") };
+    const outputs = { out: bytes.subarray(0, out), err: bytes.subarray(out) };
+    return { status: header("Status"), ...outputs, ms: header("Milliseconds") };
   }
 }

@@ -1,4 +1,5 @@
-// What other scripts may ask of the program: `tilebench.run(words, text)` in this page, and messages of a page that frames it.
+// What other scripts may ask of the program: `tilebench.run(words, text)` in this page, and messages of a
+// page that frames it.
 
 // Runs that were asked for one behind another, none of which ends another one.
 class Queue {
@@ -16,7 +17,8 @@ class Queue {
 
 // A text is answered by texts, bytes by bytes.
 async function answered(queue, words, text, how) {
-  if (!Array.isArray(words) || !words.every((it) => typeof it === "string")) throw new TypeError("words are a list of strings");
+  const areWords = Array.isArray(words) && words.every((it) => typeof it === "string");
+  if (!areWords) throw new TypeError("words are a list of strings");
   if (words.some((it) => it.includes("\0"))) throw new TypeError("a word has no byte 0");
   const isText = typeof text === "string";
   // (the bytes may be another window's)
@@ -27,14 +29,16 @@ async function answered(queue, words, text, how) {
   return { status, out: given(out), err: given(err) };
 }
 
-// A page that frames this one posts {tilebench: {id, words, text, seconds}} and hears {tilebench: {id, status, out, err}}, or
-// {tilebench: {id, failed, kind}}. All that it can ask for is a run, which reads and writes nothing of this page.
+// A page that frames this one posts {tilebench: {id, words, text, seconds}} and hears {tilebench: {id,
+// status, out, err}}, or {tilebench: {id, failed, kind}}. All that it can ask for is a run, which reads and
+// writes nothing of this page.
 function answerFrame(queue, event) {
   const asked = event.data?.tilebench;
   if (!asked || event.source === window || !Array.isArray(asked.words)) return;
   const { id, words, text = "", seconds } = asked;
   const say = (answer) => event.source.postMessage({ tilebench: { id, ...answer } }, { targetOrigin: "*" });
-  answered(queue, words, text, { seconds }).then(say, (error) => say({ failed: error.message, kind: error.kind ?? "asked" }));
+  const tellWhy = (error) => say({ failed: error.message, kind: error.kind ?? "asked" });
+  answered(queue, words, text, { seconds }).then(say, tellWhy);
 }
 
 export function answerOthers(engine) {

@@ -4,7 +4,8 @@ import { runProgram } from "./host.js";
 
 let program = null;
 
-// A small system, grown once so that the browser has compiled what a growth needs before the first one is asked for.
+// A small system, grown once so that the browser has compiled what a growth needs before the first one is
+// asked for.
 const SMALL = "tiles 1\ntau 1\nglue a 1\ntile S a a a a\nbox 0 0 3 3\nseed 0 0 S\nend\n";
 
 function prepare(bytes) {

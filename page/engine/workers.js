@@ -1,7 +1,9 @@
-// The program in the page: workers with the module compiled, one of them always kept ready, so that a run that is ended (by
-// the end of its worker, as nothing else stops it) costs the next one no time.
+// The program in the page: workers with the module compiled, one of them always kept ready, so that a run
+// that is ended (by the end of its worker, as nothing else stops it) costs the next one no time.
 import { Failure, failure } from "./failure.js";
 import { lackOfBrowser } from "./memory64.js";
+
+const WITHOUT = "This page was made without the program, and draws what it is given.";
 
 const block = (name) => document.getElementById(name).textContent;
 
@@ -12,10 +14,12 @@ async function moduleBytes() {
   return new Response(stream).arrayBuffer();
 }
 
-// The address of the worker's text. (Where the policy asks for it, an address of a script comes by way of a named rule.)
+// The address of the worker's text. (Where the policy asks for it, an address of a script comes by way of a
+// named rule.)
 function workerAddress() {
   const address = URL.createObjectURL(new Blob([block("tilebench-worker")], { type: "text/javascript" }));
-  return globalThis.trustedTypes ? trustedTypes.createPolicy("tilebench", { createScriptURL: () => address }).createScriptURL("") : address;
+  if (!globalThis.trustedTypes) return address;
+  return trustedTypes.createPolicy("tilebench", { createScriptURL: () => address }).createScriptURL("");
 }
 
 // A worker with the module, which runs one thing at a time.
@@ -27,7 +31,8 @@ class ProgramWorker {
     this.settle = null;
     this.ready = new Promise((resolve, reject) => { this.start = { resolve, reject }; });
     this.ready.catch(() => {});
-    bytes.then((module) => this.worker.postMessage({ module }), (error) => this.heard({ failed: "memory", why: String(error) }));
+    const notUnpacked = (error) => this.heard({ failed: "memory", why: String(error) });
+    bytes.then((module) => this.worker.postMessage({ module }), notUnpacked);
   }
 
   heard(data) {
@@ -57,7 +62,7 @@ class ProgramWorker {
 // All workers of the page. A run takes one for itself, and gives it back or ends it.
 export class Workers {
   constructor() {
-    this.lack = block("tilebench-module") ? lackOfBrowser() : "This page was made without the program, and draws what it is given.";
+    this.lack = block("tilebench-module") ? lackOfBrowser() : WITHOUT;
     this.isNative = false;
     this.free = [];
     if (this.lack) return;

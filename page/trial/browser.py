@@ -13,13 +13,28 @@ MIDDLE = """(() => {
   return [at.left + at.width / 2, at.top + at.height / 2];
 })()"""
 
+# Puts a text into an element, and tells the page so.
+FILL = """((selector, text) => {
+  const it = document.querySelector(selector);
+  it.focus();
+  it.value = text;
+  for (const name of ["input", "change"]) it.dispatchEvent(new Event(name, { bubbles: true }));
+})(%s, %s)"""
+# Puts the cursor behind what stands in an element.
+AT_END = """((selector) => {
+  const it = document.querySelector(selector);
+  it.focus();
+  if (it.setSelectionRange) it.setSelectionRange(it.value.length, it.value.length);
+})(%s)"""
+
 
 class NotSo(AssertionError):
     """What was waited for did not come, or what was asked for is not there."""
 
 
 class Page:
-    """A page in a browser. A browser gives: load, evaluate, pictured, key, mouse, set_size, set_dark, end, name, version."""
+    """A page in a browser. A browser gives: load, evaluate, pictured, key, mouse, set_size, set_dark, end,
+    name, version."""
 
     def __init__(self, address, pictures=None):
         self.address, self.pictures, self.errors, self.is_away = address, pictures, [], False
@@ -81,15 +96,13 @@ class Page:
 
     def type(self, selector, text):
         """Types a text at the end of what stands in an element, key by key."""
-        self.evaluate(f"""(() => {{ const it = document.querySelector({json.dumps(selector)}); it.focus();
-          if (it.setSelectionRange) it.setSelectionRange(it.value.length, it.value.length); }})()""")
+        self.evaluate(AT_END % json.dumps(selector))
         for letter in text:
             self.key([], "Enter" if letter == "\n" else letter)
 
     def fill(self, selector, text):
         """Puts a text in place of what stands in an element, and tells the page so as an input does."""
-        self.evaluate(f"""(() => {{ const it = document.querySelector({json.dumps(selector)}); it.focus(); it.value = {json.dumps(text)};
-          it.dispatchEvent(new Event("input", {{ bubbles: true }})); it.dispatchEvent(new Event("change", {{ bubbles: true }})); }})()""")
+        self.evaluate(FILL % (json.dumps(selector), json.dumps(text)))
 
     def picture(self, name):
         """A picture of the window, where pictures are asked for."""

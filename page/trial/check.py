@@ -1,4 +1,5 @@
-"""The list of checks: each is a function of an opened page, with words that say what is so where it ends well."""
+"""The list of checks: each is a function of an opened page, with words that say what is so where it ends
+well."""
 import traceback
 
 CHECKS = []
@@ -22,7 +23,8 @@ def why(error):
 
 
 def run_checks(page, only, tell):
-    """Runs the checks whose subject or words have a word; answers how many there were and how many did not hold."""
+    """Runs the checks whose subject or words have a word; answers how many there were and how many did not
+    hold."""
     many = failed = 0
     subject = None
     for its_subject, words, function in CHECKS:

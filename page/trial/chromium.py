@@ -1,4 +1,5 @@
-"""Chromium without a window, spoken to over a pair of pipes by its own protocol: messages are JSON, each ended by a byte 0."""
+"""Chromium without a window, spoken to over a pair of pipes by its own protocol: messages are JSON, each
+ended by a byte 0."""
 import json
 import os
 import shutil
@@ -11,9 +12,10 @@ from trial.browser import NotSo, Page
 NAMES = ("chromium", "chromium-browser", "google-chrome")
 HELD = {"Alt": 1, "Control": 2, "Meta": 4, "Shift": 8}
 # the codes of keys that write no letter, by name
-CODES = {"Enter": 13, "Escape": 27, "Tab": 9, "Backspace": 8, "Delete": 46, "Home": 36, "End": 35, "PageUp": 33, "PageDown": 34,
-         "ArrowLeft": 37, "ArrowUp": 38, "ArrowRight": 39, "ArrowDown": 40}
-FLAGS = ["--headless=new", "--no-sandbox", "--disable-gpu", "--no-first-run", "--hide-scrollbars", "--window-size=1280,800"]
+CODES = {"Enter": 13, "Escape": 27, "Tab": 9, "Backspace": 8, "Delete": 46, "Home": 36, "End": 35,
+         "PageUp": 33, "PageDown": 34, "ArrowLeft": 37, "ArrowUp": 38, "ArrowRight": 39, "ArrowDown": 40}
+FLAGS = ["--headless=new", "--no-sandbox", "--disable-gpu", "--no-first-run", "--hide-scrollbars",
+         "--window-size=1280,800"]
 
 
 def found():
@@ -30,8 +32,8 @@ class Chromium(Page):
         there, self.to = os.pipe()
         self.out, back = os.pipe()
         # (the browser reads from descriptor 3 and writes to 4)
-        words = ["sh", "-c", f'exec "$@" 3<&{there} 4>&{back}', "sh", found(), *FLAGS, f"--user-data-dir={self.folder.name}"]
-        words += ["--remote-debugging-pipe", "about:blank"]
+        words = ["sh", "-c", f'exec "$@" 3<&{there} 4>&{back}', "sh", found(), *FLAGS]
+        words += [f"--user-data-dir={self.folder.name}", "--remote-debugging-pipe", "about:blank"]
         quiet = {"stdin": subprocess.DEVNULL, "stdout": subprocess.DEVNULL, "stderr": subprocess.DEVNULL}
         self.ran = subprocess.Popen(words, pass_fds=(there, back), **quiet)
         os.close(there)
@@ -55,7 +57,9 @@ class Chromium(Page):
 
     def call(self, method, **given):
         self.number += 1
-        asked = {"id": self.number, "method": method, "params": given, **({"sessionId": self.session} if self.session else {})}
+        asked = {"id": self.number, "method": method, "params": given}
+        if self.session:
+            asked["sessionId"] = self.session
         rest = json.dumps(asked).encode() + b"\0"
         while rest:
             rest = rest[os.write(self.to, rest) :]
@@ -99,7 +103,8 @@ class Chromium(Page):
         bits = sum(HELD[it] for it in held)
         given = {"key": key, "windowsVirtualKeyCode": code, "modifiers": bits}
         is_letter = letter and not bits & ~HELD["Shift"]
-        self.call("Input.dispatchKeyEvent", type="keyDown" if is_letter else "rawKeyDown", **given, **({"text": letter} if is_letter else {}))
+        down = {"type": "keyDown", "text": letter} if is_letter else {"type": "rawKeyDown"}
+        self.call("Input.dispatchKeyEvent", **down, **given)
         self.call("Input.dispatchKeyEvent", type="keyUp", **given)
 
     def mouse(self, x, y, many):

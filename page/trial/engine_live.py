@@ -76,11 +76,11 @@ def native_end(page):
 @check("tools/live answers under its own address and to its own host alone")
 def own_address(page):
     with live.served(CHAIN, "/bin/true") as served:
-        port = served.parts.port
         assert served.ask("GET", "")[0] == 200
         assert served.ask("GET", "/")[0] == served.ask("GET", "/other/file")[0] == 403
         assert served.ask("GET", "file", Host="example.invalid")[0] == 403
-        assert served.ask("POST", "run?word=grow", b"", Host=f"127.0.0.1:{port}", Origin="https://example.invalid")[0] == 403
+        other = {"Host": f"127.0.0.1:{served.parts.port}", "Origin": "https://example.invalid"}
+        assert served.ask("POST", "run?word=grow", b"", **other)[0] == 403
         assert served.ask("GET", "elsewhere")[0] == served.ask("POST", "elsewhere", b"")[0] == 404
 
 

@@ -31,7 +31,8 @@ def text_by_texts(page):
 
 @check("tilebench.run answers bytes by bytes")
 def bytes_by_bytes(page):
-    answer = page.value(f"tilebench.run(['grow'], new TextEncoder().encode({json.dumps(CHAIN)})).then((it) => [it.out.constructor.name, it.err.length])")
+    asked = f"tilebench.run(['grow'], new TextEncoder().encode({json.dumps(CHAIN)}))"
+    answer = page.value(f"{asked}.then((it) => [it.out.constructor.name, it.err.length])")
     assert answer == ["Uint8Array", 0], answer
 
 
@@ -49,9 +50,10 @@ def no_command(page):
 
 @check("many runs at once are all answered, in their order")
 def many_at_once(page):
-    code = "Promise.all([8, 9, 10, 11].map((n) => tilebench.run(['counter', String(n), String(2 ** n - 20)], ''))).then((all) => all.map((it) => [it.status, it.out.length]))"
-    answers = page.value(code)
-    alone = [page.value(f"tilebench.run(['counter', '{n}', '{2 ** n - 20}'], '').then((it) => [it.status, it.out.length])") for n in (8, 9, 10, 11)]
+    asked = [f"tilebench.run(['counter', '{n}', '{2 ** n - 20}'], '')" for n in (8, 9, 10, 11)]
+    together = f"Promise.all([{', '.join(asked)}])"
+    answers = page.value(f"{together}.then((all) => all.map((it) => [it.status, it.out.length]))")
+    alone = [page.value(f"{it}.then((it) => [it.status, it.out.length])") for it in asked]
     assert answers == alone and len({it[1] for it in answers}) == 4, answers
 
 
@@ -69,8 +71,12 @@ def too_long(page):
 
 @check("64 MiB of remarks are answered")
 def remarks(page):
-    code = f"""(() => {{ const text = new Uint8Array(67108864).fill(35); for (let at = 99; at < text.length; at += 100) text[at] = 10;
-      text[text.length - 1] = 10; return tilebench.run(["grow"], text, {{ seconds: 60 }}); }})()"""
+    code = """(() => {
+      const text = new Uint8Array(67108864).fill(35);
+      for (let at = 99; at < text.length; at += 100) text[at] = 10;
+      text[text.length - 1] = 10;
+      return tilebench.run(["grow"], text, { seconds: 60 });
+    })()"""
     answer = page.value(code + ".then((it) => [it.status, new TextDecoder().decode(it.err)])")
     assert answer[0] > 1 and answer[1].startswith("refused text"), answer
 
@@ -113,7 +119,8 @@ def framed(page):
         it.flush()
         page.visit(f"file://{it.name}")
         page.wait("heard.some((it) => it.isReady)")
-        page.value(f"it.contentWindow.postMessage({{ tilebench: {{ id: 7, words: ['grow'], text: {json.dumps(CHAIN)} }} }}, '*')")
+        asked = json.dumps({"tilebench": {"id": 7, "words": ["grow"], "text": CHAIN}})
+        page.value(f"it.contentWindow.postMessage({asked}, '*')")
         answer = page.wait("heard.find((it) => it.id === 7)")
         assert answer["status"] == 0 and answer["out"].endswith("unique yes\n"), answer
         page.value("it.contentWindow.postMessage({ tilebench: { id: 8, words: 5 } }, '*')")
@@ -125,9 +132,15 @@ def framed(page):
 @check("the page asks nobody: its policy refuses a fetch, a picture and a script from outside")
 def policy(page):
     code = """(async () => {
-      const refused = []; document.addEventListener("securitypolicyviolation", (event) => refused.push(event.effectiveDirective));
+      const refused = [];
+      document.addEventListener("securitypolicyviolation", (event) => refused.push(event.effectiveDirective));
       await fetch("https://example.invalid/").catch(() => {});
-      const add = (tag, src) => { const it = document.createElement(tag); try { it.src = src; } catch { refused.push(tag); } document.body.append(it); it.remove(); };
+      const add = (tag, src) => {
+        const it = document.createElement(tag);
+        it.src = src;
+        document.body.append(it);
+        it.remove();
+      };
       add("img", "https://example.invalid/x.png");
       add("iframe", "https://example.invalid/");
       await new Promise((done) => setTimeout(done, 300));
@@ -136,11 +149,14 @@ def policy(page):
     refused = page.value(code)
     assert any("connect-src" in it for it in refused) and any("img-src" in it for it in refused), refused
     page.errors.clear()
+    page.is_away = True
 
 
 @check("no text becomes markup: the page may not set innerHTML")
 def no_markup(page):
-    code = "(() => { try { document.createElement('p').innerHTML = '<b>x</b>'; return 'set'; } catch (why) { return why.name; } })()"
+    code = """(() => {
+      try { document.createElement("p").innerHTML = "<b>x</b>"; return "set"; } catch (why) { return why.name; }
+    })()"""
     assert page.value(code) == "TypeError"
     page.errors.clear()
 
@@ -160,7 +176,8 @@ def one_file(page):
     for word in ("<img", "<iframe", "<script src", "@import", "import("):
         assert word not in text, word
     assert text.count("<link") == text.count('<link rel="icon" href="data:') <= 1
-    assert page.value("performance.getEntriesByType('resource').filter((it) => !/^(blob|data):/.test(it.name)).map((it) => it.name)") == []
+    names = page.value("performance.getEntriesByType('resource').map((it) => it.name)")
+    assert all(it.startswith(("blob:", "data:")) for it in names), names
 
 
 @check("in a browser without 64-bit memories the page says what it needs")

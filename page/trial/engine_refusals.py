@@ -11,12 +11,15 @@ OF_EACH = 25
 COMMANDS = {"machine": "turing", "quadrant": "quadrant"}
 # texts with mistakes that a person makes, beside those of chance
 MISTAKEN = (
-    ("glue a 2", "gleu a 2"), ("tile S", "tile S S"), ("seed 0 0 S", "seed 0 0 s"), ("tau 2", "tau two"), ("tau 2", "tau\t2"), ("tau 2", "tau 2\r"),
-    ("tiles 1", "tiles 3"), ("tiles 1", "\ufefftiles 1"), ("tiles 1\n", ""), ("end\n", ""), ("end\n", "end"), ("glue b 2", "glue b 251"),
-    ("box 0 0 2 0", "box 2 0 0 0"), ("box 0 0 2 0", "box 0 0 2000 0"), ("seed 0 0 S", "seed 9 9 S"), ("tile C - - - b", "tile C - - - c"),
-    ("tile C - - - b", "tile C 0 - - b"), ("glue b 2", "glue a 2"), ("glue b 2", "glue b\u20132"), ("tile B", "Tile B"), ("end\n", "end\nmore\n"),
-    ("glue b 2", "pair a b 1"), ("seed 0 0 S", "seed 0 0 S\nseed 1 0 S"), ("tau 2", "tau 2 # two"), ("glue b 2", "glue b\u00a02"), ("glue b 2", "glue -3 2"),
-    ("tile S", "tile " + "S" * 41), ("glue b 2", "glue b 99999999999"), ("tau 2", "tau 0"), ("tile S - a - -", "tile S - -1 - -"),
+    ("glue a 2", "gleu a 2"), ("tile S", "tile S S"), ("seed 0 0 S", "seed 0 0 s"), ("tau 2", "tau two"),
+    ("tau 2", "tau\t2"), ("tau 2", "tau 2\r"), ("tiles 1", "tiles 3"), ("tiles 1", "\ufefftiles 1"),
+    ("tiles 1\n", ""), ("end\n", ""), ("end\n", "end"), ("end\n", "end\nmore\n"), ("tile B", "Tile B"),
+    ("box 0 0 2 0", "box 2 0 0 0"), ("box 0 0 2 0", "box 0 0 2000 0"), ("seed 0 0 S", "seed 9 9 S"),
+    ("tile C - - - b", "tile C - - - c"), ("tile C - - - b", "tile C 0 - - b"), ("tile S - a - -", "tile S - -1 - -"),
+    ("glue b 2", "glue b 251"), ("glue b 2", "glue a 2"), ("glue b 2", "glue b\u20132"), ("glue b 2", "pair a b 1"),
+    ("glue b 2", "glue b\u00a02"), ("glue b 2", "glue -3 2"), ("glue b 2", "glue b 99999999999"),
+    ("seed 0 0 S", "seed 0 0 S\nseed 1 0 S"), ("tau 2", "tau 2 # two"), ("tau 2", "tau 0"),
+    ("tile S", "tile " + "S" * 41),
 )
 ASKED = """(async () => {
   const found = [];
@@ -24,7 +27,8 @@ ASKED = """(async () => {
     const bytes = Uint8Array.from(atob(text), (it) => it.charCodeAt(0));
     const { err } = await tilebench.run([command], bytes);
     const told = /^refused text line (\\d+) (\\w+)\\s*$/.exec(new TextDecoder().decode(err));
-    found.push(told ? [Number(told[1]), told[2], tilebench.page.reasons(bytes, Number(told[1]), told[2], command)] : null);
+    const line = Number(told?.[1]);
+    found.push(told ? [line, told[2], tilebench.page.reasons(bytes, line, told[2], command)] : null);
   }
   return found;
 })()"""

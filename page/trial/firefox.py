@@ -10,9 +10,12 @@ import time
 from trial.browser import NotSo, Page
 
 NAMES = ("firefox-esr", "firefox")
+# whether pages see a dark scheme (0) or a light one (1)
+SCHEME = "layout.css.prefers-color-scheme.content-override"
 # keys that write no letter, as WebDriver names them
-KEYS = {"Enter": "\ue007", "Escape": "\ue00c", "Tab": "\ue004", "Backspace": "\ue003", "Delete": "\ue017", "Home": "\ue011", "End": "\ue010",
-        "PageUp": "\ue00e", "PageDown": "\ue00f", "ArrowLeft": "\ue012", "ArrowUp": "\ue013", "ArrowRight": "\ue014", "ArrowDown": "\ue015",
+KEYS = {"Enter": "\ue007", "Escape": "\ue00c", "Tab": "\ue004", "Backspace": "\ue003", "Delete": "\ue017",
+        "Home": "\ue011", "End": "\ue010", "PageUp": "\ue00e", "PageDown": "\ue00f",
+        "ArrowLeft": "\ue012", "ArrowUp": "\ue013", "ArrowRight": "\ue014", "ArrowDown": "\ue015",
         "Shift": "\ue008", "Control": "\ue009", "Alt": "\ue00a", "Meta": "\ue03d"}
 PREFERENCES = {
     "marionette.port": 0,
@@ -27,9 +30,13 @@ PREFERENCES = {
     "network.connectivity-service.enabled": False,
     "ui.prefersReducedMotion": 0,
 }
+FLAGS = ["--headless", "--marionette", "--remote-allow-system-access", "--no-remote"]
 VALUE = """const done = arguments[arguments.length - 1];
-Promise.resolve().then(() => (%s)).then((value) => done({ value: value ?? null }), (error) => done({ thrown: String(error) }));"""
-SIZE = """const it = gBrowser.selectedBrowser; window.resizeTo(Math.max(arguments[0], 700) + 60, arguments[1] + 250);
+Promise.resolve().then(() => (%s))
+  .then((value) => done({ value: value ?? null }), (error) => done({ thrown: String(error) }));"""
+# the size of a window, and of the page within it
+SIZE = """const it = gBrowser.selectedBrowser;
+window.resizeTo(Math.max(arguments[0], 700) + 60, arguments[1] + 250);
 for (const [name, value] of [["width", arguments[0]], ["height", arguments[1]]])
   for (const kind of ["min-", "max-", ""]) it.style.setProperty(kind + name, value + "px", "important");"""
 
@@ -46,9 +53,10 @@ class Firefox(Page):
         super().__init__(address, pictures)
         self.folder = tempfile.TemporaryDirectory(ignore_cleanup_errors=True)
         with open(f"{self.folder.name}/user.js", "w", encoding="utf-8") as it:
-            it.writelines(f"user_pref({json.dumps(name)}, {json.dumps(value)});\n" for name, value in PREFERENCES.items())
+            for name, value in PREFERENCES.items():
+                it.write(f"user_pref({json.dumps(name)}, {json.dumps(value)});\n")
         quiet = {"stdin": subprocess.DEVNULL, "stdout": subprocess.DEVNULL, "stderr": subprocess.DEVNULL}
-        words = [found(), "--headless", "--marionette", "--remote-allow-system-access", "--no-remote", "--profile", self.folder.name, "--width", "1340", "--height", "1050"]
+        words = [found(), *FLAGS, "--profile", self.folder.name]
         self.ran = subprocess.Popen(words, env={**os.environ, "HOME": self.folder.name}, **quiet)
         self.socket = socket.create_connection(("127.0.0.1", self.port()))
         self.number, self.left = 0, b""
@@ -105,7 +113,8 @@ class Firefox(Page):
         self.call("WebDriver:Navigate", url=address)
 
     def evaluate(self, code):
-        answer = self.call("WebDriver:ExecuteAsyncScript", script=VALUE % code, args=[], sandbox=None, newSandbox=False)["value"]
+        how = {"args": [], "sandbox": None, "newSandbox": False}
+        answer = self.call("WebDriver:ExecuteAsyncScript", script=VALUE % code, **how)["value"]
         if "thrown" in answer:
             raise NotSo(f"{code[:200]}: {answer['thrown']}")
         return answer["value"]
@@ -123,19 +132,21 @@ class Firefox(Page):
 
     def key(self, held, key):
         down = [*(KEYS[it] for it in held), KEYS.get(key, key)]
-        steps = [{"type": "keyDown", "value": it} for it in down] + [{"type": "keyUp", "value": it} for it in reversed(down)]
+        steps = [{"type": "keyDown", "value": it} for it in down]
+        steps += [{"type": "keyUp", "value": it} for it in reversed(down)]
         self.call("WebDriver:PerformActions", actions=[{"type": "key", "id": "keys", "actions": steps}])
 
     def mouse(self, x, y, many):
         steps = [{"type": "pointerMove", "x": round(x), "y": round(y), "duration": 0, "origin": "viewport"}]
         steps += [{"type": kind, "button": 0} for _ in range(many) for kind in ("pointerDown", "pointerUp")]
-        self.call("WebDriver:PerformActions", actions=[{"type": "pointer", "id": "mouse", "parameters": {"pointerType": "mouse"}, "actions": steps}])
+        mouse = {"type": "pointer", "id": "mouse", "parameters": {"pointerType": "mouse"}, "actions": steps}
+        self.call("WebDriver:PerformActions", actions=[mouse])
 
     def set_size(self, width, height):
         self.in_browser(SIZE, width, height)
 
     def set_dark(self, is_dark):
-        self.in_browser("Services.prefs.setIntPref('layout.css.prefers-color-scheme.content-override', arguments[0] ? 0 : 1)", is_dark)
+        self.in_browser("Services.prefs.setIntPref(arguments[0], arguments[1])", SCHEME, 0 if is_dark else 1)
 
     def end(self):
         self.ran.kill()

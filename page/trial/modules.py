@@ -1,6 +1,8 @@
-"""Modules in place of the program's, written byte by byte, that end badly: so the page is tried with what the program never does.
+"""Modules in place of the program's, written byte by byte, that end badly: so the page is tried with what the
+program never does.
 
-Each answers at once where the second word is there (as in the first run of each worker), and else does what its name says.
+Each answers at once where the second word is there (as in the first run of each worker), and else does what
+its name says.
 """
 import os
 import tempfile

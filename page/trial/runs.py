@@ -1,5 +1,5 @@
-"""Runs of all commands on valid and on broken texts, by the native program and by the page: status, output and error output
-must be the same."""
+"""Runs of all commands on valid and on broken texts, by the native program and by the page: status, output
+and error output must be the same."""
 import base64
 import hashlib
 import json
@@ -14,13 +14,15 @@ TOP = os.path.dirname(os.path.dirname(HERE))
 READERS = {"machine": "turing", "quadrant": "quadrant", "schedule": "schedule"}
 # on each system of examples/
 ON_SYSTEMS = (
-    ["grow"], ["grow", "--workers", "4", "--choice", "7"], ["grow", "--workers", "16"], ["race"], ["race", "--workers", "3", "--choice", "5"],
+    ["grow"], ["grow", "--workers", "4", "--choice", "7"], ["grow", "--workers", "16"],
+    ["race"], ["race", "--workers", "3", "--choice", "5"],
     ["report"], ["format"], ["upgrade"], ["watch", "--frames", "3", "--workers", "2"],
 )
 # on a system with its growth behind it
 ON_GROWTHS = (["check"], ["replay"], ["picture"], ["report"])
 WITHOUT_TEXT = (
-    ["counter", "8", "5"], ["counter", "30", "1"], ["counter", "8", "200"], ["load", "7"], ["load", "70"], ["nothing"], [], ["grow", "--workers", "17"],
+    ["counter", "8", "5"], ["counter", "30", "1"], ["counter", "8", "200"], ["load", "7"], ["load", "70"],
+    ["nothing"], [], ["grow", "--workers", "17"],
     ["batch"], ["check"], ["certify"], ["verify"], ["race"], ["grow", "--choice"], ["counter", "x"],
 )
 ON_BROKEN = (["grow"], ["grow", "--choice", "9"], ["report"], ["format"], ["watch"], ["check"], ["certify"])
@@ -32,7 +34,8 @@ ASKED = """(async () => {
   for (const [words, text] of %s) {
     const { status, out, err } = await tilebench.run(words, Uint8Array.from(atob(text), (it) => it.charCodeAt(0)));
     const sum = new Uint8Array(await crypto.subtle.digest("SHA-256", out));
-    found.push([status, [...sum].map((it) => it.toString(16).padStart(2, "0")).join(""), new TextDecoder().decode(err)]);
+    const digits = [...sum].map((it) => it.toString(16).padStart(2, "0")).join("");
+    found.push([status, digits, new TextDecoder().decode(err)]);
   }
   return found;
 })()"""
@@ -61,7 +64,8 @@ class Native:
             self.environment["LD_PRELOAD"] = made
 
     def run(self, words, text):
-        ran = subprocess.run([self.program, *words], input=text, stdout=subprocess.PIPE, stderr=subprocess.PIPE, env=self.environment, check=False)
+        pipes = {"stdout": subprocess.PIPE, "stderr": subprocess.PIPE, "env": self.environment}
+        ran = subprocess.run([self.program, *words], input=text, check=False, **pipes)
         return ran.returncode, ran.stdout, ran.stderr
 
 
@@ -141,8 +145,9 @@ def compare(page, program, tell):
         some = runs[start : start + 40]
         for (name, words, text), (status, total, err) in zip(some, answers_of(page, some)):
             its_status, its_out, its_err = native.run(words, text)
+            its = its_status, hashlib.sha256(its_out).hexdigest(), its_err.decode(errors="replace")
             refused += its_status > 1
-            if (status, total, err) != (its_status, hashlib.sha256(its_out).hexdigest(), its_err.decode(errors="replace")):
+            if (status, total, err) != its:
                 differ += 1
                 tell(f"  DIFFERS: {name}, {' '.join(words)}: {status} {err!r}, natively {its_status} {its_err!r}")
     return len(runs), refused, differ

@@ -1,4 +1,5 @@
-"""The native program's answers to each of examples/, as they were stored: what the page says of them with no kit around.
+"""The native program's answers to each of examples/, as they were stored: what the page says of them with no
+kit around.
 
     page/trial/answers.json     for each example its words, the status, the checksum of the output, and the error output
 """
@@ -23,7 +24,8 @@ def write(program):
     rows = []
     for name, words, text in asked():
         status, out, err = native.run(words, text)
-        rows.append({"name": name, "words": words, "status": status, "out": hashlib.sha256(out).hexdigest(), "err": err.decode()})
+        sum_of = hashlib.sha256(out).hexdigest()
+        rows.append({"name": name, "words": words, "status": status, "out": sum_of, "err": err.decode()})
     with open(PATH, "w", encoding="utf-8") as it:
         it.write("[\n" + ",\n".join(json.dumps(row) for row in rows) + "\n]\n")
 

@@ -1,5 +1,6 @@
-// The heap: blocks in classes of four steps for each power of two, cut from the end of the module's memory. A freed block
-// goes to the list of its class and is given out again; none goes back to the browser before the module ends.
+// The heap: blocks in classes of four steps for each power of two, cut from the end of the module's memory. A
+// freed block goes to the list of its class and is given out again; none goes back to the browser before the
+// module ends.
 #include "host.h"
 
 #define PAGE ((u64)1 << 16)
@@ -31,7 +32,8 @@ static u64 room_of(u64 class) { return (size_of(class) + HEAD + 15) & ~(u64)15; 
 
 static u64 *head_of(void *block) { return (u64 *)((u8 *)block - HEAD); }
 
-// Lengthens the memory so that a block of so many bytes has room at its end: an eighth at a time where the browser gives that.
+// Lengthens the memory so that a block of so many bytes has room at its end: an eighth at a time where the
+// browser gives that.
 static int lengthened(u64 bytes) {
     u64 least = (top + bytes - end + PAGE - 1) / PAGE, eighth = end / PAGE / 8, pages = least;
     if (eighth > least && __builtin_wasm_memory_grow(0, eighth) != (u64)-1) pages = eighth;

@@ -1,4 +1,5 @@
-// Words, input, outputs and the end of the run, by the functions of the host; and the entry that the host calls.
+// Words, input, outputs and the end of the run, by the functions of the host; and the entry that the host
+// calls.
 #include "host.h"
 
 #define INPUT_OUTPUT_ERROR 5
@@ -41,7 +42,8 @@ i32 __xpg_strerror_r(i32 code, u8 *buffer, u64 length) {
 
 u64 __sysv_signal(i32 number, u64 handler) { return 0; }
 
-// Lowered for x86-64, the module asks as it starts whether the processor has what that code needs. This code is wasm64's.
+// Lowered for x86-64, the module asks as it starts whether the processor has what that code needs. This code
+// is wasm64's.
 const void *__x86_get_cpuid_feature_leaf(i32 leaf) {
     static u8 has_all[64];
     for (int i = 0; i < 64; i++) has_all[i] = 255;

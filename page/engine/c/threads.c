@@ -1,5 +1,5 @@
-// There is one thread. None can be made (EAGAIN), so the program does the parts of its work one after another, as it does
-// natively where the system gives it no thread.
+// There is one thread. None can be made (EAGAIN), so the program does the parts of its work one after
+// another, as it does natively where the system gives it no thread.
 #include "host.h"
 
 #define TRY_AGAIN 11
