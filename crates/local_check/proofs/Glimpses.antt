@@ -22,7 +22,7 @@ use Rattle.type_index.specs.SideSets.{SideSet, has, sides_beside}
 use Rattle.type_index.specs.Clean.{ComesClean, AreSettled}
 use Rattle.type_index.proofs.Settling.{has_beside, held_by, strength_is}
 use Rattle.local_check.specs.declared.glances.Glance.{Glance}
-use Rattle.local_check.specs.declared.glances.Seen.{Seen}
+use Rattle.local_check.specs.declared.glances.LastGlance.{LastGlance}
 use Rattle.local_check.specs.Inner.Glances.{IsGlance, IsGlanceFor, glance_of}
 use Rattle.local_check.proofs.Sites.{slice_get-set, slice_get-apart}
 
@@ -55,24 +55,24 @@ nothing_seen sys tiles m t glues faces none glance sum unclean = record {
 }
 
 -- one more that was seen
-pub seen_set : (sys : TileSystem) (last : List Seen) (t : TypeId) (f : Seen) → t.0 < length last →
-    ((u : TypeId) (g : Seen) → slice_get last u.0 ≡ Some g → IsGlanceFor sys u g.key g.beside (glance_of g)) → IsGlanceFor sys t f.key f.beside (glance_of f) →
-    (u : TypeId) (g : Seen) → slice_get (set last t.0 f) u.0 ≡ Some g → IsGlanceFor sys u g.key g.beside (glance_of g)
+pub seen_set : (sys : TileSystem) (last : List LastGlance) (t : TypeId) (f : LastGlance) → t.0 < length last →
+    ((u : TypeId) (g : LastGlance) → slice_get last u.0 ≡ Some g → IsGlanceFor sys u g.key g.beside (glance_of g)) → IsGlanceFor sys t f.key f.beside (glance_of f) →
+    (u : TypeId) (g : LastGlance) → slice_get (set last t.0 f) u.0 ≡ Some g → IsGlanceFor sys u g.key g.beside (glance_of g)
 seen_set sys last t f within each here u g at = elim (cases_eq u.0 t.0) [
   | inl same ↦
       let type_is : t ≡ u = λ k. record { 0 = sym same k } in
       let At : ℕ → Type 0 = λ j. slice_get (set last t.0 f) j ≡ Some g in
       let value : f ≡ g = same_Some f g (sym (slice_get-set last t.0 f within) ∙ subst At same at) in
-      subst (λ (h : Seen). IsGlanceFor sys u h.key h.beside (glance_of h)) value (subst (λ (v : TypeId). IsGlanceFor sys v f.key f.beside (glance_of f)) type_is here)
+      subst (λ (h : LastGlance). IsGlanceFor sys u h.key h.beside (glance_of h)) value (subst (λ (v : TypeId). IsGlanceFor sys v f.key f.beside (glance_of f)) type_is here)
   | inr other ↦ each u g (slice_get-apart last t.0 u.0 f g other at)
 ]
 
 -- each was seen so in a list of them
-pub all_seen : (sys : TileSystem) (last : List Seen) (n : ℕ) (f : Seen) → last ≡ replicate n f → ((t : TypeId) → IsGlanceFor sys t f.key f.beside (glance_of f)) →
-    (t : TypeId) (g : Seen) → slice_get last t.0 ≡ Some g → IsGlanceFor sys t g.key g.beside (glance_of g)
+pub all_seen : (sys : TileSystem) (last : List LastGlance) (n : ℕ) (f : LastGlance) → last ≡ replicate n f → ((t : TypeId) → IsGlanceFor sys t f.key f.beside (glance_of f)) →
+    (t : TypeId) (g : LastGlance) → slice_get last t.0 ≡ Some g → IsGlanceFor sys t g.key g.beside (glance_of g)
 all_seen sys last n f are each t g at =
-    let At : List Seen → Type 0 = λ l. slice_get l t.0 ≡ Some g in
+    let At : List LastGlance → Type 0 = λ l. slice_get l t.0 ≡ Some g in
     let there = subst At are at in
     let within : t.0 < n = omega (arith, slice_get_within (replicate n f) t.0 g there, length-replicate n f) in
     let value : f ≡ g = sym (get_or-replicate n t.0 f f within) ∙ get_or_from_slice_get (replicate n f) t.0 g f there in
-    subst (λ (h : Seen). IsGlanceFor sys t h.key h.beside (glance_of h)) value (each t)
+    subst (λ (h : LastGlance). IsGlanceFor sys t h.key h.beside (glance_of h)) value (each t)

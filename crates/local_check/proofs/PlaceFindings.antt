@@ -19,8 +19,8 @@ use Rattle.type_index.specs.HeldTypes.{FirstHeldBut}
 use Rattle.type_index.specs.SideSets.{SideSet, intersection, difference, complement, glues_on}
 use Rattle.local_check.specs.Inner.Sides.{bound_sides, pull_on}
 use Rattle.local_check.proofs.Sites.{slice_get-set, slice_get-apart}
-use Rattle.local_check.specs.declared.findings.Finding.{Finding}
-use Rattle.local_check.specs.declared.findings.Known.{Known}
+use Rattle.local_check.specs.declared.findings.PlaceFinding.{PlaceFinding}
+use Rattle.local_check.specs.declared.findings.LastFinding.{LastFinding}
 use Rattle.local_check.specs.Inner.PlaceFindings.{IsFinding, IsKnown, FindingTable, ArePlaceFindings}
 
 abbrev pub none_set : SideSet
@@ -40,15 +40,15 @@ same_facing sys tiles m f g faces_f faces_g = λ k. record {
 }
 
 -- one more that is known
-pub known_set : (sys : TileSystem) (seeks : Bool) (last : List Known) (t : TypeId) (f : Known) → t.0 < length last →
-    ((u : TypeId) (g : Known) → slice_get last u.0 ≡ Some g → IsKnown sys seeks u g) → IsKnown sys seeks t f →
-    (u : TypeId) (g : Known) → slice_get (set last t.0 f) u.0 ≡ Some g → IsKnown sys seeks u g
+pub known_set : (sys : TileSystem) (seeks : Bool) (last : List LastFinding) (t : TypeId) (f : LastFinding) → t.0 < length last →
+    ((u : TypeId) (g : LastFinding) → slice_get last u.0 ≡ Some g → IsKnown sys seeks u g) → IsKnown sys seeks t f →
+    (u : TypeId) (g : LastFinding) → slice_get (set last t.0 f) u.0 ≡ Some g → IsKnown sys seeks u g
 known_set sys seeks last t f within each here u g at = elim (cases_eq u.0 t.0) [
   | inl same ↦
       let type_is : t ≡ u = λ k. record { 0 = sym same k } in
       let At : ℕ → Type 0 = λ j. slice_get (set last t.0 f) j ≡ Some g in
       let value : f ≡ g = same_Some f g (sym (slice_get-set last t.0 f within) ∙ subst At same at) in
-      subst (λ (h : Known). IsKnown sys seeks u h) value (subst (λ (v : TypeId). IsKnown sys seeks v f) type_is here)
+      subst (λ (h : LastFinding). IsKnown sys seeks u h) value (subst (λ (v : TypeId). IsKnown sys seeks v f) type_is here)
   | inr other ↦ each u g (slice_get-apart last t.0 u.0 f g other at)
 ]
 
@@ -82,7 +82,7 @@ module _ (sys : TileSystem) (tiles : List Place) (m : Site) (t : TypeId) (glues 
     west = on_none sides.west g.west (faces_g.west ∙ sym faces.west ∙ unfaced.west);
   }
 
-  pub nothing_found : (before : SideSet) (seeks : Bool) (f : Finding) → 1 ≤ sys.tau → before ≡ none_set → f.earlier ≡ none_set → f.outputs ≡ none_set → f.sum ≡ 0 → f.rival ≡ None →
+  pub nothing_found : (before : SideSet) (seeks : Bool) (f : PlaceFinding) → 1 ≤ sys.tau → before ≡ none_set → f.earlier ≡ none_set → f.outputs ≡ none_set → f.sum ≡ 0 → f.rival ≡ None →
       IsFinding sys tiles m t before seeks f
   nothing_found before seeks f some_tau stood earlier outputs sum rival = record {
     earlier = earlier ∙ (λ k. intersection (none_bound k) (sym stood k));
@@ -96,17 +96,17 @@ module _ (sys : TileSystem) (tiles : List Place) (m : Site) (t : TypeId) (glues 
   }
 
 -- each is known so in a list of them
-pub all_known : (sys : TileSystem) (seeks : Bool) (last : List Known) (n : ℕ) (f : Known) → last ≡ replicate n f → ((t : TypeId) → IsKnown sys seeks t f) →
-    (t : TypeId) (g : Known) → slice_get last t.0 ≡ Some g → IsKnown sys seeks t g
+pub all_known : (sys : TileSystem) (seeks : Bool) (last : List LastFinding) (n : ℕ) (f : LastFinding) → last ≡ replicate n f → ((t : TypeId) → IsKnown sys seeks t f) →
+    (t : TypeId) (g : LastFinding) → slice_get last t.0 ≡ Some g → IsKnown sys seeks t g
 all_known sys seeks last n f are each t g at =
-    let At : List Known → Type 0 = λ l. slice_get l t.0 ≡ Some g in
+    let At : List LastFinding → Type 0 = λ l. slice_get l t.0 ≡ Some g in
     let there = subst At are at in
     let within : t.0 < n = omega (arith, slice_get_within (replicate n f) t.0 g there, length-replicate n f) in
     let value : f ≡ g = sym (get_or-replicate n t.0 f f within) ∙ get_or_from_slice_get (replicate n f) t.0 g f there in
-    subst (λ (h : Known). IsKnown sys seeks t h) value (each t)
+    subst (λ (h : LastFinding). IsKnown sys seeks t h) value (each t)
 
 -- where no more rivals are sought, what was found is still known
-pub known_unsought : (sys : TileSystem) (seeks : Bool) (t : TypeId) (f : Known) → IsKnown sys seeks t f → IsKnown sys false t f
+pub known_unsought : (sys : TileSystem) (seeks : Bool) (t : TypeId) (f : LastFinding) → IsKnown sys seeks t f → IsKnown sys false t f
 known_unsought sys seeks t f known tiles m glues faces of_glues =
     let is = known tiles m glues faces of_glues in
     record { earlier = is.earlier; outputs = is.outputs; sum = is.sum; rival = λ sought. cc sought }

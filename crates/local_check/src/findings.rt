@@ -20,16 +20,16 @@ use type_index::{FacingCache, SideSet, TypeIndex, glues_of_key, key_beside};
 // What is found at a place, where tiles stood beside some sides before: the sides that interact
 // with those tiles, their pull, the other sides that interact, and the first rival.
 #[derive(Clone, Copy)]
-pub(crate) struct Finding {
+pub(crate) struct PlaceFinding {
     pub(crate) earlier: SideSet,
     pub(crate) sum: u32,
     pub(crate) outputs: SideSet,
     pub(crate) rival: Option<TypeId>,
 }
 
-impl Finding {
+impl PlaceFinding {
     // Where no glue faces the site.
-    const NONE: Finding = Finding {
+    const NONE: PlaceFinding = PlaceFinding {
         earlier: SideSet::NONE,
         sum: 0,
         outputs: SideSet::NONE,
@@ -39,16 +39,16 @@ impl Finding {
 
 // What was found where tiles stood beside these sides before and the glues had this key.
 #[derive(Clone, Copy)]
-struct Known {
+struct LastFinding {
     key: u64,
     before: SideSet,
-    finding: Finding,
+    finding: PlaceFinding,
 }
 
 // For each type what was found last at a place of it, so that it need not be looked up again.
 // Rivals are sought until one is found, since only the first one counts.
 pub(crate) struct Findings {
-    last: Vec<Known>,
+    last: Vec<LastFinding>,
     cache: FacingCache,
     seeks: bool,
 }
@@ -78,10 +78,10 @@ impl Findings {
         ensures seeks { IfOk result (λ findings. findings.seeks ≡ true) }
     {
         sys.recall_valid();
-        let none = Known {
+        let none = LastFinding {
             key: 0,
             before: SideSet::NONE,
-            finding: Finding::NONE,
+            finding: PlaceFinding::NONE,
         };
         Ok(Findings {
             last: Vec::from_elem(alloc, none, sys.type_count() as usize)?,
@@ -112,7 +112,7 @@ impl Findings {
         place: Place,
         number: usize,
         before: &SideSet,
-    ) -> Finding
+    ) -> PlaceFinding
         requires valid { IsValid sys.now }
         requires known { ArePlaceFindings sys.now self.old }
         requires index { IsIndexOf sys.now types.now }
@@ -153,13 +153,13 @@ impl Findings {
         let outputs = bound.without(before);
         let kept = outputs.complement().glues_on(&glues);
         let rival = self.rival(sys, types, &kept, tile);
-        let finding = Finding {
+        let finding = PlaceFinding {
             earlier: bound.within(before),
             sum: before.sum_on(&bonds),
             outputs,
             rival,
         };
-        self.last[tile.0 as usize] = Known {
+        self.last[tile.0 as usize] = LastFinding {
             key,
             before,
             finding,

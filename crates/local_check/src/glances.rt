@@ -37,7 +37,7 @@ impl Glance {
 
 // What was seen where the glues had this key and tiles stood beside these sides.
 #[derive(Clone, Copy)]
-struct Seen {
+struct LastGlance {
     key: u64,
     sum: u32,
     beside: SideSet,
@@ -46,7 +46,7 @@ struct Seen {
 
 // For each type what was seen last of a tile of it, so that it need not be looked up again.
 pub(crate) struct Glances {
-    last: Vec<Seen>,
+    last: Vec<LastGlance>,
     cache: FacingCache,
 }
 
@@ -73,7 +73,7 @@ impl Glances {
         ensures { IfOk result (AreGlances sys.now) }
     {
         sys.recall_valid();
-        let none = Seen {
+        let none = LastGlance {
             key: 0,
             sum: 0,
             beside: SideSet::NONE,
@@ -144,7 +144,7 @@ impl Glances {
         let bonds = types.bonds(sys, &glues, tile);
         let sum = bonds.sum();
         let clean = self.is_clean(sys, types, tile, &glues, &bonds, beside, asked);
-        self.last[tile.0 as usize] = Seen {
+        self.last[tile.0 as usize] = LastGlance {
             key,
             sum,
             beside,

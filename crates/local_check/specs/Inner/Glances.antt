@@ -11,7 +11,7 @@ use Rattle.type_index.specs.Findings.{AreFindings, FoundBefore, IsKeyOf}
 use Rattle.type_index.specs.SideSets.{SideSet, sides_beside}
 use Rattle.type_index.specs.Clean.{ComesClean}
 use Rattle.local_check.specs.declared.glances.Glance.{Glance}
-use Rattle.local_check.specs.declared.glances.Seen.{Seen}
+use Rattle.local_check.specs.declared.glances.LastGlance.{LastGlance}
 
 -- at a site among these tiles, the pull on the type, and that it comes clean, if that is said
 pub record IsGlance (sys : TileSystem) (tiles : List Place) (m : Site) (t : TypeId) (glance : Glance) : Type 0 where
@@ -23,16 +23,16 @@ abbrev pub IsGlanceFor : TileSystem → TypeId → ℕ → SideSet → Glance �
 IsGlanceFor sys t key beside glance = (tiles : List Place) (m : Site) (glues : FacingGlues) → FacesSite sys tiles m glues → IsKeyOf glues key →
     beside ≡ sides_beside tiles m → IsGlance sys tiles m t glance
 
-abbrev pub glance_of : Seen → Glance
+abbrev pub glance_of : LastGlance → Glance
 glance_of seen = record { sum = seen.sum; clean = seen.clean }
 
 -- what was seen last for each type, and what was found for glues
 pub record GlanceTable : Type 0 where
-  pub last : List Seen
+  pub last : List LastGlance
   pub cache : FoundBefore
 
 -- each was seen for its type
 pub record AreGlances (sys : TileSystem) (table : GlanceTable) : Type 0 where
   pub count : length table.last ≡ length sys.types
-  pub each : (t : TypeId) (seen : Seen) → slice_get table.last t.0 ≡ Some seen → IsGlanceFor sys t seen.key seen.beside (glance_of seen)
+  pub each : (t : TypeId) (seen : LastGlance) → slice_get table.last t.0 ≡ Some seen → IsGlanceFor sys t seen.key seen.beside (glance_of seen)
   pub cache : AreFindings sys table.cache

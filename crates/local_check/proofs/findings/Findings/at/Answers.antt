@@ -7,7 +7,7 @@ use Rattle.attach_rule.specs.declared.facing.FacingGlues.{FacingGlues}
 use Rattle.attach_rule.specs.Facing.{FacesSite}
 use Rattle.type_index.specs.Findings.{IsKeyOf}
 use Rattle.type_index.specs.SideSets.{SideSet}
-use Rattle.local_check.specs.declared.findings.Known.{Known}
+use Rattle.local_check.specs.declared.findings.LastFinding.{LastFinding}
 use Rattle.local_check.specs.Inner.PlaceFindings.{FindingTable, IsFinding, ArePlaceFindings, IsKept}
 use Rattle.atam.proofs.Boxes.{near_inside}
 use Rattle.local_check.proofs.findings.Findings.at.Goals as goal
@@ -54,7 +54,7 @@ returns-clause-finding c =
     let items = c.self-2.inside.last.items in
     let last = c.index.result.now in
     let read = slice_get_read items (length items) tile.0 last refl (omega (arith, known.count, c.requires.kind)) c.index.ensures in
-    let Here : Option Known → Type 0 = λ found. IfSome found (λ k. (k.key ≡ c.key_beside-key.result) × (k.before ≡ before)) in
+    let Here : Option LastFinding → Type 0 = λ found. IfSome found (λ k. (k.key ≡ c.key_beside-key.result) × (k.before ≡ before)) in
     let kept = subst Here read (subst Kept (sym c.self-2.view_is) c.find.ensures.kept) in
     let glues : FacingGlues = record {
       north = glue_at sys whole (neighbor site North) South;

@@ -6,7 +6,7 @@ use Rattle.attach_rule.specs.Facing.{FacesSite}
 use Rattle.attach_rule.proofs.Held.{sum_pull}
 use Rattle.type_index.specs.Findings.{AreFindings}
 use Rattle.type_index.proofs.Keys.{same_key}
-use Rattle.local_check.specs.declared.glances.Seen.{Seen}
+use Rattle.local_check.specs.declared.glances.LastGlance.{LastGlance}
 use Rattle.local_check.specs.Inner.Glances.{IsGlanceFor, glance_of}
 use Rattle.local_check.proofs.Glimpses.{comes_clean, seen_set}
 use Rattle.local_check.proofs.glances.Glances.look.Goals as goal
@@ -31,8 +31,8 @@ returns-clause-known c =
     let inside = c.self.inside in
     let items = inside.last.items in
     let items_are : items ≡ c.args.self.now.last = ap (λ table. table.last) c.self.view_is ∙ c.is_clean-clean.ensures.last in
-    let Each : List Seen → Type 0 = λ l. (t : TypeId) (k : Seen) → slice_get l t.0 ≡ Some k → IsGlanceFor sys t k.key k.beside (glance_of k) in
-    let seen : Seen = record { key = c.args.key; sum = c.sum-sum.result; beside = c.args.beside; clean = c.is_clean-clean.result } in
+    let Each : List LastGlance → Type 0 = λ l. (t : TypeId) (k : LastGlance) → slice_get l t.0 ≡ Some k → IsGlanceFor sys t k.key k.beside (glance_of k) in
+    let seen : LastGlance = record { key = c.args.key; sum = c.sum-sum.result; beside = c.args.beside; clean = c.is_clean-clean.result } in
     let here : IsGlanceFor sys tile c.args.key c.args.beside (glance_of seen) = λ tiles m g faces of_g stands.
     let glues = c.glues_of_key-glues.result in
     let faces_so = subst (λ (h : FacingGlues). FacesSite sys tiles m h) (same_key g glues c.args.key of_g c.glues_of_key-glues.ensures) faces in
