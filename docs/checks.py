@@ -70,7 +70,8 @@ def limits():
 
 def commands():
     """The commands of the program: each has a row in README.md, and its parts in the other pages and the manual."""
-    made = subprocess.run([f"{TOP}/dev/commands", "--check"], check=False, stdout=subprocess.PIPE).stdout.decode().splitlines()
+    ran = subprocess.run([f"{TOP}/dev/commands", "--check"], check=False, stdout=subprocess.PIPE)
+    made = ran.stdout.decode().splitlines()
     names = re.findall(r'^    "(\w+)": \(', read("python/tilebench/commands.py"), re.M)
     table = read("README.md").partition("\nCommand|")[2].partition("\n\n")[0]
     readme = {it.split()[0] for cells in rows(table) for it in CODE.findall(cells[0])}
