@@ -53,10 +53,13 @@ function changed() {
 // The open sites as a list, for the keyboard, and what can be taken back.
 function list() {
   const sites = openSites(500), { growth, system } = page;
-  const words = sites.slice(0, MOST_LISTED).map((site) => button(`(${site.x}, ${site.y}): ${namesOf(site.types, 3)}`, () => pick(site)));
-  const more = sites.length > MOST_LISTED ? [make("span", { class: "soft" }, `and ${sites.length - MOST_LISTED} more in the picture`)] : [];
+  const words = sites.slice(0, MOST_LISTED).map((site) =>
+    button(`(${site.x}, ${site.y}): ${namesOf(site.types, 3)}`, () => pick(site)));
+  const more = sites.length > MOST_LISTED
+    ? [make("span", { class: "soft" }, `and ${sites.length - MOST_LISTED} more in the picture`)] : [];
   $("hand-sites").replaceChildren(...words, ...more);
-  $("hand-told").textContent = `${many(growth.count, "tile")} placed. ${sites.length ? `${many(sites.length, "site")} open.` : "Nothing attaches in the box any more."}`;
+  const open = sites.length ? `${many(sites.length, "site")} open.` : "Nothing attaches in the box any more.";
+  $("hand-told").textContent = `${many(growth.count, "tile")} placed. ${open}`;
   $("hand-back").disabled = growth.count <= system.seeds.length;
 }
 
@@ -81,7 +84,9 @@ function back() {
 function pick(site, at = null) {
   const { system, growth, attaching } = page;
   if (page.mode !== "hand" || !system.isInside(site.x, site.y) || growth.numberAt(site.x, site.y) >= 0) return;
-  const isFree = $("hand-any").checked, types = isFree ? Array.from({ length: system.types.count }, (_, type) => type) : attaching.at(growth, site.x, site.y, () => true);
+  const isFree = $("hand-any").checked,
+    types = isFree ? Array.from({ length: system.types.count }, (_, type) => type)
+    : attaching.at(growth, site.x, site.y, () => true);
   if (types.length === 1) return place(site, types[0]);
   return types.length ? menu(site, types, at) : tell("pointed", site, at ?? { x: 0, y: 0 });
 }
@@ -91,10 +96,12 @@ function menu(site, types, at) {
   const { kinds, system } = page, box = $("hand-menu");
   const choices = types.slice(0, 200).map((type) => {
     const it = button("", () => place(site, type), { class: "menu-item" });
-    it.append(swatch(css(kinds.rgb[kinds.of[type]])), system.nameOf(type), make("span", { class: "soft" }, ` held by ${pullAt(site.x, site.y, type)} of ${system.tau}`));
+    it.append(swatch(css(kinds.rgb[kinds.of[type]])), system.nameOf(type),
+      make("span", { class: "soft" }, ` held by ${pullAt(site.x, site.y, type)} of ${system.tau}`));
     return it;
   });
-  box.replaceChildren(make("div", { class: "soft" }, `At (${site.x}, ${site.y}):`), ...choices, button("Nothing", () => { box.hidden = true; }, { class: "menu-item" }));
+  box.replaceChildren(make("div", { class: "soft" }, `At (${site.x}, ${site.y}):`), ...choices,
+    button("Nothing", () => { box.hidden = true; }, { class: "menu-item" }));
   box.hidden = false;
   $("card").hidden = true;
   const board = $("board"), where = at ?? { x: board.clientWidth / 3, y: board.clientHeight / 4 };

@@ -40,7 +40,8 @@ async function show(bytes, before) {
   const input = joined([page.systemBytes, bytes]), ran = await ask(asking, ["verify"], input);
   if (ran.status > 1) {
     const refused = refusedVerdict(ran.said, input, "verify");
-    return say(`Refused, in line ${refused.line - page.system.lastLine} of the certificate: ${refused.text} ${refused.details.join("; ")}`, "no");
+    const line = refused.line - page.system.lastLine, more = refused.details.join("; ");
+    return say(`Refused, in line ${line} of the certificate: ${refused.text} ${more}`, "no");
   }
   certificate = bytes;
   const { system, kind, systemBytes, bytes: text } = page, growth = readGrowth(system, bytes, 0, system.lastLine);
@@ -48,7 +49,8 @@ async function show(bytes, before) {
   page.kind = kind;
   $("certificate-save").hidden = false;
   const verdict = page.verdict;
-  return say(`${before}${growth.count.toLocaleString("en")} marks. ${verdict.head}: ${verdict.text} Each arrow in the picture is a side by which its tile came.`, verdict.tone);
+  const told = `${before}${growth.count.toLocaleString("en")} marks. ${verdict.head}: ${verdict.text}`;
+  return say(`${told} Each arrow in the picture is a side by which its tile came.`, verdict.tone);
 }
 
 // The marks alone, where the file has a system in front of them.

@@ -1,7 +1,9 @@
-// Colours come of names, so that a tile keeps its colour whatever else the text has. A remark `# colour NAME #rrggbb` is heeded.
+// Colours come of names, so that a tile keeps its colour whatever else the text has. A remark `# colour NAME #rrggbb`
+// is heeded.
 import { encode, hashOf } from "./bytes.js";
 
-// Calm hues that are told apart on light and on dark ground, and with most kinds of colour blindness by their lightness.
+// Calm hues that are told apart on light and on dark ground, and with most kinds of colour blindness by their
+// lightness.
 const HUES = 24, SHADES = [[0.8, 0.085], [0.68, 0.105], [0.88, 0.06]];
 
 // The sRGB colour, as 0xrrggbb, of a lightness, a chroma and a hue in Oklch.
@@ -54,13 +56,15 @@ export function inkOn(rgb) {
   return light < 128 ? "#ffffff" : "#17202a";
 }
 
-// What tells tiles apart: the type, or the glue on one side. Kinds have names and colours; `of` has the kind of each type.
+// What tells tiles apart: the type, or the glue on one side. Kinds have names and colours; `of` has the kind of each
+// type.
 export class Kinds {
   constructor(system, by) {
     const isType = by === "type", many = isType ? system.types.count : system.glues.count + 1;
     const own = new Map(system.colours.map((it) => [it.name, it.rgb]));
     Object.assign(this, { system, by, isType, count: many, rgb: new Uint32Array(many), pixels: new Uint32Array(many) });
-    this.of = Uint16Array.from({ length: system.types.count }, (_, type) => (isType ? type : system.side(type, Number(by)) + 1));
+    this.of = Uint16Array.from({ length: system.types.count },
+      (_, type) => (isType ? type : system.side(type, Number(by)) + 1));
     for (let kind = 0; kind < many; kind++) {
       const isBare = !isType && kind === 0;
       const names = isType ? system.types : system.glues, at = isType ? kind : kind - 1;

@@ -9,7 +9,8 @@ import { download } from "./saving.js";
 import { page } from "./state.js";
 
 const SHOWN = 60000;
-const ON_GROWTH = ["check", "replay", "certify", "picture"], ON_TEXT = ["turing", "quadrant", "batch", "verify", "schedule"], ON_NOTHING = ["counter", "load"];
+const ON_GROWTH = ["check", "replay", "certify", "picture"],
+  ON_TEXT = ["turing", "quadrant", "batch", "verify", "schedule"], ON_NOTHING = ["counter", "load"];
 const STATUSES = { 0: "a yes, or done", 1: "a no", 2: "the words were refused", 3: "the input was refused" };
 let last = new Uint8Array();
 
@@ -17,7 +18,8 @@ let last = new Uint8Array();
 function inputOf(command) {
   if (ON_NOTHING.includes(command)) return new Uint8Array();
   if (ON_TEXT.includes(command) || !page.system) return page.bytes;
-  return ON_GROWTH.includes(command) && page.growth ? joined([page.systemBytes, placesBytes(page.growth)]) : page.systemBytes;
+  return ON_GROWTH.includes(command) && page.growth ? joined([page.systemBytes, placesBytes(page.growth)])
+    : page.systemBytes;
 }
 
 async function run() {
@@ -28,8 +30,10 @@ async function run() {
   try {
     const ran = await ask(asking, words, input);
     last = ran.out;
-    const out = decode(ran.out.subarray(0, SHOWN)), more = ran.out.length > SHOWN ? `\n(${ran.out.length.toLocaleString("en")} bytes in all: save them)` : "";
-    const found = refusalIn(ran.said), why = found ? reasons(input, found.line, found.cause, words[0]).join("\n") : wordsWhy(ran.said);
+    const out = decode(ran.out.subarray(0, SHOWN)),
+      more = ran.out.length > SHOWN ? `\n(${ran.out.length.toLocaleString("en")} bytes in all: save them)` : "";
+    const found = refusalIn(ran.said),
+      why = found ? reasons(input, found.line, found.cause, words[0]).join("\n") : wordsWhy(ran.said);
     $("command-out").textContent = out + more + (ran.said ? `${ran.said}\n${why}` : "");
     return tellEnd(`status ${ran.status}: ${STATUSES[ran.status]}`);
   } catch (why) {
@@ -56,7 +60,8 @@ export function beginCommand() {
     run();
   });
   $("command-save").addEventListener("click", () => download("answer.txt", last));
-  const known = ["report", "format", "upgrade", "replay", "picture", "race", "watch --frames 8", "grow --choice 5", "certify", "load 7"];
+  const known = ["report", "format", "upgrade", "replay", "picture", "race", "watch --frames 8", "grow --choice 5",
+    "certify", "load 7"];
   $("command-known").replaceChildren(...known.map((words) => button(words, () => {
     $("command-words").value = words;
     run();

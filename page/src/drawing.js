@@ -11,7 +11,8 @@ const MOST_OPEN = 150000;
 // The colours of the page around the tiles, as its style says.
 export function themeOf(element) {
   const style = getComputedStyle(element), read = (name) => style.getPropertyValue(`--${name}`).trim();
-  return { ground: read("board"), paper: read("paper"), edge: read("edge"), soft: read("soft"), accent: read("accent"), no: read("no"), within: read("within"), rim: read("rim"), veil: read("veil") };
+  return { ground: read("board"), paper: read("paper"), edge: read("edge"), soft: read("soft"), accent: read("accent"),
+    no: read("no"), within: read("within"), rim: read("rim"), veil: read("veil") };
 }
 
 export function draw(pen, theme) {
@@ -58,7 +59,8 @@ function drawTiles(pen, theme, { firstColumn, lastColumn, firstRow, lastRow }) {
 
 // The sites where a type attaches to what is shown: a dot, larger where one is to be clicked.
 function drawOpen(pen, theme, seen) {
-  const { scale, left, top } = view, sites = (seen.lastColumn - seen.firstColumn + 1) * (seen.lastRow - seen.firstRow + 1);
+  const { scale, left, top } = view,
+    sites = (seen.lastColumn - seen.firstColumn + 1) * (seen.lastRow - seen.firstRow + 1);
   if (sites > MOST_OPEN || scale < 1) return;
   const isHand = page.mode === "hand", size = Math.max(1, scale * (isHand ? 0.62 : 0.3)), inset = (scale - size) / 2;
   pen.fillStyle = theme.accent;
@@ -102,7 +104,8 @@ function drawRow(pen, theme) {
 
 // The site that an answer speaks of.
 function drawMark(pen, theme, { words, site }) {
-  drawFrame(pen, site, page.verdict?.tone === "no" ? theme.no : theme.within, theme, words[0] === "closed" ? [4, 3] : []);
+  drawFrame(pen, site, page.verdict?.tone === "no" ? theme.no : theme.within, theme,
+    words[0] === "closed" ? [4, 3] : []);
 }
 
 function drawFrame(pen, site, colour, theme, dash) {

@@ -6,7 +6,7 @@ import { tell } from "./state.js";
 
 const area = $("text"), numbers = $("numbers"), LINE = 20, PAD = 8;
 // A long text stands in the editor by its start alone, since a page is slow with a million lines.
-const LONG = 400000, START = 4000;
+const LONG = 1500000, MOST_LINES = 40000, START = 4000;
 const history = new History();
 // the bytes of a text that came as such, and what of it stands in the editor
 let held = { bytes: null, value: "" }, numbered = 0, marks = { fault: 0, chosen: 0 }, caret = 0;
@@ -17,12 +17,19 @@ export const isPart = () => area.readOnly;
 // The bytes of the text: as they came, as long as nothing was typed.
 export const bytes = () => (held.bytes && area.value === held.value ? held.bytes : encode(area.value));
 
+function isLongText(source) {
+  if (source.length > LONG) return true;
+  let lines = 0;
+  for (let at = source.indexOf(10); at >= 0; at = source.indexOf(10, at + 1)) lines++;
+  return lines > MOST_LINES;
+}
+
 // Puts a text into the editor. It can be taken back.
 export function put(given, name = "") {
   const source = typeof given === "string" ? encode(given) : given;
-  const isLong = source.length > LONG;
-  const shown = isLong ? `${decode(source.subarray(0, START)).replace(/\n[^\n]*$/, "")}\n# (a long text, of which only the start stands here)\n` : decode(source);
-  area.value = shown;
+  const isLong = isLongText(source);
+  const start = isLong ? decode(source.subarray(0, START)).replace(/\n[^\n]*$/, "") : "";
+  area.value = isLong ? `${start}\n# (a long text, of which only the start stands here)\n` : decode(source);
   area.readOnly = isLong;
   held = { bytes: source, value: area.value };
   history.keep({ text: area.value, start: 0, end: 0, held, isLong, name }, false);
@@ -34,7 +41,8 @@ export function put(given, name = "") {
 // What was typed, or edited in a form: from now on the text is what stands in the editor, and no longer what came.
 function keep(isTyped) {
   held = { bytes: null, value: "" };
-  history.keep({ text: area.value, start: area.selectionStart, end: area.selectionEnd, held, isLong: false, name: "" }, isTyped);
+  history.keep({ text: area.value, start: area.selectionStart, end: area.selectionEnd, held, isLong: false, name: "" },
+    isTyped);
   changed();
 }
 
@@ -63,6 +71,12 @@ export function replaceLines(from, many, lines) {
   const top = area.scrollTop;
   area.value = all.join("\n");
   area.scrollTop = top;
+  keep(false);
+  tell("typed", true);
+}
+
+// The text as it stands in the editor, where every line ends with a newline alone.
+export function takeReturnsAway() {
   keep(false);
   tell("typed", true);
 }
@@ -135,10 +149,11 @@ function pressed(event) {
 // A long text that is pasted is not put into the editor as a whole.
 function pasted(event) {
   const given = event.clipboardData?.getData("text/plain") ?? "";
-  if (given.length < LONG) return;
+  if (!isLongText(encode(given))) return;
   event.preventDefault();
   const isAlone = area.readOnly || area.value.trim() === "";
-  tell("opened", encode(isAlone ? given : area.value.slice(0, area.selectionStart) + given + area.value.slice(area.selectionEnd)));
+  tell("opened", encode(isAlone ? given : area.value.slice(0, area.selectionStart) + given
+    + area.value.slice(area.selectionEnd)));
 }
 
 export function beginEditor() {

@@ -6,7 +6,8 @@ const isLine = (line, keyword, name) => {
   return words[0] === keyword && (name === undefined || words[1] === name);
 };
 const firstOf = (lines, keyword, name) => lines.findIndex((line) => isLine(line, keyword, name));
-const lastOf = (lines, ...keywords) => lines.reduce((found, line, at) => (keywords.includes(wordsOf(line)[0]) ? at : found), -1);
+const lastOf = (lines, ...keywords) =>
+  lines.reduce((found, line, at) => (keywords.includes(wordsOf(line)[0]) ? at : found), -1);
 const put = (lines, at, many, ...more) => [...lines.slice(0, at), ...more, ...lines.slice(at + many)];
 
 // A glue has a strength: in its line, or in a new one behind the last glue.
@@ -17,7 +18,8 @@ export function withGlue(lines, name, strength) {
   return put(lines, behind + 1, 0, line);
 }
 
-// A type has a name and four sides: in place of the type that was named `before`, or in a new line behind the last type.
+// A type has a name and four sides: in place of the type that was named `before`, or in a new line behind the last
+// type.
 export function withTile(lines, before, name, sides) {
   const at = before === null ? -1 : firstOf(lines, "tile", before), line = `tile ${name} ${sides.join(" ")}`;
   if (at < 0) return put(lines, lastOf(lines, "tile", "glue", "pair", "tau") + 1, 0, line);
@@ -34,7 +36,8 @@ function renamed(lines, before, name) {
   });
 }
 
-const isColour = (words, name) => words[0] === "#" && /^colou?r$/.test(words[1] ?? "") && words[2] === name && words.length === 4;
+const isColour = (words, name) => words[0] === "#" && /^colou?r$/.test(words[1] ?? "") && words[2] === name
+  && words.length === 4;
 
 export function withoutTile(lines, name) {
   return lines.filter((line) => !isLine(line, "tile", name) && !isColour(wordsOf(line), name));

@@ -1,4 +1,5 @@
-// Opening and saving: files, dropped or picked; system, growth, certificate and pictures to be saved; the link to share.
+// Opening and saving: files, dropped or picked; system, growth, certificate and pictures to be saved; the link to
+// share.
 import { $ } from "./dom.js";
 import { Lines, joined, encode } from "./bytes.js";
 import { theCertificate } from "./certificate.js";
@@ -29,7 +30,8 @@ async function open(files) {
 // A growth or a certificate that comes alone stands behind the system that is there.
 function withSystem(bytes) {
   const lines = new Lines(bytes);
-  const isBehind = lines.next() && ["place", "mark", "frame", "closed", "look", "claim", "split"].includes(lines.word(0));
+  const isBehind = lines.next()
+    && ["place", "mark", "frame", "closed", "look", "claim", "split"].includes(lines.word(0));
   return isBehind && page.system ? joined([page.systemBytes, bytes]) : bytes;
 }
 
@@ -49,7 +51,10 @@ function beginDrop() {
 const SAVED = {
   "save-system": () => download(KINDS[page.kind].file, editedBytes()),
   "save-compiled": () => download("system.tiles", page.systemBytes),
-  "save-growth": () => download("growth.grown", joined([placesBytes(page.growth), encode(page.meanings.filter((it) => ["closed", "unique"].includes(it.words[0])).map((it) => `${it.words.join(" ")}\n`).join(""))])),
+  "save-growth": () => download("growth.grown",
+    joined([placesBytes(page.growth),
+    encode(page.meanings.filter((it) => ["closed", "unique"].includes(it.words[0])).map((it) =>
+    `${it.words.join(" ")}\n`).join(""))])),
   "save-certificate": () => download("assembly.certificate", theCertificate()),
   "save-svg": () => download("assembly.svg", svgText(), "image/svg+xml"),
   "save-png": async () => download("assembly.png", await pngBlob()),
@@ -69,7 +74,9 @@ async function share() {
   if (!hash) return notice("The text is too long for a link: save it, and send the file.");
   $("link").value = location.href.split("#")[0] + hash;
   $("link-length").textContent = `${$("link").value.length.toLocaleString("en")} signs. `
-    + (location.protocol === "file:" ? "This page is on your disk: put what stands behind the # behind any other address of the page." : "The text is in the link itself: nothing is stored anywhere.");
+    + (location.protocol === "file:"
+      ? "This page is on your disk: put what stands behind the # behind any other address of the page."
+      : "The text is in the link itself: nothing is stored anywhere.");
   $("link-copied").textContent = "";
   $("share-form").showModal();
   $("link").select();

@@ -47,6 +47,7 @@ export function exampleText(name) {
 export function examples() {
   const named = new Set(GROUPS.flatMap(([, list]) => list.map(([name]) => name)));
   const known = new Set(EXAMPLES.map((it) => it.name)), rest = EXAMPLES.filter((it) => !named.has(it.name));
-  const groups = GROUPS.map(([heading, list]) => [heading, list.filter(([name]) => known.has(name)).map(([name, line]) => ({ name, line }))]);
+  const groups = GROUPS.map(([heading, list]) =>
+    [heading, list.filter(([name]) => known.has(name)).map(([name, line]) => ({ name, line }))]);
   return rest.length ? [...groups, ["More", rest.map(({ name, line }) => ({ name, line }))]] : groups;
 }

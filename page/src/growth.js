@@ -5,8 +5,10 @@ import { LETTERS, typeIn } from "./system.js";
 export const ANSWERS = ["closed", "unique", "legal", "stuck", "verified"];
 const NEWLINE = 10, SPACE = 32, MINUS = 45;
 
-// Places in their order, each with the number of its site and of its type. `placeAt` has for each site the number of the
-// first place there, or -1. A frame has its number and how many places it ends at. `sides` and `ranks` are of a certificate.
+// Places in their order, each with the number of its site and of its type. `placeAt` has for each site the number of
+// the
+// first place there, or -1. A frame has its number and how many places it ends at. `sides` and `ranks` are of a
+// certificate.
 export class Growth {
   constructor(system, most) {
     Object.assign(this, { system, cells: new Int32Array(most), types: new Uint16Array(most), count: 0 });
@@ -68,7 +70,8 @@ export function readGrowth(system, bytes, from = system.length, number = system.
   return growth;
 }
 
-// Reads lines as the program prints them, `place X Y NAME`, as long as they are so; always true. (All is written out within
+// Reads lines as the program prints them, `place X Y NAME`, as long as they are so; always true. (All is written out
+// within
 // one loop: a large growth has a million of them.)
 function readPlaces(growth, lines) {
   const { system } = growth, { bytes } = lines, [x0, y0, x1, y1] = system.box, { wide } = system;
@@ -109,7 +112,9 @@ function readLine(growth, lines) {
   const keyword = lines.word(0);
   if (keyword in LINES) {
     const [many, read] = LINES[keyword];
-    if (lines.count !== many) throw new Fault(lines.number, `${keyword} wants ${many} words, and here are ${lines.count}`);
+    if (lines.count !== many) {
+      throw new Fault(lines.number, `${keyword} wants ${many} words, and here are ${lines.count}`);
+    }
     read(growth, lines);
   } else if (ANSWERS.includes(keyword)) {
     if (keyword === "closed" && growth.told.length) {

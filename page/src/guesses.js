@@ -15,7 +15,9 @@ export function* guessBytes(line) {
   if (text.endsWith("\r")) yield "the line ends as on Windows, with a carriage return: sed -i 's/\\r$//' FILE";
   if (text.includes("\t")) yield "a tab stands in the line, and only spaces part words";
   if (text.includes("\xc2\xa0")) yield "a no-break space stands in the line, and only plain spaces part words";
-  if (/\xe2\x80[\x90-\x94]|\xe2\x88\x92/.test(text)) yield "a long dash stands in the line: none and minus are the plain -";
+  if (/\xe2\x80[\x90-\x94]|\xe2\x88\x92/.test(text)) {
+    yield "a long dash stands in the line: none and minus are the plain -";
+  }
 }
 
 export function* guessHeader({ line, words, command }) {
@@ -23,7 +25,8 @@ export function* guessHeader({ line, words, command }) {
     yield "the file begins with a byte-order mark: save it as UTF-8 without one";
   } else if (line.includes(0)) yield "the file is saved as UTF-16: save it as UTF-8";
   if (!line.some((it) => it !== 32 && (it < 9 || it > 13))) yield "there is no line that is neither empty nor a remark";
-  const word = words[0] ?? "", reader = isIn(READERS, word) ? READERS[word] : command, isKind = isIn(KINDS, command) && command !== "system";
+  const word = words[0] ?? "", reader = isIn(READERS, word) ? READERS[word] : command,
+    isKind = isIn(KINDS, command) && command !== "system";
   if (reader !== command) {
     const what = { turing: "a Turing machine", quadrant: "a two-input rule", batch: "a batch" }[reader];
     yield `this is ${what}: tools/explain ${reader} FILE`;
@@ -31,8 +34,9 @@ export function* guessHeader({ line, words, command }) {
     yield command === "batch"
       ? "this is a tile system: a batch begins with `batch 1`, and in front of each system stands a `job` line"
       : `this is a tile system, which ${command} does not read`;
-  } else if (["place", "mark", "look", "claim", "split", "join"].includes(word)) yield "the system stands first: cat SYSTEM FILE";
-  else if (words.length && isIn((isKind ? KINDS[command] : KINDS.system).before, word)) {
+  } else if (["place", "mark", "look", "claim", "split", "join"].includes(word)) {
+    yield "the system stands first: cat SYSTEM FILE";
+  } else if (words.length && isIn((isKind ? KINDS[command] : KINDS.system).before, word)) {
     yield "the line itself may be fine: the header is missing above it";
   } else if (word === "tiles") yield "a system is written in version 1 or 2, and nothing else stands in its header";
 }
@@ -61,7 +65,8 @@ export function* guessWord({ words, command }) {
       yield `${it} is no name; a side without a glue is -`;
       return;
     }
-    const signs = [...new Set([...it].filter((sign) => !(isShort ? /^[A-Za-z0-9_]$/ : /^[A-Za-z0-9_:.]$/).test(sign)))].sort(bySign);
+    const signs = [...new Set([...it].filter((sign) =>
+      !(isShort ? /^[A-Za-z0-9_]$/ : /^[A-Za-z0-9_:.]$/).test(sign)))].sort(bySign);
     if (signs.length && !/^-[0-9]*$/.test(it)) {
       yield `${shown(it)} has ${signs.map(shown).join(" ")}, which no name has`;
       return;
@@ -77,13 +82,15 @@ const bySign = (one, other) => one.codePointAt(0) - other.codePointAt(0);
 
 export function* guessLine(it) {
   const { words, kind, command } = it, known = kind.words, word = words[0];
-  if (words.length && !isIn(known, word) && isIn(known, word.toLowerCase())) yield `keywords have small letters: ${word.toLowerCase()}`;
-  else if (words.length && !isIn(known, word) && word !== "closed" && word !== "unique") {
+  if (words.length && !isIn(known, word) && isIn(known, word.toLowerCase())) {
+    yield `keywords have small letters: ${word.toLowerCase()}`;
+  } else if (words.length && !isIn(known, word) && word !== "closed" && word !== "unique") {
     yield `${word} is no keyword${asked(closest(word, Object.keys(known)))}`;
   }
   if (words.slice(1).some((one) => one.includes("#"))) yield "a remark needs a line of its own";
   else if (words.length && isIn(known, word) && words.length !== known[word]) {
-    const rule = { 5: ": west and south, then what goes east and north", 6: ": a state and a symbol, then the new state, the new symbol and the move" };
+    const rule = { 5: ": west and south, then what goes east and north",
+      6: ": a state and a symbol, then the new state, the new symbol and the move" };
     const fields = word === "rule" ? rule[known.rule] : ["tile", "mark"].includes(word) ? `: ${FIELDS[word]}` : "";
     const more = ["tape", "bottom", "left"].includes(word) ? " or more" : "";
     yield `a ${word} line has ${known[word]} words${more}, and this one ${words.length}${fields}`;
@@ -103,7 +110,8 @@ function* guessPlace({ words, text, number, command }) {
 export function* guessName({ words, text, number }) {
   const isGlue = words[0] === "tile" || words[0] === "pair", what = isGlue ? "glue" : "type";
   const known = text.names(isGlue ? "glue" : "tile", number - 1);
-  const named = words[0] === "tile" ? words.slice(2) : words[0] === "pair" ? words.slice(1, 3) : [words[0] === "mark" ? words[3] : words[words.length - 1]];
+  const named = words[0] === "tile" ? words.slice(2) : words[0] === "pair" ? words.slice(1, 3)
+    : [words[0] === "mark" ? words[3] : words[words.length - 1]];
   const it = isGlue ? named.find((one) => one !== "-" && !known.includes(one)) : named[0];
   if (it === undefined) return;
   for (const [at, row] of text.rows(isGlue ? "glue" : "tile")) {
@@ -118,7 +126,9 @@ export function* guessName({ words, text, number }) {
     const bearers = isGlue ? [...text.rows("tile")].filter(([, row]) => row.slice(2).includes(it)).length : 0;
     if (bearers > 1) yield `${bearers} tiles bear ${it}: is its \`glue\` line missing?`;
   }
-  if (!known.includes(it) && known.some((one) => one.toLowerCase() === it.toLowerCase())) yield "capitals and small letters differ";
+  if (!known.includes(it) && known.some((one) => one.toLowerCase() === it.toLowerCase())) {
+    yield "capitals and small letters differ";
+  }
 }
 
 export function* guessSymbol({ words, text, number }) {
@@ -127,7 +137,8 @@ export function* guessSymbol({ words, text, number }) {
 
 export function* guessMachineName({ words, text, number }) {
   const kinds = ["state", "symbol", "state", "symbol"];
-  yield* unknown(words[0] === "rule" ? words.slice(1, 5).map((it, at) => [it, kinds[at]]) : words.slice(1).map((it) => [it, "symbol"]), text, number);
+  yield* unknown(words[0] === "rule" ? words.slice(1, 5).map((it, at) => [it, kinds[at]])
+    : words.slice(1).map((it) => [it, "symbol"]), text, number);
 }
 
 // The first word that names nothing of its kind.
@@ -143,14 +154,19 @@ function* unknown(fields, text, number) {
 export function* guessDouble({ words, text, number, command, cause }) {
   const [word, one, other] = words;
   if (cause === "DoubleName" && word === "rule") {
-    yield `there is a rule for ${command === "turing" ? `the state ${one} and the symbol ${other}` : `${one} from the west and ${other} from the south`} above`;
+    const pair = command === "turing" ? `the state ${one} and the symbol ${other}`
+      : `${one} from the west and ${other} from the south`;
+    yield `there is a rule for ${pair} above`;
   } else if (cause === "DoubleName" && word === "pair") {
-    const isSame = ([, row]) => new Set([...row.slice(1, 3), one, other]).size === new Set([one, other]).size && new Set(row.slice(1, 3)).size === new Set([one, other]).size;
+    const isSame = ([, row]) => new Set([...row.slice(1, 3), one, other]).size === new Set([one, other]).size
+      && new Set(row.slice(1, 3)).size === new Set([one, other]).size;
     const first = [...text.rows("pair", number - 1)].find(isSame);
-    yield first ? `line ${first[0]} pairs them already` : "a glue is not paired with itself: its own strength stands in its `glue` line";
+    yield first ? `line ${first[0]} pairs them already`
+      : "a glue is not paired with itself: its own strength stands in its `glue` line";
   } else {
     const isSite = ["place", "mark", "seed"].includes(word);
-    const isLike = ([, row]) => (isSite ? Number(row[1]) === Number(one) && Number(row[2]) === Number(other) : row[1] === one);
+    const isLike = ([, row]) => (isSite ? Number(row[1]) === Number(one) && Number(row[2]) === Number(other)
+      : row[1] === one);
     yield `line ${[...text.rows(word)].find(isLike)?.[0] ?? "above"} has it already`;
   }
 }

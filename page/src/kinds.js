@@ -1,4 +1,5 @@
-// What kind of text bytes are, by its header and by what stands behind a system: so the page knows which command reads it.
+// What kind of text bytes are, by its header and by what stands behind a system: so the page knows which command
+// reads it.
 import { Lines, joined } from "./bytes.js";
 
 // What the page does with each kind: the command that judges it, and what a reader calls it.
@@ -14,8 +15,10 @@ export const KINDS = {
 
 const HEADERS = { machine: "machine", quadrant: "rule", batch: "batch" };
 const BEHIND = {
-  place: "growth", closed: "growth", unique: "growth", frame: "growth", grown: "growth", legal: "growth", stuck: "growth",
-  mark: "certificate", verified: "certificate", look: "schedule", claim: "schedule", split: "schedule", join: "schedule",
+  place: "growth", closed: "growth", unique: "growth", frame: "growth", grown: "growth", legal: "growth",
+    stuck: "growth",
+  mark: "certificate", verified: "certificate", look: "schedule", claim: "schedule", split: "schedule",
+    join: "schedule",
 };
 
 // The kind of a text, and for one with something behind its system the byte at which the system ends.

@@ -19,7 +19,8 @@ function build() {
   const found = [...borne].filter((kind) => isSought(kind, sought)).sort((a, b) => placed[b] - placed[a] || a - b);
   order = found.slice(0, MOST);
   chips = new Map(order.map((kind) => [kind, chipOf(kind)]));
-  const more = found.length > MOST ? [make("span", { class: "soft" }, `and ${found.length - MOST} more: search a name`)] : [];
+  const more = found.length > MOST
+    ? [make("span", { class: "soft" }, `and ${found.length - MOST} more: search a name`)] : [];
   $("legend").replaceChildren(...chips.values(), ...more);
   $("legend").classList.toggle("is-none", !found.length);
   counts();
@@ -35,8 +36,10 @@ function isSought(kind, sought) {
 
 function chipOf(kind) {
   const { kinds, chosen } = page, never = page.growth.count > 0 && !placed[kind];
-  const chip = button("", () => tell("choose", kind), { class: never ? "chip never" : "chip", "aria-pressed": String(kind === chosen) });
-  chip.append(swatch(css(kinds.rgb[kind])), make("span", { class: "chip-name" }, kinds.name(kind)), make("span", { class: "chip-count" }));
+  const chip = button("", () => tell("choose", kind),
+    { class: never ? "chip never" : "chip", "aria-pressed": String(kind === chosen) });
+  chip.append(swatch(css(kinds.rgb[kind])), make("span", { class: "chip-name" }, kinds.name(kind)),
+    make("span", { class: "chip-count" }));
   if (never) chip.title = kinds.isType ? "placed nowhere" : "on no tile that stands";
   return chip;
 }

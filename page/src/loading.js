@@ -17,7 +17,8 @@ import { setTape } from "./tape_panel.js";
 import { refusedVerdict, verdictOf } from "./verdict.js";
 import { fit, view } from "./view.js";
 
-// how long the last growth took, for the pause in typing; when the last key came, and its picture; how many texts were done
+// how long the last growth took, for the pause in typing; when the last key came, and its picture; how many texts
+// were done
 const timing = { took: 20, key: 0, picture: 0, count: 0 };
 let last = null, asked = 0;
 
@@ -68,8 +69,10 @@ export function grownLater(isAtOnce) {
 export function load(shown, bytes, isNew = false) {
   const chosen = page.kinds && page.chosen >= 0 ? page.kinds.name(page.chosen) : null, box = page.system?.box.join(" ");
   tell("forgotten");
-  Object.assign(page, { kind: shown.kind, bytes, systemBytes: shown.systemBytes, system: shown.system, growth: shown.growth });
-  Object.assign(page, { answer: shown.answer, handed: shown.handed, jobs: shown.jobs, steps: shown.steps, events: shown.events });
+  Object.assign(page, { kind: shown.kind, bytes, systemBytes: shown.systemBytes, system: shown.system,
+    growth: shown.growth });
+  Object.assign(page, { answer: shown.answer, handed: shown.handed, jobs: shown.jobs, steps: shown.steps,
+    events: shown.events });
   Object.assign(page, { meanings: [], mark: null, row: null, isStale: false, mode: "look" });
   mark({ fault: 0 });
   $("board").classList.remove("stale");
@@ -119,7 +122,8 @@ function look(isAfresh) {
 
 function tellTook() {
   const { answer } = page, ms = answer?.ms;
-  $("took").textContent = ms === undefined ? "" : `${page.growth.count.toLocaleString("en")} tiles \u00b7 ${ms < 10 ? ms.toFixed(1) : Math.round(ms)} ms`;
+  $("took").textContent = ms === undefined ? ""
+    : `${page.growth.count.toLocaleString("en")} tiles \u00b7 ${ms < 10 ? ms.toFixed(1) : Math.round(ms)} ms`;
 }
 
 // ---- what did not grow
@@ -128,10 +132,13 @@ function failed(why, bytes, isNew) {
   const { kind } = kindOf(bytes);
   let verdict;
   if (why instanceof Refused) verdict = refusedVerdict(why.said, why.bytes, why.command);
-  else if (why instanceof Fault) verdict = { tone: "plain", head: "Can't be read", text: `${why.why}.`, site: null, line: why.line };
-  else if (why instanceof Unanswered) verdict = { tone: "plain", head: HEADS[why.kind] ?? "Not grown", text: why.message, site: null };
-  else {
-    verdict = { tone: "plain", head: "Not grown", text: `The page came upon a mistake of its own: ${why.message}`, site: null };
+  else if (why instanceof Fault) {
+    verdict = { tone: "plain", head: "Can't be read", text: `${why.why}.`, site: null, line: why.line };
+  } else if (why instanceof Unanswered) {
+    verdict = { tone: "plain", head: HEADS[why.kind] ?? "Not grown", text: why.message, site: null };
+  } else {
+    verdict = { tone: "plain", head: "Not grown", text: `The page came upon a mistake of its own: ${why.message}`,
+      site: null };
     console.error(why);
   }
   if (isNew) drawUngrown(kind, bytes);
@@ -149,7 +156,8 @@ function failed(why, bytes, isNew) {
 }
 
 const revealing = paused((line) => reveal(line));
-const HEADS = { slow: "Given up", memory: "Not enough memory", status: "Not grown", trap: "The program halted", lack: "Nothing can be grown here", long: "Too long" };
+const HEADS = { slow: "Given up", memory: "Not enough memory", status: "Not grown", trap: "The program halted",
+  lack: "Nothing can be grown here", long: "Too long" };
 
 // Of a new text that did not grow nothing of the older one stays in the picture.
 function drawUngrown(kind, bytes) {

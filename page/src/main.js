@@ -91,7 +91,8 @@ function clicked({ x, y }) {
 // The caret on the line of a tile marks its type in the picture.
 function caret(line) {
   if (!page.system || page.kind !== "system" || page.isStale) return;
-  const words = lineAt(line).split(" ").filter(Boolean), type = words[0] === "tile" ? page.system.types.numberOf(words[1] ?? "") : -1;
+  const words = lineAt(line).split(" ").filter(Boolean),
+    type = words[0] === "tile" ? page.system.types.numberOf(words[1] ?? "") : -1;
   const kind = type < 0 ? -1 : page.kinds.of[type];
   mark({ chosen: type < 0 ? 0 : line });
   if (kind === page.chosen) return;
@@ -121,11 +122,15 @@ function recolour(by) {
 const FIELDS = ["TEXTAREA", "SELECT", "INPUT", "BUTTON", "CANVAS"];
 
 function pressed(event) {
-  if (event.ctrlKey || event.metaKey || event.altKey || FIELDS.includes(event.target.tagName) || document.querySelector("dialog[open]")) return;
+  if (event.ctrlKey || event.metaKey || event.altKey || FIELDS.includes(event.target.tagName)
+    || document.querySelector("dialog[open]")) {
+    return;
+  }
   const keys = {
     ArrowLeft: () => move(event.shiftKey ? -10 : -1), ArrowRight: () => move(event.shiftKey ? 10 : 1), " ": toggle,
     Home: () => show(page.system?.seeds.length ?? 0), End: () => show(page.growth?.count ?? 0),
-    "+": () => zoomMiddle(1.5), "-": () => zoomMiddle(1 / 1.5), 0: showAll, "?": () => $("help-form").showModal(), Escape: closeMenus,
+    "+": () => zoomMiddle(1.5), "-": () => zoomMiddle(1 / 1.5), 0: showAll, "?": () => $("help-form").showModal(),
+      Escape: closeMenus,
     "/": () => $("search").focus(), e: () => $("examples").click(),
   };
   if (!keys[event.key]) return;
@@ -140,7 +145,8 @@ function beginDialogs() {
   }
   $("state").textContent = STATE.crates ? `Made from the sources ${STATE.crates.slice(0, 12)}` : "";
   $("state-crates").textContent = STATE.crates;
-  $("state-module").textContent = STATE.module ? `${STATE.module}, ${STATE.bytes.toLocaleString("en")} bytes` : "none in this page";
+  $("state-module").textContent = STATE.module ? `${STATE.module}, ${STATE.bytes.toLocaleString("en")} bytes`
+    : "none in this page";
 }
 
 // ---- what is there at the beginning
@@ -165,8 +171,10 @@ async function hashChanged() {
   else if (linked) notice(linked.why);
 }
 
-for (const part of [beginEditor, beginBoard, beginPointer, beginPlayer, beginLegend, beginVerdict, beginDrawer, beginTape, beginByHand, beginRivals,
-  beginCertificate, beginCommand, beginTileForm, beginTiles, beginCounterForm, beginFiles, beginMenus, beginDialogs, beginLive]) part();
+for (const part of [beginEditor, beginBoard, beginPointer, beginPlayer, beginLegend, beginVerdict, beginDrawer,
+  beginTape, beginByHand, beginRivals,
+  beginCertificate, beginCommand, beginTileForm, beginTiles, beginCounterForm, beginFiles, beginMenus, beginDialogs,
+    beginLive]) part();
 on("opened", opened);
 on("typed", typed);
 on("choose", choose);
@@ -179,5 +187,7 @@ window.addEventListener("keydown", pressed);
 window.addEventListener("hashchange", hashChanged);
 window.addEventListener("pagehide", keepNow);
 // what the checks of the page look at
-Object.assign((window.tilebench ??= {}), { page: { state: page, view, timings, search: theSearch, tape: theTape, showSite, redraw, drawNow, kindNamed, reasons } });
+Object.assign((window.tilebench ??= {}),
+  { page: { state: page, view, timings, search: theSearch, tape: theTape, showSite, redraw, drawNow, kindNamed,
+  reasons } });
 begin();

@@ -57,23 +57,25 @@ const NOES = {
   1: (growth, words, site) => {
     const n = growth.numberAt(site.x, site.y), type = n < 0 ? -1 : growth.types[n];
     const bonds = n < 0 ? "" : `: ${bondWords(growth.system, bondsAt(growth, site.x, site.y, type, (m) => m < n))}`;
-    const text = `${growth.nameAt(site.x, site.y)} at ${where(site)} is held by ${words[5]} as it attaches${bonds}, and `
-      + `${heat(growth)}: it has more bonds than it needs, and may come in more than one way.`;
+    const text = `${growth.nameAt(site.x, site.y)} at ${where(site)} is held by ${words[5]} as it attaches${bonds}, `
+      + `and ${heat(growth)}: it has more bonds than it needs, and may come in more than one way.`;
     return { site, type, text };
   },
   2: (growth, words, site) => {
     const n = growth.numberAt(site.x, site.y);
     // (neighbours that came later and bond with the tile rest on it, and go with it)
-    const rests = n < 0 ? [] : bondsAt(growth, site.x, site.y, growth.types[n], (m) => m > n).map((it) => it.strength > 0);
+    const rests = n < 0 ? [] : bondsAt(growth, site.x, site.y, growth.types[n],
+      (m) => m > n).map((it) => it.strength > 0);
     const held = heldBy(growth, words[5], site, (side) => rests[side]);
-    const text = `${words[5]} could come at ${where(site)} in place of ${growth.nameAt(site.x, site.y)}, once that and the `
-      + `neighbours that rest on it are away: ${held}. So the two may race for the site.`;
+    const text = `${words[5]} could come at ${where(site)} in place of ${growth.nameAt(site.x, site.y)}, once that and `
+      + `the neighbours that rest on it are away: ${held}. So the two may race for the site.`;
     return { site, type: typeNamed(growth, words[5]), text };
   },
   3: (growth, words, site) => {
     const outside = growth.system.beyond(site.x, site.y), held = heldBy(growth, words[5], site);
     const text = outside
-      ? `${words[5]} still attaches at ${where(site)}, outside the box, to the ${outside} (${held}). All tiles that stand meet the other two conditions.`
+      ? `${words[5]} still attaches at ${where(site)}, outside the box, to the ${outside} (${held}). `
+        + "All tiles that stand meet the other two conditions."
       : `${words[5]} still attaches at ${where(site)} (${held}), so the assembly is not finished.`;
     return { site, type: typeNamed(growth, words[5]), text };
   },
@@ -82,7 +84,8 @@ const NOES = {
 function illegal(growth, words) {
   const seed = growth.system.seeds[0], n = Number(words[3]);
   if (words[2] === "1") {
-    return { site: { x: seed.x, y: seed.y }, text: "The sequence does not begin with the seeds, in the order of their lines." };
+    return { site: { x: seed.x, y: seed.y },
+      text: "The sequence does not begin with the seeds, in the order of their lines." };
   }
   if (!(n < growth.count)) return null;
   const [x, y] = growth.siteOf(n), type = growth.types[n], name = growth.system.nameOf(type);
@@ -102,11 +105,11 @@ const CODES = {
     + `${heat(it.growth)} (${bondWords(it.growth.system, it.stated)}).`,
   5: (it) => {
     const side = LETTERS.indexOf(it.words[5]);
-    return `${it.name} at ${it.at} has a bond of ${it.bonds[side]?.strength} on its ${SIDES[side]} side, which neither it `
-      + "states nor its neighbour there.";
+    return `${it.name} at ${it.at} has a bond of ${it.bonds[side]?.strength} on its ${SIDES[side]} side, which neither `
+      + "it states nor its neighbour there.";
   },
-  6: (it) => `${it.words[5]} could come at ${it.at} in place of ${it.name}, once that and the neighbours that rest on it `
-    + `are away: ${heldBy(it.growth, it.words[5], it.site, (side) => restsOn(it, side))}.`,
+  6: (it) => `${it.words[5]} could come at ${it.at} in place of ${it.name}, once that and the neighbours that rest on `
+    + `it are away: ${heldBy(it.growth, it.words[5], it.site, (side) => restsOn(it, side))}.`,
   7: (it) => {
     const outside = it.growth.system.beyond(it.site.x, it.site.y);
     return `${it.words[5]} attaches at ${it.at}, which has no mark (${heldBy(it.growth, it.words[5], it.site)})`
@@ -118,7 +121,8 @@ function certificateWords(growth, words, site) {
   const n = growth.numberAt(site.x, site.y), mark = n < 0 ? null : growth.mark(n);
   const bonds = n < 0 ? [] : bondsAt(growth, site.x, site.y, growth.types[n], all);
   const stated = bonds.filter((it) => mark?.sides.includes(LETTERS[it.side]));
-  return CODES[words[2]]?.({ growth, words, site, mark, bonds, stated, at: where(site), name: growth.nameAt(site.x, site.y) });
+  return CODES[words[2]]?.({ growth, words, site, mark, bonds, stated, at: where(site),
+    name: growth.nameAt(site.x, site.y) });
 }
 
 // Neighbours that state their side towards the tile rest on it.

@@ -19,7 +19,8 @@ export function closeMenus() {
 
 // Arrows go from item to item.
 function pressed(event, opener, menu) {
-  const items = [...$(menu).querySelectorAll("button:not([disabled]):not([hidden])")], at = items.indexOf(document.activeElement);
+  const items = [...$(menu).querySelectorAll("button:not([disabled]):not([hidden])")],
+    at = items.indexOf(document.activeElement);
   const to = { ArrowDown: at + 1, ArrowUp: at - 1, Home: 0, End: items.length - 1 }[event.key];
   if (event.key === "Escape") {
     toggle(opener, menu, false);
@@ -40,9 +41,12 @@ function exampleItem({ name, line }) {
 }
 
 function fillExamples() {
-  const groups = examples().map(([heading, list]) => make("section", {}, make("h3", {}, heading), ...list.map(exampleItem)));
-  const counter = button("", () => { closeMenus(); openCounterForm(); }, { class: "menu-item example", role: "menuitem", id: "open-counter" });
-  counter.append(make("b", {}, "a counter \u2026"), make("span", { class: "soft" }, "A binary counter of your bits and start"));
+  const groups = examples().map(([heading, list]) =>
+    make("section", {}, make("h3", {}, heading), ...list.map(exampleItem)));
+  const counter = button("", () => { closeMenus(); openCounterForm(); },
+    { class: "menu-item example", role: "menuitem", id: "open-counter" });
+  counter.append(make("b", {}, "a counter \u2026"),
+    make("span", { class: "soft" }, "A binary counter of your bits and start"));
   groups[2].append(counter);
   $("examples-menu").replaceChildren(...groups);
 }

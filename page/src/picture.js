@@ -1,7 +1,8 @@
 // The assembly as an image of one pixel a site, and how many tiles of each kind are shown.
 import { page } from "./state.js";
 
-const board = { image: document.createElement("canvas"), pen: null, pixels: null, words: null, counts: new Int32Array(0) };
+const board = { image: document.createElement("canvas"), pen: null, pixels: null, words: null,
+  counts: new Int32Array(0) };
 board.pen = board.image.getContext("2d");
 
 export const image = board.image;

@@ -28,23 +28,41 @@ function pathsOf() {
   }
 }
 
+// An element of SVG: its name, what it is given, and what stands in it.
+function tag(name, given, ...within) {
+  const words = Object.entries(given).map(([key, value]) => ` ${key}="${escaped(String(value))}"`).join("");
+  return within.length ? `<${name}${words}>${within.join("")}</${name}>\n` : `<${name}${words}/>\n`;
+}
+
 // The text of an SVG picture. (Of a very large assembly it holds an image of one pixel a site.)
 export function svgText() {
-  const { system, growth, kinds, shown } = page, { wide, high } = system, scale = Math.max(1, Math.min(32, Math.floor(1024 / Math.max(wide, high))));
-  const head = `<svg xmlns="http://www.w3.org/2000/svg" width="${wide * scale}" height="${high * scale}" viewBox="0 0 ${wide} ${high}" shape-rendering="crispEdges">\n`
-    + `<rect width="${wide}" height="${high}" fill="#ffffff"/>\n`;
-  const paths = pathsOf();
-  if (!paths) return `${head}<image width="${wide}" height="${high}" style="image-rendering:pixelated" href="${image.toDataURL()}"/>\n</svg>\n`;
-  const drawn = [...paths].map(([kind, list]) => `<path fill="${css(kinds.rgb[kind])}" d="${list.join("")}"><title>${escaped(kinds.name(kind))}</title></path>\n`);
-  const names = [];
-  for (let n = 0; n < shown && shown <= MOST_NAMED; n++) {
+  const { wide, high } = page.system, scale = Math.max(1, Math.min(32, Math.floor(1024 / Math.max(wide, high))));
+  const size = { width: wide * scale, height: high * scale, viewBox: `0 0 ${wide} ${high}` };
+  const paths = pathsOf(), box = { width: wide, height: high };
+  const drawn = paths ? [...paths].map(pathTag)
+    : [tag("image", { ...box, style: "image-rendering:pixelated", href: image.toDataURL() })];
+  return tag("svg", { xmlns: "http://www.w3.org/2000/svg", ...size, "shape-rendering": "crispEdges" }, "\n",
+    tag("rect", { ...box, fill: "#ffffff" }), ...drawn, ...namesOfTiles());
+}
+
+function pathTag([kind, runs]) {
+  const { kinds } = page;
+  return tag("path", { fill: css(kinds.rgb[kind]), d: runs.join("") },
+    tag("title", {}, escaped(kinds.name(kind))).trim());
+}
+
+// The name of each tile, where they are few enough to be read.
+function namesOfTiles() {
+  const { system, growth, shown } = page, names = [];
+  if (shown > MOST_NAMED) return names;
+  for (let n = 0; n < shown; n++) {
     if (growth.placeAt[growth.cells[n]] !== n) continue;
-    const column = growth.cells[n] % wide, row = Math.floor(growth.cells[n] / wide), name = system.nameOf(growth.types[n]);
-    const size = Math.min(0.36, 1.3 / name.length);
-    names.push(`<text x="${column + 0.5}" y="${row + 0.5}" font-size="${size.toFixed(3)}">${escaped(name)}</text>\n`);
+    const column = growth.cells[n] % system.wide, row = Math.floor(growth.cells[n] / system.wide);
+    const name = system.nameOf(growth.types[n]), size = Math.min(0.36, 1.3 / name.length).toFixed(3);
+    names.push(tag("text", { x: column + 0.5, y: row + 0.5, "font-size": size }, escaped(name)));
   }
-  const group = names.length ? `<g font-family="ui-monospace,monospace" text-anchor="middle" dominant-baseline="central" fill="#000000b0" shape-rendering="auto">\n${names.join("")}</g>\n` : "";
-  return `${head}${drawn.join("")}${group}</svg>\n`;
+  const looks = { "font-family": "ui-monospace,monospace", "text-anchor": "middle", "dominant-baseline": "central" };
+  return [tag("g", { ...looks, fill: "#000000b0", "shape-rendering": "auto" }, "\n", ...names)];
 }
 
 // A PNG picture of the whole box, as a blob.
@@ -60,7 +78,8 @@ export function pngBlob() {
   for (let n = 0; n < shown && scale >= 8 && shown <= 60000; n++) {
     const cell = growth.cells[n], type = growth.types[n];
     if (growth.placeAt[cell] !== n) continue;
-    drawTile(pen, system, type, kinds.rgb[kinds.of[type]], [(cell % wide) * scale, Math.floor(cell / wide) * scale, scale]);
+    drawTile(pen, system, type, kinds.rgb[kinds.of[type]],
+      [(cell % wide) * scale, Math.floor(cell / wide) * scale, scale]);
   }
   return new Promise((done) => { canvas.toBlob(done, "image/png"); });
 }

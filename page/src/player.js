@@ -13,7 +13,8 @@ export function show(many) {
   slider.max = growth.count;
   slider.value = shown;
   const frame = growth.frames.filter((it) => it.many <= shown).pop();
-  const told = `${frame ? `frame ${frame.number}, ` : ""}${shown.toLocaleString("en")} of ${growth.count.toLocaleString("en")} tiles`;
+  const [some, all] = [shown, growth.count].map((it) => it.toLocaleString("en"));
+  const told = `${frame ? `frame ${frame.number}, ` : ""}${some} of ${all} tiles`;
   $("at").textContent = told;
   slider.setAttribute("aria-valuetext", told);
   tell("shown");
@@ -23,7 +24,8 @@ export function show(many) {
 function step() {
   if (!playing) return;
   const now = performance.now(), { stops, since } = playing, { growth } = page;
-  const each = Math.min(500, 8000 / Math.max(1, stops ? stops.length : growth.count)), due = Math.floor((now - since) / each);
+  const each = Math.min(500, 8000 / Math.max(1, stops ? stops.length : growth.count)),
+    due = Math.floor((now - since) / each);
   if (due > 0) {
     playing.since += due * each;
     show(stops ? stops.filter((it) => it > page.shown)[due - 1] ?? growth.count : page.shown + due);

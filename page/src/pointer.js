@@ -29,7 +29,8 @@ function isNearBox({ x, y }) {
 }
 
 function fill(words) {
-  const head = make("div", { class: "card-head" }, make("b", {}, words.title), make("span", { class: "soft" }, words.site));
+  const head = make("div", { class: "card-head" }, make("b", {}, words.title),
+    make("span", { class: "soft" }, words.site));
   if (words.type >= 0) head.prepend(swatch(css(page.kinds.rgb[page.kinds.of[words.type]])));
   const rows = words.sides.map((it) => make("div", { class: it.isHeld ? "card-side" : "card-side soft" },
     make("span", {}, it.side), make("code", {}, it.glue), make("span", { class: "soft" }, it.bond)));

@@ -29,7 +29,7 @@ const STATUSES = {
 };
 
 const FAILURES = {
-  slow: "It took more than 10 seconds, and was given up. Take a smaller box, or grow it with the program on the command line.",
+  slow: "It took more than 10 seconds, and was given up. Take a smaller box, or the program on the command line.",
   memory: "The browser has no memory for this growth. Take a smaller box, or close other pages.",
   trap: "The program in this page came to a halt. The next growth starts afresh.",
 };
@@ -45,7 +45,8 @@ export async function ask(lane, words, bytes, how = {}) {
   }
   const said = decode(ran.err).trim();
   if (ran.status > 3 || ran.status < 0) {
-    throw new Unanswered("status", STATUSES[ran.status] ?? (said || `The program ended with status ${ran.status}.`), ran.status);
+    throw new Unanswered("status", STATUSES[ran.status] ?? (said || `The program ended with status ${ran.status}.`),
+      ran.status);
   }
   return { ...ran, said };
 }

@@ -1,7 +1,8 @@
 // What is behind a refusal: the line, the cause in words, and the mistakes that mostly lead to it. The refusal is the
 // program's; what is behind it is a guess. The words and their order are those of tools/refusals.py.
 import { REFUSALS } from "../generated.js";
-import { guessBytes, guessHeader, guessLine, guessName, guessNumber, guessRange, guessSymbol, guessMachineName, guessWord,
+import { guessBytes, guessHeader, guessLine, guessName, guessNumber, guessRange, guessSymbol, guessMachineName,
+  guessWord,
   guessDouble } from "./guesses.js";
 import { RefusedText, visible, wordsIn } from "./refused_text.js";
 
@@ -15,8 +16,10 @@ export function reasons(bytes, number, cause, command) {
   const words = wordsIn(line ?? new Uint8Array()), limit = REFUSALS.LIMITS[words[0] ?? ""] ?? "more than there may be";
   const said = (REFUSALS.CAUSES[cause] ?? "a cause that this page does not know")
     .replace("{limit}", limit).replace("{header}", kindOf(command).header);
-  const shown = line ? `    ${visible(line)}${whole.length > SHOWN ? " .." : ""}` : number ? "    (behind the last line)" : "    (the whole input)";
-  const it = { text, line: line ?? new Uint8Array(), words, number, command, kind: kindOf(command), cause, isPast: !line };
+  const shown = line ? `    ${visible(line)}${whole.length > SHOWN ? " .." : ""}` : number
+    ? "    (behind the last line)" : "    (the whole input)";
+  const it = { text, line: line ?? new Uint8Array(), words, number, command, kind: kindOf(command), cause,
+    isPast: !line };
   return [`line ${number}: ${cause}: ${said}`, shown, ...[...guesses(it)].map((guess) => `  - ${guess}`)];
 }
 
@@ -42,12 +45,14 @@ const isHidden = (it) => it.line.includes(9) || it.line[it.line.length - 1] === 
 
 const BEHIND = {
   *NoHeader(it) {
-    if (it.before[0] === "job") yield "behind a `job` line stands a whole system, which begins with the line `tiles 1` or `tiles 2`";
-    else yield* guessHeader(it);
+    if (it.before[0] === "job") {
+      yield "behind a `job` line stands a whole system, which begins with the line `tiles 1` or `tiles 2`";
+    } else yield* guessHeader(it);
   },
   *NoEnd(it) {
-    if (it.isPast && it.command === "batch") yield "a batch has at least one job, and each job a system, whose last line is: end";
-    else if (it.isPast) yield `the last line of a ${it.kind.name} is: end`;
+    if (it.isPast && it.command === "batch") {
+      yield "a batch has at least one job, and each job a system, whose last line is: end";
+    } else if (it.isPast) yield `the last line of a ${it.kind.name} is: end`;
     else yield "the last line has no newline behind it";
   },
   *BadLine(it) {
@@ -98,8 +103,12 @@ const BEHIND = {
     }
   },
   *AfterEnd(it) {
-    if (it.command in REFUSALS.KINDS && it.command !== "system") yield "nothing stands behind the `end` line: take away what follows it";
-    else yield "places behind a system are for check, certify, replay and picture, marks for verify, steps of scouts for schedule";
+    if (it.command in REFUSALS.KINDS && it.command !== "system") {
+      yield "nothing stands behind the `end` line: take away what follows it";
+    } else {
+      yield "places behind a system are for check, certify, replay and picture, marks for verify, "
+        + "steps of scouts for schedule";
+    }
   },
 };
 

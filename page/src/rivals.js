@@ -32,13 +32,15 @@ export function partsAt(system, one, other) {
 
 class Search {
   constructor() {
-    Object.assign(this, { system: page.system, bytes: page.systemBytes, isYes: page.verdict?.tone === "yes", tried: 0, found: [], isEnded: false });
+    Object.assign(this, { system: page.system, bytes: page.systemBytes, isYes: page.verdict?.tone === "yes", tried: 0,
+      found: [], isEnded: false });
   }
 
   take(out, choice) {
     const sites = assemblyOf(readGrowth(this.system, out, 0, 0)), raw = new Uint8Array(sites.buffer);
     const hash = hashOf(raw, 0, raw.length);
-    const known = this.found.find((it) => it.hash === hash && (!it.sites || it.sites.every((type, at) => type === sites[at])));
+    const known = this.found.find((it) => it.hash === hash
+      && (!it.sites || it.sites.every((type, at) => type === sites[at])));
     // (of the first ones the sites are kept, to be compared one by one)
     if (known) known.choices.push(choice);
     else this.found.push({ hash, choices: [choice], sites: this.found.length < 4 ? sites : null });
@@ -56,11 +58,13 @@ class Search {
 }
 
 function sentenceFor({ tried, found, isYes, isEnded }) {
-  const done = tried === CHOICES || isEnded, came = found.length === 1 ? "one assembly came" : `${found.length} different assemblies came`;
+  const done = tried === CHOICES || isEnded,
+    came = found.length === 1 ? "one assembly came" : `${found.length} different assemblies came`;
   const head = done ? `Of ${many(tried, "choice")} ${came}.` : `Choice ${tried} of ${CHOICES} \u2026 so far ${came}.`;
   if (!done) return head;
   if (found.length > 1) return `${head} So more than one assembly can grow: this refutes uniqueness.`;
-  return `${head} ${isYes ? "That is no surprise: the verdict says that nothing else can grow." : "Nothing follows from that: another choice may bring another one."}`;
+  if (isYes) return `${head} That is no surprise: the verdict says that nothing else can grow.`;
+  return `${head} Nothing follows from that: another choice may bring another one.`;
 }
 
 function tellSearch(it) {
@@ -69,10 +73,14 @@ function tellSearch(it) {
   const isDone = it.tried === CHOICES || it.isEnded;
   $("rivals-run").textContent = isDone ? "Look again" : "Stop";
   const parting = it.found.length > 1 ? partsAt(it.system, it.found[0].sites, it.found[1].sites) : null;
-  const name = (type) => it.system.nameOf(type);
-  const where = parting ? [make("p", {}, `They part first at (${parting.x}, ${parting.y}): ${name(parting.types[0])} in the first, ${name(parting.types[1])} in the second.`)] : [];
+  const where = parting ? [make("p", {}, partingWords(it.system, parting))] : [];
   $("rivals-found").replaceChildren(...where, ...it.found.slice(0, 12).map((one, at) => outcome(one, at, parting)));
   if (it.found.length > 12) $("rivals-found").append(make("p", { class: "soft" }, `and ${it.found.length - 12} more`));
+}
+
+function partingWords(system, { x, y, types }) {
+  const [one, other] = types.map((type) => system.nameOf(type));
+  return `They part first at (${x}, ${y}): ${one} in the first, ${other} in the second.`;
 }
 
 // An assembly that came: how often, and a button that shows it.

@@ -43,11 +43,13 @@ export async function textOfHash(hash) {
   if (hash.length > MOST_PACKED * 1.4) return { why: "The link is too long to be opened." };
   try {
     const signs = atob(hash.slice(MARK.length).replaceAll("-", "+").replaceAll("_", "/"));
-    const bytes = await through(Uint8Array.from(signs, (it) => it.charCodeAt(0)), new DecompressionStream("deflate-raw"), MOST_UNPACKED);
+    const bytes = await through(Uint8Array.from(signs, (it) => it.charCodeAt(0)),
+      new DecompressionStream("deflate-raw"), MOST_UNPACKED);
     decode(bytes);
     return { bytes };
   } catch (why) {
     const isLong = why instanceof RangeError;
-    return { why: isLong ? "The link's text unpacks to more than 4 MiB, and was not opened." : "The link is broken: its text can't be unpacked." };
+    return { why: isLong ? "The link's text unpacks to more than 4 MiB, and was not opened."
+      : "The link is broken: its text can't be unpacked." };
   }
 }

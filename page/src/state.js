@@ -7,7 +7,8 @@ export const page = {
   system: null, growth: null, shown: 0, kinds: null, attaching: null,
   // what the answers mean, and the verdict in short
   meanings: [], verdict: null, answer: null,
-  // the kind of colour that is marked, or -1; a test of what was searched, or null; whether the picture is an older text's
+  // the kind of colour that is marked, or -1; a test of what was searched, or null; whether the picture is an older
+  // text's
   chosen: -1, found: null, isStale: false,
   // a site to look at, the site of the keyboard's cursor, the row whose meaning is told; each null where there is none
   mark: null, cursor: null, row: null,

@@ -59,7 +59,8 @@ export class System {
   // How far beyond which sides of the box a site lies, in words.
   beyond(x, y) {
     const [x0, y0, x1, y1] = this.box, far = [y - y1, x - x1, y0 - y, x0 - x];
-    return SIDES.map((side, at) => [side, far[at]]).filter((it) => it[1] > 0).map((it) => `${it[0]} by ${it[1]}`).join(" and ");
+    return SIDES.map((side, at) => [side, far[at]]).filter((it) => it[1] > 0).map((it) =>
+      `${it[0]} by ${it[1]}`).join(" and ");
   }
 }
 
@@ -87,7 +88,9 @@ const READ = {
 };
 
 function readPair(system, lines, number) {
-  if (system.version < 2) throw new Fault(lines.number, "pairs of unlike glues are of version 2: the first line must be tiles 2");
+  if (system.version < 2) {
+    throw new Fault(lines.number, "pairs of unlike glues are of version 2: the first line must be tiles 2");
+  }
   const one = glueIn(system, lines, 1), other = glueIn(system, lines, 2), strength = number(3);
   for (const [a, b] of [[one, other], [other, one]]) {
     system.pairs.set(a * MOST_GLUES + b, strength);

@@ -11,11 +11,15 @@ export const theTape = () => tape;
 
 // The row of the list for a row of the box.
 function rowElement(at) {
-  const y = tape.order[at], cells = tape.row(y), row = make("div", { class: y === page.row ? "tape-row is-seen" : "tape-row", role: "listitem" });
+  const y = tape.order[at], cells = tape.row(y),
+    row = make("div", { class: y === page.row ? "tape-row is-seen" : "tape-row", role: "listitem" });
   row.style.top = `${at * ROW}px`;
   row.append(make("span", { class: "tape-step" }, String(y - page.system.box[1])));
   const width = Math.max(...cells.map((it) => it.text.length));
-  for (const it of cells) row.append(make("span", { class: it.isHead ? "tape-cell is-head" : "tape-cell" }, width <= 3 ? it.text.padStart(width) : it.text));
+  for (const it of cells) {
+    row.append(make("span", { class: it.isHead ? "tape-cell is-head" : "tape-cell" },
+      width <= 3 ? it.text.padStart(width) : it.text));
+  }
   row.addEventListener("pointerenter", () => { page.row = y; redraw(); });
   row.addEventListener("click", () => showSite({ x: Math.round((page.system.box[0] + page.system.box[2]) / 2), y }));
   return row;
@@ -23,7 +27,8 @@ function rowElement(at) {
 
 function fill() {
   if (!tape || opened() !== "tape") return;
-  const first = Math.max(0, Math.floor(list.scrollTop / ROW) - 4), last = Math.min(tape.order.length, Math.ceil((list.scrollTop + list.clientHeight) / ROW) + 4);
+  const first = Math.max(0, Math.floor(list.scrollTop / ROW) - 4),
+    last = Math.min(tape.order.length, Math.ceil((list.scrollTop + list.clientHeight) / ROW) + 4);
   const space = make("div", { class: "tape-space", "aria-hidden": "true" });
   space.style.height = `${tape.order.length * ROW}px`;
   list.replaceChildren(space, ...Array.from({ length: Math.max(0, last - first) }, (_, n) => rowElement(first + n)));
@@ -34,7 +39,8 @@ function pointed(y) {
   if (y === page.row) return;
   page.row = tape && opened() === "tape" ? y : null;
   const at = tape ? tape.order.indexOf(y) : -1;
-  if (at >= 0 && opened() === "tape" && (at * ROW < list.scrollTop || (at + 1) * ROW > list.scrollTop + list.clientHeight)) {
+  if (at >= 0 && opened() === "tape"
+    && (at * ROW < list.scrollTop || (at + 1) * ROW > list.scrollTop + list.clientHeight)) {
     list.scrollTop = at * ROW - list.clientHeight / 2;
   }
   fill();

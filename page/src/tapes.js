@@ -1,4 +1,5 @@
-// What the growth of a compiled system computed, row by row: a machine's tape, a counter's numbers, a rule's cells. The tiles
+// What the growth of a compiled system computed, row by row: a machine's tape, a counter's numbers, a rule's cells.
+// The tiles
 // are read back by their names, as the compilers give them.
 import { Lines } from "./bytes.js";
 
@@ -31,7 +32,9 @@ class Tape {
 
   // What a type shows, asked once of each.
   shows(type) {
-    if (!this.shown.has(type)) this.shown.set(type, type < 0 ? null : this.read(this.system.nameOf(type).split(":"), type));
+    if (!this.shown.has(type)) {
+      this.shown.set(type, type < 0 ? null : this.read(this.system.nameOf(type).split(":"), type));
+    }
     return this.shown.get(type);
   }
 }
@@ -45,7 +48,8 @@ export function machineIn(bytes) {
   const lines = new Lines(bytes);
   while (lines.next()) {
     const [word, ...rest] = lines.rest(), list = MACHINE_WORDS[word];
-    machine.lines.set(word === "rule" ? `rule ${rest[0]} ${rest[1]}` : list ? `${word} ${rest[0]}` : word, lines.number);
+    machine.lines.set(word === "rule" ? `rule ${rest[0]} ${rest[1]}` : list ? `${word} ${rest[0]}` : word,
+      lines.number);
     if (list) machine[list].push(rest[0]);
     else if (word === "rule") machine.rules.set(`${rest[0]} ${rest[1]}`, rest.slice(2));
     else if (word === "tape") machine.tape.push(...rest);
@@ -94,20 +98,24 @@ class MachineTape extends Tape {
 
   // How the run ended.
   ending() {
-    const { machine } = this, last = this.many - 1, head = this.headOf(last), steps = `${last} step${last === 1 ? "" : "s"}`;
+    const { machine } = this, last = this.many - 1, head = this.headOf(last),
+      steps = `${last} step${last === 1 ? "" : "s"}`;
     if (!head) {
       const before = this.headOf(last - 1), move = before && machine.rules.get(`${before.state} ${before.symbol}`)?.[2];
-      return { tone: "no", text: `Ran off the ${move === "L" ? "west" : "east"} end of its ${machine.cells} cells in step ${last}: it did not halt.` };
+      const end = `${move === "L" ? "west" : "east"} end of its ${machine.cells} cells`;
+      return { tone: "no", text: `Ran off the ${end} in step ${last}: it did not halt.` };
     }
     if (!machine.rules.has(`${head.state} ${head.symbol}`)) {
       return { tone: "yes", text: `Halted in state ${head.state} over ${head.symbol}, after ${steps}.` };
     }
-    return { tone: "within", text: `Cut off by its ${machine.rows} rows: it would go on in state ${head.state} over ${head.symbol}.` };
+    const next = `in state ${head.state} over ${head.symbol}`;
+    return { tone: "within", text: `Cut off by its ${machine.rows} rows: it would go on ${next}.` };
   }
 
   lineOf(type) {
     const [kind, ...rest] = this.system.nameOf(type).split(":"), { lines } = this.machine;
-    const key = { t: "tape", a: `rule ${rest[0]} ${rest[1]}`, R: `state ${rest[0]}`, L: `state ${rest[0]}` }[kind] ?? `symbol ${rest[0]}`;
+    const key = { t: "tape", a: `rule ${rest[0]} ${rest[1]}`, R: `state ${rest[0]}`, L: `state ${rest[0]}` }[kind]
+      ?? `symbol ${rest[0]}`;
     return lines.get(key) ?? lines.get("head") ?? 0;
   }
 }
@@ -157,18 +165,22 @@ class RuleTape extends Tape {
     this.lines = new Map();
     while (left.next()) {
       const words = left.rest();
-      this.lines.set(words[0] === "rule" ? `rule ${words[1]} ${words[2]}` : words[0] === "symbol" ? `symbol ${words[1]}` : words[0], left.number);
+      this.lines.set(words[0] === "rule" ? `rule ${words[1]} ${words[2]}` : words[0] === "symbol"
+        ? `symbol ${words[1]}` : words[0], left.number);
     }
     this.title = "West:south at each cell, the highest row first";
     const none = this.emptyCells();
-    this.end = none ? { tone: "within", text: `${none} cell${none === 1 ? " is" : "s are"} without a rule or an input.` }
+    this.end = none ? { tone: "within",
+      text: `${none} cell${none === 1 ? " is" : "s are"} without a rule or an input.` }
       : { tone: "yes", text: "Each cell has a rule and its inputs." };
   }
 
   emptyCells() {
     let none = 0;
     const { wide, high } = this.system;
-    for (let row = 0; row + 1 < high; row++) for (let x = 1; x < wide; x++) if (this.growth.placeAt[row * wide + x] < 0) none++;
+    for (let row = 0; row + 1 < high; row++) {
+      for (let x = 1; x < wide; x++) if (this.growth.placeAt[row * wide + x] < 0) none++;
+    }
     return none;
   }
 

@@ -19,8 +19,10 @@ export function drawTile(pen, system, type, rgb, [x, y, scale], isPale = false) 
   pen.textBaseline = "middle";
   const showsGlues = scale >= 56;
   // (the name stays between the glues in the east and the west, or between their bars)
-  const [east, west] = [1, 3].map((side) => (system.side(type, side) < 0 ? scale * 0.05 : showsGlues ? 1.1 * glueSize(scale) + 8 : 6));
-  label(pen, system.nameOf(type), [x + (west + scale - east) / 2, y + scale / 2], scale - east - west, Math.min(16, scale / 3.2));
+  const [east, west] = [1, 3].map((side) =>
+    (system.side(type, side) < 0 ? scale * 0.05 : showsGlues ? 1.1 * glueSize(scale) + 8 : 6));
+  label(pen, system.nameOf(type), [x + (west + scale - east) / 2, y + scale / 2], scale - east - west,
+    Math.min(16, scale / 3.2));
   if (showsGlues) drawGlues(pen, system, type, [x, y, scale]);
 }
 
@@ -33,7 +35,8 @@ function drawBars(pen, system, type, ink, [x, y, scale]) {
     const strength = system.strongest(system.side(type, side));
     const bars = strength === 0 ? 0 : strength >= system.tau ? 2 : 1, half = scale * (bars === 2 ? 0.2 : 0.12);
     for (let bar = 0; bar < bars; bar++) {
-      const [a, b] = STEPS[side], far = scale / 2 - 2 - bar * 3, [cx, cy] = [x + scale / 2 + a * far, y + scale / 2 - b * far];
+      const [a, b] = STEPS[side], far = scale / 2 - 2 - bar * 3,
+        [cx, cy] = [x + scale / 2 + a * far, y + scale / 2 - b * far];
       pen.moveTo(cx - b * half, cy - a * half);
       pen.lineTo(cx + b * half, cy + a * half);
     }
@@ -68,7 +71,8 @@ export function drawInputs(pen, mask, [x, y, scale], theme) {
   STEPS.forEach(([a, b], side) => {
     if (!(mask & (1 << side))) return;
     const beside = [b * scale * 0.3, a * scale * 0.3];
-    const [from, to] = [1.35, 0.62].map((far) => [x + middle + a * middle * far + beside[0], y + middle - b * middle * far + beside[1]]);
+    const [from, to] = [1.35, 0.62].map((far) =>
+      [x + middle + a * middle * far + beside[0], y + middle - b * middle * far + beside[1]]);
     pen.beginPath();
     pen.moveTo(...from);
     pen.lineTo(...to);

@@ -15,7 +15,8 @@ let edited = null;
 export function openTileForm(type = -1) {
   const { system } = page, isNew = type < 0;
   const name = isNew ? freeName(system.types.all(), "T") : system.nameOf(type);
-  edited = { before: isNew ? null : name, colour: system.colours.find((it) => it.name === name)?.rgb ?? null, isColoured: false };
+  edited = { before: isNew ? null : name, colour: system.colours.find((it) => it.name === name)?.rgb ?? null,
+    isColoured: false };
   $("tile-form-title").textContent = isNew ? "A new tile" : `Tile ${name}`;
   $("tile-name").value = name;
   $("tile-colour").value = css(isNew ? 0xb8c0c8 : page.kinds.isType ? page.kinds.rgb[type] : edited.colour ?? 0xb8c0c8);
@@ -27,7 +28,8 @@ export function openTileForm(type = -1) {
 }
 
 function fillSide(side, glue) {
-  const { system } = page, menu = $(`glue-${side}`), options = [["-", "no glue"], ...system.glues.all().map((it) => [it, it]), [NEW, "a new glue \u2026"]];
+  const { system } = page, menu = $(`glue-${side}`),
+    options = [["-", "no glue"], ...system.glues.all().map((it) => [it, it]), [NEW, "a new glue \u2026"]];
   menu.replaceChildren(...options.map(([value, shown]) => make("option", { value }, shown)));
   menu.value = system.glueName(glue);
   $(`strength-${side}`).value = glue < 0 ? "" : system.strengths[glue];
@@ -49,7 +51,9 @@ function chosen(side) {
 // A glue has one strength, on whichever sides it stands.
 function strengthTyped(side) {
   const { value } = $(`glue-${side}`);
-  for (const other of SIDES) if (value !== NEW && $(`glue-${other}`).value === value) $(`strength-${other}`).value = $(`strength-${side}`).value;
+  for (const other of SIDES) {
+    if (value !== NEW && $(`glue-${other}`).value === value) $(`strength-${other}`).value = $(`strength-${side}`).value;
+  }
   preview();
 }
 
@@ -66,7 +70,9 @@ function fault() {
   for (const side of SIDES) {
     const glue = glueOn(side), strength = $(`strength-${side}`).value;
     if (glue !== "-" && !NAME.test(glue)) return `The glue in the ${side} wants a name.`;
-    if (glue !== "-" && !/^(?:[0-9]|[1-9][0-9]|1[0-9]{2}|2[0-4][0-9]|250)$/.test(strength)) return `The strength in the ${side} is to be 0 to 250.`;
+    if (glue !== "-" && !/^(?:[0-9]|[1-9][0-9]|1[0-9]{2}|2[0-4][0-9]|250)$/.test(strength)) {
+      return `The strength in the ${side} is to be 0 to 250.`;
+    }
   }
   return "";
 }
@@ -94,7 +100,8 @@ function put(lines) {
 function preview() {
   const canvas = $("tile-preview"), pen = canvas.getContext("2d"), size = canvas.width, system = new System();
   system.tau = page.system.tau;
-  const encoder = new TextEncoder(), add = (names, name) => { const it = encoder.encode(name || "?"); return names.add(it, 0, it.length); };
+  const encoder = new TextEncoder(), add = (names, name) => { const it = encoder.encode(name || "?");
+    return names.add(it, 0, it.length); };
   add(system.types, $("tile-name").value.trim());
   SIDES.forEach((side, at) => {
     const glue = glueOn(side), n = glue === "-" ? -1 : add(system.glues, glue);

@@ -11,7 +11,8 @@ const SIZE = 76, MOST = 240;
 const later = paused(() => fill());
 
 function cardOf(type, isEdited) {
-  const { system, kinds } = page, ratio = window.devicePixelRatio || 1, canvas = make("canvas", { "aria-hidden": "true" });
+  const { system, kinds } = page, ratio = window.devicePixelRatio || 1,
+    canvas = make("canvas", { "aria-hidden": "true" });
   Object.assign(canvas, { width: SIZE * ratio, height: SIZE * ratio });
   const pen = canvas.getContext("2d"), rgb = kinds.rgb[kinds.of[type]];
   pen.scale(ratio, ratio);
@@ -19,8 +20,10 @@ function cardOf(type, isEdited) {
   pen.fillRect(0, 0, SIZE, SIZE);
   drawTile(pen, system, type, rgb, [0, 0, SIZE]);
   const sides = SIDES.map((side, at) => [side, system.side(type, at)]).filter((it) => it[1] >= 0);
-  const words = sides.map(([side, glue]) => `${side} ${system.glueName(glue)} of strength ${system.strengths[glue]}`).join(", ");
-  const card = button("", () => isEdited && openTileForm(type), { class: "tile-card", "aria-label": `Tile ${system.nameOf(type)}: ${words || "no glues"}` });
+  const words = sides.map(([side, glue]) =>
+    `${side} ${system.glueName(glue)} of strength ${system.strengths[glue]}`).join(", ");
+  const card = button("", () => isEdited && openTileForm(type),
+    { class: "tile-card", "aria-label": `Tile ${system.nameOf(type)}: ${words || "no glues"}` });
   card.append(canvas, make("span", {}, system.nameOf(type)));
   return card;
 }
@@ -28,10 +31,13 @@ function cardOf(type, isEdited) {
 function fill() {
   if ($("tiles").hidden) return;
   const { system, kind } = page, isEdited = kind === "system" && !isPart() && !page.isStale;
-  $("tiles-note").textContent = !system ? "The text has no tiles yet." : isEdited ? "" : page.isStale ? "The text is refused: mend it first." : "These tiles are compiled, or come with a growth: they are not edited here.";
+  $("tiles-note").textContent = !system ? "The text has no tiles yet." : isEdited ? "" : page.isStale
+    ? "The text is refused: mend it first."
+    : "These tiles are compiled, or come with a growth: they are not edited here.";
   $("tile-new").disabled = !isEdited || !system;
   const many = system ? Math.min(MOST, system.types.count) : 0;
-  const more = system && system.types.count > many ? [make("p", { class: "soft" }, `and ${system.types.count - many} more`)] : [];
+  const more = system && system.types.count > many
+    ? [make("p", { class: "soft" }, `and ${system.types.count - many} more`)] : [];
   $("tile-cards").replaceChildren(...Array.from({ length: many }, (_, type) => cardOf(type, isEdited)), ...more);
 }
 

@@ -13,16 +13,23 @@ export function verdictOf(shown, meanings) {
   const bad = meanings.find((it) => it.words[0] === "legal" && it.words[1] === "no");
   if (bad) return { tone: "no", head: "Not a legal growth", text: bad.text, site: bad.site };
   if (line("verified")) return certificateVerdict(line("verified"), shown);
-  if (line("stuck")) return { tone: "no", head: "Can't have grown", text: line("stuck").text, site: line("stuck").site };
+  if (line("stuck")) {
+    return { tone: "no", head: "Can't have grown", text: line("stuck").text, site: line("stuck").site };
+  }
   const unique = line("unique");
-  if (!unique) return { tone: "plain", head: "Not judged", text: tilesStand(shown, "is drawn as the text says.", "are drawn as the text says."), site: null };
+  if (!unique) {
+    return { tone: "plain", head: "Not judged",
+      text: tilesStand(shown, "is drawn as the text says.", "are drawn as the text says."), site: null };
+  }
   return unique.words[1] === "yes" ? yesVerdict(shown) : noVerdict(shown, unique, line("closed"));
 }
 
-const tilesStand = (shown, one, several) => `${many(shown.growth.count, "tile")} ${shown.growth.count === 1 ? one : several}`;
+const tilesStand = (shown, one, several) =>
+  `${many(shown.growth.count, "tile")} ${shown.growth.count === 1 ? one : several}`;
 
 function yesVerdict(shown) {
-  const text = `Nothing else can grow than ${shown.growth.count === 1 ? "this one tile" : `these ${many(shown.growth.count, "tile")}`}, in whatever order they come.`;
+  const tiles = shown.growth.count === 1 ? "this one tile" : `these ${many(shown.growth.count, "tile")}`;
+  const text = `Nothing else can grow than ${tiles}, in whatever order they come.`;
   return { tone: "yes", head: "Unique", text, site: null };
 }
 
@@ -32,25 +39,31 @@ function noVerdict(shown, unique, closed) {
     const text = `Growing within the box, nothing else can grow; ${name} still attaches at ${where(site)}, outside.`;
     return { tone: "within", head: "Unique within the box", text, site };
   }
-  if (code === "3") return { tone: "within", head: "Not finished", text: `${name} still attaches at ${where(site)}.`, site };
+  if (code === "3") {
+    return { tone: "within", head: "Not finished", text: `${name} still attaches at ${where(site)}.`, site };
+  }
   const stands = shown.growth.nameAt(site.x, site.y);
   const text = code === "1"
-    ? `${stands} at ${where(site)} is held by more than it needs, so it may come in more than one way. That refutes nothing: look for rivals.`
-    : `${name} could come at ${where(site)} in place of ${stands}. That refutes nothing: look for rivals.`;
-  return { tone: "no", head: "Not shown to be unique", text, site };
+    ? `${stands} at ${where(site)} is held by more than it needs, so it may come in more than one way.`
+    : `${name} could come at ${where(site)} in place of ${stands}.`;
+  return { tone: "no", head: "Not shown to be unique", text: `${text} That refutes nothing: look for rivals.`, site };
 }
 
 function certificateVerdict(line, shown) {
   if (line.words[1] === "yes") {
-    return { tone: "yes", head: "Verified", text: `The certificate is good: nothing else can grow than its ${many(shown.growth.count, "tile")}.`, site: null };
+    return { tone: "yes", head: "Verified",
+      text: `The certificate is good: nothing else can grow than its ${many(shown.growth.count, "tile")}.`,
+      site: null };
   }
   return { tone: "no", head: "Not verified", text: line.text, site: line.site };
 }
 
 function scheduleVerdict({ steps, growth }) {
   const refused = steps.filter((it) => it[0] === "refused").length;
-  const text = `${many(steps.length, "step")} of scouts, ${refused ? `${refused} of them refused` : "none refused"}; ${many(growth.count, "tile")} stand.`;
-  return { tone: refused ? "no" : "plain", head: refused ? "A step was refused" : "All steps were taken", text, site: null };
+  const told = refused ? `${refused} of them refused` : "none refused";
+  const text = `${many(steps.length, "step")} of scouts, ${told}; ${many(growth.count, "tile")} stand.`;
+  return { tone: refused ? "no" : "plain", head: refused ? "A step was refused" : "All steps were taken", text,
+    site: null };
 }
 
 function batchVerdict({ jobs }) {
@@ -65,7 +78,8 @@ export function refusedVerdict(said, bytes, command) {
   if (!found) return { tone: "plain", head: "Refused", text: said, site: null, line: 0, details: [] };
   const [first, shown, ...more] = reasons(bytes, found.line, found.cause, command);
   const text = sentence(first.replace(/^line \d+: \w+: /, ""));
-  return { tone: "plain", head: "Refused", text, site: null, line: found.line, cause: found.cause, said, shown: shown.trim(), details: more.map((it) => it.slice(4)) };
+  return { tone: "plain", head: "Refused", text, site: null, line: found.line, cause: found.cause, said,
+    shown: shown.trim(), details: more.map((it) => it.slice(4)) };
 }
 
 const sentence = (text) => `${text[0].toUpperCase()}${text.slice(1)}${/[.?!]$/.test(text) ? "" : "."}`;

@@ -1,7 +1,8 @@
 // The card with the verdict: a word in large, a sentence, what else there is to know, and where to go.
 import { $, announce, button, make, many } from "./dom.js";
 import { showSite } from "./board.js";
-import { goTo, lineAt } from "./editor.js";
+import { leadOf } from "./leads.js";
+import { goTo, lineAt, takeReturnsAway } from "./editor.js";
 import { nowhereOf } from "./verdict.js";
 import { on, page, tell } from "./state.js";
 import { theTape } from "./tape_panel.js";
@@ -18,8 +19,14 @@ function buttonsOf(verdict) {
   const list = [];
   if (verdict.site) list.push(button(`Show (${verdict.site.x}, ${verdict.site.y})`, () => showSite(verdict.site)));
   if (verdict.line) list.push(button(`Go to line ${verdict.line}`, () => goTo(verdict.line)));
-  for (const it of gluesOf()) list.push(button(`Glue ${it.name}, line ${it.line}`, () => goTo(it.line), { title: `The glue that holds the site: go to its line` }));
-  if (verdict.tone === "no" && page.kind === "system") list.push(button("Look for rivals", () => tell("openTool", "rivals")));
+  if (verdict.shown?.endsWith("\\r")) list.push(button("Take all carriage returns away", takeReturnsAway));
+  for (const it of gluesOf()) {
+    list.push(button(`Glue ${it.name}, line ${it.line}`, () => goTo(it.line),
+      { title: `The glue that holds the site: go to its line` }));
+  }
+  if (verdict.tone === "no" && page.kind === "system") {
+    list.push(button("Look for rivals", () => tell("openTool", "rivals")));
+  }
   if (page.kind === "batch") list.push(...jobButtons());
   return list;
 }
@@ -30,12 +37,16 @@ function gluesOf() {
   const line = page.meanings.find((it) => it.words[0] === "unique" && it.words[1] === "no");
   if (!verdict?.site || !line || kind === "machine" || kind === "rule") return [];
   const found = /: (.*?), and the temperature|\((.*?), and the temperature/.exec(line.text);
-  const names = new Set([...(found?.[1] ?? found?.[2] ?? "").matchAll(/(?:north|east|south|west) (\S+)/g)].map((it) => it[1]));
-  return [...names].slice(0, 3).map((name) => ({ name, line: system.glueLines[system.glues.numberOf(name)] })).filter((it) => it.line);
+  const names = new Set([...(found?.[1] ?? found?.[2] ?? "").matchAll(/(?:north|east|south|west) (\S+)/g)].map((it) =>
+    it[1]));
+  return [...names].slice(0, 3).map((name) =>
+    ({ name, line: system.glueLines[system.glues.numberOf(name)] })).filter((it) => it.line);
 }
 
 function jobButtons() {
-  return page.jobs.slice(0, 60).map((job) => button(`Job ${job.number}: ${job.told.map((it) => it.slice(0, 3).join(" ")).pop() ?? ""}`, () => tell("opened", job.bytes)));
+  return page.jobs.slice(0, 60).map((job) =>
+    button(`Job ${job.number}: ${job.told.map((it) => it.slice(0, 3).join(" ")).pop() ?? ""}`,
+    () => tell("opened", job.bytes)));
 }
 
 // What the program printed, each line with what it means.
@@ -55,7 +66,8 @@ const STEPS = {
   split: (it) => `a new scout, ${it[1]}`,
   joined: (it) => `joined; scout ${it[1]} is left`,
   refused: (it) => ({
-    1: "refused: there is no such scout", 2: `refused: what the scout has seen pulls with ${it[2]}, less than the temperature`,
+    1: "refused: there is no such scout",
+      2: `refused: what the scout has seen pulls with ${it[2]}, less than the temperature`,
     3: "refused: the site is outside the box", 4: "refused: the scout has one number only",
   })[it[1]] ?? it.join(" "),
 };
@@ -63,11 +75,15 @@ const stepWords = (words) => STEPS[words[0]]?.(words) ?? words.join(" ");
 
 // The types of which no tile stands: a yes does not speak of them.
 function nowhere() {
-  if (!page.system || !page.growth?.count || page.isStale || page.mode === "hand" || !["system", "growth", "certificate"].includes(page.kind)) return null;
+  if (!page.system || !page.growth?.count || page.isStale || page.mode === "hand"
+    || !["system", "growth", "certificate"].includes(page.kind)) {
+    return null;
+  }
   const none = nowhereOf(page.system, page.growth);
   if (!none.length) return null;
-  const told = `${many(none.length, "type")} placed nowhere: ${namesOf(none, 12)}.`;
-  return make("p", { class: "nowhere" }, page.verdict?.tone === "yes" ? `${told} What should have grown with them is not there.` : told);
+  const lead = leadOf(page, none), told = `${many(none.length, "type")} placed nowhere: ${namesOf(none, 12)}.`;
+  const where = lead ? [` ${lead.text} `, button("Look there", () => showSite(lead.site), { class: "link" })] : [];
+  return make("p", { class: "nowhere" }, told, ...where);
 }
 
 export function showVerdict() {
@@ -75,10 +91,13 @@ export function showVerdict() {
   card.dataset.tone = verdict?.tone ?? "plain";
   $("verdict-word").textContent = verdict?.head ?? "";
   $("verdict-text").textContent = verdict?.text ?? "";
-  const said = verdict?.line ? [make("pre", { class: "verdict-line" }, `${verdict.line}  ${verdict.shown || lineAt(verdict.line)}`)] : [];
+  const said = verdict?.line ? [
+    make("pre", { class: "verdict-line" }, `${verdict.line}  ${verdict.shown || lineAt(verdict.line)}`)] : [];
   const more = (verdict?.details ?? []).map((it) => make("li", {}, it));
-  const handed = page.handed?.length ? [make("p", { class: "soft" }, `The text itself says: ${page.handed.map((it) => it.join(" ")).join("; ")}.`)] : [];
-  $("verdict-more").replaceChildren(...said, ...(more.length ? [make("ul", {}, ...more)] : []), ...handed, ...[nowhere()].filter(Boolean));
+  const handed = page.handed?.length
+    ? [make("p", { class: "soft" }, `The text itself says: ${page.handed.map((it) => it.join(" ")).join("; ")}.`)] : [];
+  $("verdict-more").replaceChildren(...said, ...(more.length ? [make("ul", {}, ...more)] : []), ...handed,
+    ...[nowhere()].filter(Boolean));
   $("verdict-buttons").replaceChildren(...(verdict ? buttonsOf(verdict) : []));
   const lines = verdict?.said ? [make("dt", {}, verdict.said)] : printed();
   $("printed").replaceChildren(...lines);

@@ -13,7 +13,8 @@ export const siteAt = (px, py) => {
 };
 
 // The upper left corner of a site in the view.
-export const cornerOf = (x, y) => [view.left + (x - page.system.box[0]) * view.scale, view.top + (page.system.box[3] - y) * view.scale];
+export const cornerOf = (x, y) =>
+  [view.left + (x - page.system.box[0]) * view.scale, view.top + (page.system.box[3] - y) * view.scale];
 
 export function zoomAt(factor, px, py) {
   const next = Math.max(LEAST, Math.min(MOST, view.scale * factor));
@@ -30,7 +31,8 @@ export function pan(dx, dy) {
 // Brings columns and rows, counted from the upper left, into view.
 function frame(column, row, columns, rows) {
   const { width, height } = view;
-  const [wide, high] = [width - WEST - EAST, height - NORTH - SOUTH], fits = Math.min(wide / (columns + 0.3), high / (rows + 0.3));
+  const [wide, high] = [width - WEST - EAST, height - NORTH - SOUTH],
+    fits = Math.min(wide / (columns + 0.3), high / (rows + 0.3));
   view.scale = Math.max(LEAST, Math.min(64, fits));
   if (view.scale > 1) view.scale = Math.floor(view.scale);
   view.left = Math.round(WEST + (wide - columns * view.scale) / 2 - column * view.scale);
@@ -85,7 +87,8 @@ export function lookAt({ x, y }) {
 export function inView() {
   const { scale, left, top, width, height } = view, { wide, high } = page.system;
   return {
-    firstColumn: Math.max(0, Math.floor(-left / scale)), lastColumn: Math.min(wide - 1, Math.floor((width - left) / scale)),
+    firstColumn: Math.max(0, Math.floor(-left / scale)),
+      lastColumn: Math.min(wide - 1, Math.floor((width - left) / scale)),
     firstRow: Math.max(0, Math.floor(-top / scale)), lastRow: Math.min(high - 1, Math.floor((height - top) / scale)),
   };
 }

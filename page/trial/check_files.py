@@ -135,7 +135,7 @@ PACKED = """(async () => { const piece = new Uint8Array(1 << 20).fill(%d), strea
 
 @check("a link that unpacks to 64 MiB of remarks, or to much more, is not opened")
 def bomb(page):
-    for sign, many in ((35, 64), (0, 600)):
+    for sign, many in ((35, 64), (0, 300)):
         packed = page.value(PACKED % (sign, many))
         before = page.value("performance.now()")
         opened(page, "#t=" + packed)

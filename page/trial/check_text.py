@@ -127,6 +127,8 @@ def windows(page):
     add(page, "a.tiles", CHAIN.replace("\n", "\r\n").encode())
     assert verdict(page)[0] == "Refused"
     assert "carriage return" in page.text("#verdict-more"), page.text("#verdict-more")
+    done(page, lambda: page.click("#verdict-buttons button:nth-child(2)"))
+    assert verdict(page)[0] == "Unique", verdict(page)
 
 
 @check("a long text stands in the editor by its start, and grows as a whole")

@@ -74,6 +74,15 @@ def nowhere(page):
     assert chips(page) == {"S": ("1", False), "B": ("1", False), "C": ("none", True)}, chips(page)
 
 
+@check("where types never came it is told where to look: enough is offered and none takes it, or a glue is too weak")
+def leads(page):
+    assert "C is nearest to coming at (2, 0): west b 1 = 1 of 2." in page.text(".nowhere"), page.text(".nowhere")
+    put(page, (TRIANGLE % (7, 7)).replace("tile r11 0 0 1 1\n", ""))
+    assert "At (1, 1) enough is offered (south 1 1 + west 1 1 = 2 of 2), and no type takes both." in page.text(".nowhere"), page.text(".nowhere")
+    page.click(".nowhere button")
+    put(page, STUNTED)
+
+
 @check("what the program printed can be read, each line with what it means")
 def printed(page):
     put(page, CHAIN)
