@@ -24,5 +24,5 @@ pub use laws::{
 pub use machine::Core;
 pub use placed_tile::PlacedTile;
 use placed_tiles::PlacedTiles;
-use scout::Scout;
+use scout::CoreScout;
 use scouts::Scouts;

@@ -10,7 +10,7 @@ ghost use Rattle.grow_core.specs.Steps.{CoreStep, IsStart};
 ghost use Rattle.grow_core.specs.Machine.{placer_at};
 ghost use Rattle.atam.specs.declared.event.Event.TheVariants.{Look, Claim, Split, Join};
 
-use crate::{PlacedTile, PlacedTiles, Scout, Scouts};
+use crate::{CoreScout, PlacedTile, PlacedTiles, Scouts};
 use assembly::Grid;
 use atam::{CoreStop, Event, Seen};
 use attach_rule::pull;
@@ -62,7 +62,7 @@ impl Core {
         ensures invariant { IfOk result (λ core. CoreInvariant sys.now core.state) }
     {
         let tiles = PlacedTiles::make(alloc, sys)?;
-        let first = Scout::make(alloc, u64::MAX, tiles.grid().copy()?)?;
+        let first = CoreScout::make(alloc, u64::MAX, tiles.grid().copy()?)?;
         let scouts = Scouts::make(alloc, first)?;
         Ok(Core {
             alloc,

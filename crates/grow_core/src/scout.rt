@@ -18,13 +18,13 @@ use tile_system::{BoxArea, NoMemory, Place, Placed};
 
 // A scout's numbers, what it has seen, and its own tiles, with room for a tile at each site of the box.
 #[derive(Drop)]
-pub(crate) struct Scout {
+pub(crate) struct CoreScout {
     owned: u64,
     seen: Grid,
     mine: Vec<PlacedTile>,
 }
 
-impl Model for Scout {
+impl Model for CoreScout {
     ghost use Rattle.std.specs.Prelude.{◌≤◌, vec_capacity};
     ghost use Rattle.assembly.specs.Cells.{cell_count};
     ghost use Rattle.grow_core.specs.Inner.Entries.{BoxedScout};
@@ -39,9 +39,9 @@ impl Model for Scout {
     ghost invariant = { λ s. cell_count s.seen.area ≤ vec_capacity s.mine };
 }
 
-impl Scout {
+impl CoreScout {
     // A scout with these numbers, no tile of its own, and what it has seen.
-    pub(crate) fn make(alloc: Global, owned: u64, seen: Grid) -> Result<Scout, NoMemory>
+    pub(crate) fn make(alloc: Global, owned: u64, seen: Grid) -> Result<CoreScout, NoMemory>
         ensures area { IfOk result (λ new. new.area ≡ seen.area) }
         ensures scout { IfOk result (λ new. new.scout
             ≡ record { owned = owned; seen = seen.tiles; mine = [] }) }
@@ -49,7 +49,7 @@ impl Scout {
     {
         let area = seen.area();
         let cells = area.width() as usize * area.height() as usize;
-        Ok(Scout {
+        Ok(CoreScout {
             owned,
             seen,
             mine: Vec::with_capacity(alloc, cells)?,
@@ -129,7 +129,7 @@ impl Scout {
     }
 
     // Gives the greatest number to a new scout, unless it is the only one.
-    pub(crate) fn split(&mut self, alloc: Global) -> Result<Scout, CoreStop>
+    pub(crate) fn split(&mut self, alloc: Global) -> Result<CoreScout, CoreStop>
         requires some_number { 0 < self.old.scout.owned }
         requires room { length self.old.scout.mine ≤ cell_count self.old.area }
         ensures area { self.new.area ≡ self.old.area }
@@ -153,7 +153,7 @@ impl Scout {
     }
 
     // A scout of one number, which has seen the same, with the tiles that this number placed.
-    fn given_part(&self, alloc: Global, number: u32) -> Result<Scout, NoMemory>
+    fn given_part(&self, alloc: Global, number: u32) -> Result<CoreScout, NoMemory>
         requires within { number < 64 }
         requires room { length self.now.scout.mine ≤ cell_count self.now.area }
         ensures area { IfOk result (λ new. new.area ≡ self.now.area) }
@@ -161,13 +161,13 @@ impl Scout {
             (placed_by number self.now.scout.mine) new.scout) }
         ensures distinct { OnOk result (HasDistinctSites self.now.scout.seen) }
     {
-        let mut given = Scout::make(alloc, 1 << number, self.seen.copy()?)?;
+        let mut given = CoreScout::make(alloc, 1 << number, self.seen.copy()?)?;
         copy_wins(&self.mine, number, &mut given.mine);
         Ok(given)
     }
 
     // Adds the numbers, the seen and the tiles of another scout to its own.
-    pub(crate) fn join(&mut self, other: Scout)
+    pub(crate) fn join(&mut self, other: CoreScout)
         requires area { other.area ≡ self.old.area }
         requires agree { (m : Site) (t u : TypeId) → tile_at self.old.scout.seen m ≡ Some t →
             tile_at other.scout.seen m ≡ Some u → t ≡ u }

@@ -13,7 +13,7 @@ ghost use Rattle.grow_core.specs.Steps.{CoreStep, won_tile};
 ghost use Rattle.grow_core.specs.Core.{state_of};
 ghost use Rattle.grow_core.specs.Inner.Entries.{Becomes};
 
-use crate::Scout;
+use crate::CoreScout;
 use atam::{CoreStop, Seen};
 use std::alloc::Global;
 use std::marker::Model;
@@ -25,7 +25,7 @@ const NAMES: usize = 64;
 // One entry for each name from 0 to 63: the scout of this name, if it lives.
 pub(crate) struct Scouts {
     area: BoxArea,
-    entries: Vec<Option<Scout>>,
+    entries: Vec<Option<CoreScout>>,
 }
 
 impl Drop for Scouts {
@@ -54,7 +54,7 @@ impl Model for Scouts {
 
 impl Scouts {
     // Scout 0 alone.
-    pub(crate) fn make(alloc: Global, first: Scout) -> Result<Scouts, NoMemory>
+    pub(crate) fn make(alloc: Global, first: CoreScout) -> Result<Scouts, NoMemory>
         ensures area { IfOk result (λ all. all.area ≡ first.area) }
         ensures scouts { IfOk result (λ all. all.scouts
             ≡ Some first.scout ∷ replicate 63 None) }
@@ -70,7 +70,7 @@ impl Scouts {
     }
 
     // The scout of a name.
-    pub(crate) fn get(&self, name: u32) -> Option<&Scout>
+    pub(crate) fn get(&self, name: u32) -> Option<&CoreScout>
         ensures none { IfNone result (scout_at self.now.scouts name ≡ None) }
         ensures some { IfSome result (λ scout.
             scout_at self.now.scouts name ≡ Some scout.now.scout) }
@@ -80,7 +80,7 @@ impl Scouts {
     }
 
     // Takes the scout of a name out.
-    fn take(&mut self, name: u32) -> Option<Scout>
+    fn take(&mut self, name: u32) -> Option<CoreScout>
         ensures area { self.new.area ≡ self.old.area }
         ensures scouts { self.new.scouts ≡ slice_set self.old.scouts name None }
         ensures none { IfNone result (scout_at self.old.scouts name ≡ None) }
@@ -95,7 +95,7 @@ impl Scouts {
     }
 
     // Puts a scout at a name, in place of who was there.
-    fn put(&mut self, name: u32, scout: Scout)
+    fn put(&mut self, name: u32, scout: CoreScout)
         requires name { name < length self.old.scouts }
         requires area { scout.area ≡ self.old.area }
         ensures area { self.new.area ≡ self.old.area }
@@ -190,7 +190,7 @@ impl Scouts {
     }
 
     // The scout of a name joins one that is out of the list, which is put in at another name.
-    fn unite(&mut self, first: Scout, from: u32, name: u32)
+    fn unite(&mut self, first: CoreScout, from: u32, name: u32)
         requires name { name < length self.old.scouts }
         requires area { first.area ≡ self.old.area }
         requires agree { (w : ScoutState) (m : Site) (t u : TypeId) →

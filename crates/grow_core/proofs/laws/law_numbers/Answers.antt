@@ -1,4 +1,4 @@
-use Rattle.std.proofs.Common.{◌-◌, ◌^◌, sym, subst, arith, lit≤}
+use Rattle.std.proofs.Common.{◌-◌, ◌^◌, sym, subst, lit≤}
 use Rattle.std.proofs.lemmas.Nat.Bits.{bit_at_ones}
 use Rattle.grow_core.specs.Core.{Owns, least, greatest}
 use Rattle.grow_core.proofs.Numbers.{top, greatest-owned, most, left-owned, left-other, left-owns, alone, owns_itself, both-owned, either-owns, least-owned, least-most, two-numbers}

@@ -6,7 +6,7 @@ use Rattle.grow_core.specs.declared.placed_tile.PlacedTile.{PlacedTile}
 use Rattle.grow_core.specs.Inner.Entries.{BoxedScout}
 use Rattle.grow_core.proofs.Assembled.{same_seen}
 use Rattle.grow_core.proofs.Numbers.{IsTop, top}
-use Rattle.grow_core.proofs.scout.Scout.split.Goals as goal
+use Rattle.grow_core.proofs.scout.CoreScout.split.Goals as goal
 
 pub overflow_sub-self : goal.overflow_sub-self
 overflow_sub-self c =

@@ -1,5 +1,5 @@
 use Rattle.std.proofs.Common.{refl}
-use Rattle.grow_core.proofs.scout.Scout.win.Goals as goal
+use Rattle.grow_core.proofs.scout.CoreScout.win.Goals as goal
 
 pub returns-clause-scout : goal.returns-clause-scout
 returns-clause-scout c =

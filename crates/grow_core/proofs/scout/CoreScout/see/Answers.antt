@@ -2,7 +2,7 @@ use Rattle.std.proofs.Common.{refl, sym, ◌∙◌, ap}
 use Rattle.atam.specs.Placements.{tile_at}
 use Rattle.grow_core.specs.Inner.Entries.{BoxedScout}
 use Rattle.grow_core.proofs.Assembled.{seen_again}
-use Rattle.grow_core.proofs.scout.Scout.see.Goals as goal
+use Rattle.grow_core.proofs.scout.CoreScout.see.Goals as goal
 
 pub returns-then-is_none-clause-scout : goal.returns-then-is_none-clause-scout
 returns-then-is_none-clause-scout c = rw (← c.self.view_is) (record { owned = refl; seen = c.put.ensures.placements; distinct = c.recall_sites.ensures.distinct; mine = refl })

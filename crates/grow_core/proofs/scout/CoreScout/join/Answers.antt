@@ -1,6 +1,6 @@
 use Rattle.std.proofs.Common.{◌≡◌, refl, ap}
 use Rattle.grow_core.specs.Inner.Entries.{BoxedScout}
-use Rattle.grow_core.proofs.scout.Scout.join.Goals as goal
+use Rattle.grow_core.proofs.scout.CoreScout.join.Goals as goal
 
 pub merge-requires-clause-agree : goal.merge-requires-clause-agree
 merge-requires-clause-agree c =
