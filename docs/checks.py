@@ -93,7 +93,7 @@ REFUSALS = ("tile_io/specs/Causes", "command_line/specs/Commands", "tilebench/sp
 REFUSAL = re.compile(r'^\w+_(?:stop_)?name [\w.]+ = codes "([A-Z]\w+)"', re.M)
 TEXTS = ("tile_text/specs/SystemText", "seq_text/specs/GrowthText", "seq_text/specs/ScheduleText",
          "machine_text/specs/MachineText", "quadrant_compile/specs/WeaveText")
-KEYWORD = re.compile(r'codes "([a-z]+)"\)? \(?(?:exactly )?(\d+)')
+KEYWORD = re.compile(r'codes "([a-z]+)"(?:; has_words = λ n\. n ==|\)) (\d+)')
 
 
 def refusals():
@@ -202,6 +202,15 @@ def page():
     return bundle.behind(read("tilebench.html"))
 
 
+def twins():
+    """No two definitions of specs/ say the same but for names, which dev/twins.py tells."""
+    streams = {"stdout": subprocess.PIPE, "stderr": subprocess.STDOUT}
+    tried = subprocess.run([f"{TOP}/dev/test_twins.py"], check=False, **streams)
+    if tried.returncode:
+        return [f"dev/test_twins.py: {tried.stdout.decode()}"]
+    return subprocess.run([f"{TOP}/dev/twins.py"], check=False, **streams).stdout.decode().splitlines()
+
+
 CHECKS = {
     "clauses of PROVED.md": promises,
     "crates of ARCHITECTURE.md": layers,
@@ -212,6 +221,7 @@ CHECKS = {
     "links": links,
     "names": names,
     "the list of what the headline reaches": headline,
+    "definitions said twice": twins,
     "the manual page": manual,
     "tilebench.html": page,
     "constants that clauses cite": lambda: constants.unsaid(crates(), contracts),

@@ -27,7 +27,7 @@ use Rattle.seq_text.proofs.PlainLines.{number_word, number_short}
 use Rattle.cert_check.specs.declared.entry.Entry.{Entry}
 use Rattle.cert_check.specs.Certificates.{places_of}
 use Rattle.cert_text.specs.CertificateLines.{side_words, sides_word}
-use Rattle.cert_text.specs.CertificateText.{sides_field, rank_field, entry_fields, mark_fields, mark_row, certificate_table}
+use Rattle.cert_text.specs.CertificateText.{sides_field, rank_field, entry_fields, mark_row, certificate_table}
 use Rattle.cert_text.specs.Inner.Plain.{IsPlainMark, BeginsPlain}
 use Rattle.cert_text.proofs.SidesWords.{sides_told}
 
@@ -96,7 +96,7 @@ module _ (line : List ℕ) (m : Site) (name sides rank : List ℕ) (plain : IsPl
 pub record IsMarkLine (sys : TileSystem) (earlier : List Entry) (words : List (List ℕ)) (e : Entry) : Type 0 where
   pub count : length words ≡ 6
   pub keyword : field words 0 ≡ codes "mark"
-  pub reads : mark_fields sys earlier words ≡ Ok e
+  pub reads : (mark_row sys).fields earlier words ≡ Ok e
 
 -- a text begins with a `mark` line that passes its checks, and it has so many bytes with its newline
 pub record BeginsWithMark (sys : TileSystem) (earlier : List Entry) (text : List ℕ) (e : Entry) (count : ℕ) : Type 0 where
@@ -115,7 +115,7 @@ module _ (sys : TileSystem) (earlier : List Entry) (m : Site) (name sides rank :
   fields line plain = record { named = named; sides_read = sides_are_word sides s of_sides; rank_read = rank_is_word rank r of_rank }
 
   plain_line : (line : List ℕ) → IsPlainMark line m name sides rank → IsMarkLine sys earlier (words_of line) entry
-  unfolding mark_fields entry_fields entry
+  unfolding entry_fields entry
   plain_line line plain =
       let Reads : List (List ℕ) → Type 0 = λ words. IsMarkLine sys earlier words entry in
       let read : place_field (names_of sys) plain.column plain.row name ≡ Ok entry.place =

@@ -8,7 +8,7 @@ use Rattle.std.proofs.lemmas.List.{append-nil, map-append}
 use Rattle.std.proofs.lemmas.List.Elements.{All-nil, All-cons, All-head, All-tail, All-map, All-from_recursion}
 use Rattle.tile_io.specs.declared.mark.Mark.{Mark}
 use Rattle.tile_io.specs.Checks.{number_in}
-use Rattle.tile_io.specs.Lines.{lines_of, lines_from, line_of, mark_after}
+use Rattle.tile_io.specs.Lines.{first_mark, lines_of, lines_from, line_of, mark_after}
 use Rattle.tile_io.specs.Formats.{Passes}
 use Rattle.tile_io.proofs.Cuts.{lines-nil}
 use Rattle.tile_io.proofs.NumberSpelled.{number_in-decimal}
@@ -28,12 +28,11 @@ use Rattle.tile_text.proofs.Boxes.{inside_passes}
 use Rattle.tile_text.proofs.Names.{named_seed, at_seam}
 use Rattle.tile_text.proofs.PlainWords.{plain_seed, name_word, name_short, keyword_word}
 use Rattle.tile_text.proofs.SystemSpelled.{printed_any}
-use Rattle.seq_text.specs.PrintedGrowths.{start_mark}
 use Rattle.seq_text.proofs.Printed.{behind_text}
 use Rattle.cert_check.specs.declared.entry.Entry.{Entry}
 use Rattle.cert_check.specs.Certificates.{places_of}
 use Rattle.cert_text.specs.CertificateLines.{mark_lines, mark_line, sides_word}
-use Rattle.cert_text.specs.CertificateText.{certificate_table, certificate_format, entry_fields, mark_fields, ReadsCertificate}
+use Rattle.cert_text.specs.CertificateText.{certificate_table, certificate_format, entry_fields, mark_row, ReadsCertificate}
 use Rattle.cert_text.specs.PrintedCertificates.{MayBePrinted, ReadsBack, printed_input}
 use Rattle.cert_text.proofs.SidesWords.{sides_told}
 
@@ -95,7 +94,7 @@ module _ (sys : TileSystem) (valid : IsValid sys) where
       }
 
   mark_checks : (done : List Entry) (e : Entry) → MayBeMarked sys e → tile_at (places_of done) e.place.site ≡ None → (certificate_format sys).check done (entry_words sys e) ≡ Ok e
-  unfolding certificate_table mark_fields entry_fields place_field site_field type_field
+  unfolding certificate_table entry_fields place_field site_field type_field
   mark_checks done e may free =
       let plain = plain_seed sys.area e.place valid.box may.inside in
       let named = named_seed sys e.place valid.type_names valid.distinct_types may.kind in
@@ -136,6 +135,6 @@ module _ (sys : TileSystem) (valid : IsValid sys) where
       let text = printed_input version sys c in
       let lines = mark_lines sys c in
       record {
-        system = printed_any version sys text lines start_mark valid has refl;
-        entries = printed_reads c text (end_of_print version sys start_mark) may (behind_text version sys lines);
+        system = printed_any version sys text lines first_mark valid has refl;
+        entries = printed_reads c text (end_of_print version sys first_mark) may (behind_text version sys lines);
       }

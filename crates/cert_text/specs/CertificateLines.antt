@@ -20,13 +20,10 @@ side_words =
 abbrev pub sides_word : ℕ → List ℕ
 sides_word sides = slice_index_or side_words sides []
 
--- a column, a row, the name of a type, a word of sides and a rank
-abbrev pub mark_words : Site → List ℕ → List ℕ → ℕ → List ℕ
-mark_words m name sides rank = line_of (codes "mark" ∷ signed_decimal m.x ∷ signed_decimal m.y ∷ name ∷ sides ∷ decimal rank ∷ [])
-
--- those of an entry
+-- the line of an entry: a column, a row, the name of a type, a word of sides and a rank
 abbrev pub mark_line : TileSystem → Entry → List ℕ
-mark_line sys e = mark_words e.place.site (type_name sys e.place.tile) (sides_word e.sides) e.rank
+mark_line sys e = line_of (codes "mark" ∷ signed_decimal e.place.site.x ∷ signed_decimal e.place.site.y
+    ∷ type_name sys e.place.tile ∷ sides_word e.sides ∷ decimal e.rank ∷ [])
 
 -- the lines of the entries, in their order
 abbrev pub mark_lines : TileSystem → List Entry → List ℕ

@@ -1,11 +1,11 @@
 -- What may be printed of a certificate, and its text behind that of its system.
+use Rattle.tile_io.specs.Lines.{first_mark}
 use Rattle.std.specs.Prelude.{◌≤◌, ◌++◌, ℕ, List, All}
 use Rattle.atam.specs.Assembly.{Fits}
 use Rattle.atam.specs.TileSystem.{TileSystem}
 use Rattle.tile_text.specs.declared.version.Version.{Version}
 use Rattle.tile_text.specs.SystemText.{ReadsAny}
 use Rattle.tile_text.specs.Spelling.{spelling_by, end_of_print}
-use Rattle.seq_text.specs.PrintedGrowths.{start_mark}
 use Rattle.cert_check.specs.declared.entry.Entry.{Entry}
 use Rattle.cert_check.specs.Certificates.{AreEntries, places_of}
 use Rattle.cert_text.specs.CertificateLines.{mark_lines}
@@ -23,5 +23,5 @@ printed_input version sys c = spelling_by version sys ++ mark_lines sys c
 
 -- from its start it reads as the system, and from there to its end as the entries
 pub record ReadsBack (version : Version) (sys : TileSystem) (c : List Entry) : Type 0 where
-  pub system : ReadsAny (printed_input version sys c) start_mark sys (end_of_print version sys start_mark)
-  pub entries : ReadsCertificate sys (printed_input version sys c) (end_of_print version sys start_mark) c
+  pub system : ReadsAny (printed_input version sys c) first_mark sys (end_of_print version sys first_mark)
+  pub entries : ReadsCertificate sys (printed_input version sys c) (end_of_print version sys first_mark) c

@@ -10,7 +10,7 @@ ghost use Rattle.tile_io.specs.Blocks.{ReadsInBlocks};
 ghost use Rattle.tile_io.specs.NextLine.{IsMark};
 ghost use Rattle.tile_io.specs.Formats.{ReadsOrStops};
 ghost use Rattle.cert_check.specs.Certificates.{places_of};
-ghost use Rattle.cert_text.specs.CertificateText.{ReadsCertificate, certificate_format, entry_fields, mark_fields, rank_field};
+ghost use Rattle.cert_text.specs.CertificateText.{ReadsCertificate, certificate_format, entry_fields, mark_row, rank_field};
 ghost use Rattle.cert_text.specs.Inner.Plain.{BeginsPlain};
 ghost use Rattle.cert_text.specs.Inner.SoFar.{AreKept};
 
@@ -193,7 +193,7 @@ impl<'a> CertificateReader<'a> {
     fn next_entry(&self, words: &LineWords) -> Result<Entry, Cause>
         requires words { length words.now ≡ 6 }
         requires kept { AreKept self.now.system.now self.now.entries.items self.now.grid }
-        ensures entry { result ≡ mark_fields self.now.system.now self.now.entries.items words.now }
+        ensures entry { result ≡ (mark_row self.now.system.now).fields self.now.entries.items words.now }
         ensures inside { IfOk result (λ e. InBox self.now.system.now.area e.place.site) }
         ensures known { IfOk result (λ e. IsType self.now.system.now e.place.tile) }
         ensures sides { IfOk result (λ e. e.sides < 16) }

@@ -38,11 +38,8 @@ start_argument = record { id = codes "start"; default = None; least = 0; most = 
 abbrev pub load_argument : NumberArgument
 load_argument = record { id = codes "number"; default = None; least = 0; most = 2 ^ 64 - 1 }
 
--- a row: the word that names a command, and its arguments
-abbrev pub CommandRow : Type 0
-CommandRow = Text × List NumberArgument
-
-abbrev pub row_of : CommandName → CommandRow
+-- the row of a command: the word that names it, and its arguments
+abbrev pub row_of : CommandName → Text × List NumberArgument
 row_of name.Grow = (codes "grow", workers_option ∷ choice_option ∷ [])
 row_of name.Race = (codes "race", workers_option ∷ choice_option ∷ [])
 row_of name.Report = (codes "report", workers_option ∷ choice_option ∷ [])

@@ -25,7 +25,7 @@ use Rattle.job_board.specs.declared.position.Position.{Position}
 use Rattle.job_board.specs.declared.position.Position.TheVariants.{AtStart, Behind}
 use Rattle.job_board.specs.declared.position.BatchItem.{BatchItem}
 use Rattle.job_board.specs.declared.position.BatchItem.TheVariants.{Header, JobLine}
-use Rattle.job_board.specs.BatchLines.{ReadsLine, batch_format, batch_table, header_fields, job_fields, row_at}
+use Rattle.job_board.specs.BatchLines.{ReadsLine, batch_format, batch_table, row_at}
 use Rattle.job_board.specs.BatchText.{BeginsBatch, FailsInSystem, FailsNext, FaultBatch, HasSystemFault, HasTooManySites, IsFaultyBatch, IsReadBatch, LacksSystem, ReadsBatch, ReadsJob, ReadsJobs, sites_of}
 use Rattle.job_board.specs.Inner.FoundLines.{IsFoundAt}
 use Rattle.job_board.specs.Inner.Reading.{FindsEnd}
@@ -294,12 +294,12 @@ passed : (test : Bool) (cause : Cause) (next : Result BatchItem Cause) (item : B
 passed true cause next item is = (refl, is)
 passed false cause next item is = absurd (cc is)
 
-by_word : (found : Bool) (row : Keyword BatchItem) (words : List (List ℕ)) (item : BatchItem) → check_keyword (if found then Some row else None) [] words ≡ Ok item → check_keyword (Some row) [] words ≡ Ok item
+by_word : (found : Bool) (row : Keyword (List BatchItem) BatchItem) (words : List (List ℕ)) (item : BatchItem) → check_keyword (if found then Some row else None) [] words ≡ Ok item → check_keyword (Some row) [] words ≡ Ok item
 by_word true row words item is = is
 by_word false row words item is = absurd (cc is)
 
 -- a line of the one keyword, with room for it
-row_passed : (row : Keyword BatchItem) (words : List (List ℕ)) (item : BatchItem) → check_line (row ∷ []) [] words ≡ Ok item → (row.has_room [] words ≡ true) × (row.fields [] words ≡ Ok item)
+row_passed : (row : Keyword (List BatchItem) BatchItem) (words : List (List ℕ)) (item : BatchItem) → check_line (row ∷ []) [] words ≡ Ok item → (row.has_room [] words ≡ true) × (row.fields [] words ≡ Ok item)
 row_passed row [] item is = absurd (cc is)
 row_passed row (first ∷ rest) item is =
     let found = by_word (bytes_eq first row.word) row (first ∷ rest) item is in
@@ -311,7 +311,7 @@ headed : (check : Result BatchItem Cause) (item : BatchItem) → by_header true 
 headed (Ok other) item is = is
 headed (Err cause) item is = absurd (cc is)
 
-header_is : (words : List (List ℕ)) (item : BatchItem) → header_fields words ≡ Ok item → IsFoundAt AtStart (Some item)
+header_is : (words : List (List ℕ)) (item : BatchItem) → (row_at AtStart).fields [] words ≡ Ok item → IsFoundAt AtStart (Some item)
 header_is words item is =
     let same : Header ≡ item = cc (passed _ NoHeader (Ok Header) item is).1 in
     subst (λ (one : BatchItem). IsFoundAt AtStart (Some one)) same tt
@@ -320,7 +320,7 @@ job_item : (count : Result ℕ Cause) (item : BatchItem) → (count >>= λ choic
 job_item (Ok choice) item is = (choice, cc is)
 job_item (Err cause) item is = absurd (cc is)
 
-job_is : (jobs : ℕ) (words : List (List ℕ)) (item : BatchItem) → nat_lt jobs MOST_JOBS ≡ true → job_fields words ≡ Ok item → IsFoundAt (Behind jobs) (Some item)
+job_is : (jobs : ℕ) (words : List (List ℕ)) (item : BatchItem) → nat_lt jobs MOST_JOBS ≡ true → (row_at (Behind jobs)).fields [] words ≡ Ok item → IsFoundAt (Behind jobs) (Some item)
 job_is jobs words item room is =
     let found = job_item _ item is in
     let less : IsFoundAt (Behind jobs) (Some (JobLine found.0)) = ltb-true jobs MOST_JOBS room in

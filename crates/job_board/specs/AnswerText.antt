@@ -10,17 +10,17 @@ use Rattle.unique_law.specs.Outcomes.{Outcome}
 use Rattle.job_board.specs.declared.job.Job.{Job}
 
 -- whether a verdict is a yes
-abbrev pub is_yes : Verdict → Bool
-is_yes Yes = true
-is_yes _ = false
+abbrev pub is_unique : Verdict → Bool
+is_unique Yes = true
+is_unique _ = false
 
--- the places in canonical order, then what is open outside the box, then the verdict
-abbrev pub outcome_text : TileSystem → Outcome → List ℕ
-outcome_text sys outcome = place_lines sys outcome.order ++ closed_line sys outcome.outside ++ verdict_line sys outcome.verdict
+-- the places of an assembly in canonical order, then what is open outside the box, then the verdict on this order
+abbrev pub growth_text : TileSystem → Outcome → List ℕ
+growth_text sys outcome = place_lines sys outcome.order ++ closed_line sys outcome.outside ++ verdict_line sys outcome.verdict
 
 -- the line of a job, and then what answers it
 abbrev pub answer_text : ℕ → Job → Outcome → List ℕ
-answer_text number job outcome = line_of (codes "job" ∷ decimal number ∷ []) ++ outcome_text job.sys outcome
+answer_text number job outcome = line_of (codes "job" ∷ decimal number ∷ []) ++ growth_text job.sys outcome
 
 -- those of jobs that are numbered from this one on
 abbrev pub answers_from : ℕ → List Job → List Outcome → List ℕ
@@ -33,7 +33,7 @@ abbrev pub done_line : ℕ → ℕ → List ℕ
 done_line jobs yeses = line_of (codes "done" ∷ decimal jobs ∷ codes "yes" ∷ decimal yeses ∷ [])
 
 abbrev pub yes_count : List Outcome → ℕ
-yes_count outcomes = length (filter (λ outcome. is_yes outcome.verdict) outcomes)
+yes_count outcomes = length (filter (λ outcome. is_unique outcome.verdict) outcomes)
 
 abbrev pub batch_text : List Job → List Outcome → List ℕ
 batch_text jobs outcomes = answers_from 0 jobs outcomes ++ done_line (length jobs) (yes_count outcomes)

@@ -1,8 +1,8 @@
 // One line of a batch is read.
-ghost use Rattle.std.specs.Prelude.{◌≡◌, ◌≤◌, [], length, find, bytes_eq, option_map};
+ghost use Rattle.std.specs.Prelude.{◌≡◌, ◌≤◌, ℕ, [], length, find, bytes_eq, option_map};
 ghost use Rattle.tile_io.specs.NextLine.{IsMark};
 ghost use Rattle.tile_io.specs.Formats.{ReadsOrStops};
-ghost use Rattle.job_board.specs.BatchLines.{batch_format, batch_table, row_at, header_fields, job_fields};
+ghost use Rattle.job_board.specs.BatchLines.{batch_format, batch_table, row_at};
 ghost use Rattle.job_board.specs.Inner.FoundLines.{FindsLine};
 
 use crate::limits::{GREATEST_CHOICE, MOST_JOBS};
@@ -121,7 +121,7 @@ fn fields(position: Position, words: &LineWords) -> Result<BatchItem, Cause>
 // The field of the header.
 fn version(words: &LineWords) -> Result<BatchItem, Cause>
     requires { length words.now ≡ 2 }
-    ensures { result ≡ header_fields words.now }
+    ensures { result ≡ (row_at Position.AtStart).fields [] words.now }
 {
     if is_word(words.word(1), b"1") {
         Ok(BatchItem::Header)
@@ -133,7 +133,7 @@ fn version(words: &LineWords) -> Result<BatchItem, Cause>
 // The field of a job's line.
 fn choice(words: &LineWords) -> Result<BatchItem, Cause>
     requires { length words.now ≡ 2 }
-    ensures { result ≡ job_fields words.now }
+    ensures { (jobs : ℕ) → result ≡ (row_at (Position.Behind jobs)).fields [] words.now }
 {
     match read_count(words.word(1), 0, GREATEST_CHOICE) {
         Ok(choice) => Ok(BatchItem::JobLine(choice)),

@@ -5,7 +5,7 @@ ghost use Rattle.tile_io.specs.Chunks.{PassesOn};
 ghost use Rattle.tile_io.specs.Prints.{Prints};
 ghost use Rattle.atam.specs.Verdicts.{NamesTypes};
 ghost use Rattle.job_board.specs.Answers.{AnswerEach, Answers};
-ghost use Rattle.job_board.specs.AnswerText.{answer_text, answers_from, batch_text, done_line, is_yes, outcome_text, yes_count};
+ghost use Rattle.job_board.specs.AnswerText.{answer_text, answers_from, batch_text, done_line, is_unique, growth_text, yes_count};
 
 use crate::job::Job;
 use crate::outcome::Outcome;
@@ -90,7 +90,7 @@ fn put_outcome<K: Sink>(
     requires outside { IfSome outcome.now.outside (λ found. IsType sys.now found.1) }
     requires verdict { NamesTypes sys.now outcome.now.verdict }
     ensures { PassesOn K.written K.faults sink.old sink.new chunk.old chunk.new result
-        (outcome_text sys.now outcome.now) }
+        (growth_text sys.now outcome.now) }
 {
     put_places(outcome.sequence(), pieces, chunk, sink)?;
     put_closed(sys, outcome.outside(), chunk, sink)?;
@@ -115,7 +115,7 @@ fn count_yes(outcomes: &[Outcome]) -> usize
 {
     let mut count = 0;
     for outcome in outcomes {
-        if is_yes(*outcome.verdict()) {
+        if is_unique(*outcome.verdict()) {
             count += 1;
         }
     }
@@ -123,8 +123,8 @@ fn count_yes(outcomes: &[Outcome]) -> usize
 }
 
 // Whether a verdict is a yes.
-fn is_yes(verdict: Verdict) -> bool
-    ensures { result ≡ is_yes verdict }
+fn is_unique(verdict: Verdict) -> bool
+    ensures { result ≡ is_unique verdict }
 {
     matches!(verdict, Verdict::Yes)
 }

@@ -1,6 +1,6 @@
 -- A machine in the making has what the lines give, and is sound.
 use Rattle.std.proofs.Common.{◌≡◌, ◌≢◌, ◌<◌, ◌≤◌, ◌+◌, ◌==◌, ℕ, true, false, List, [], ◌∷◌, ◌++◌, length, get_or, Option, Some, None, refl, sym, ◌∙◌, ap, subst, inl, inr, arith, length-append, append-nil}
-use Rattle.std.specs.Prelude.{IsTrue, AllPairs, filter_map, bytes_eq, option_map, find}
+use Rattle.std.specs.Prelude.{codes, IsTrue, AllPairs, filter_map, bytes_eq, option_map, find}
 use Rattle.std.specs.List.{cons_option}
 use Rattle.std.specs.Option.{unwrap_or, option_to_list}
 use Rattle.std.specs.List.{list_any}
@@ -11,14 +11,14 @@ use Rattle.std.proofs.lemmas.List.Quantifiers.{all_pairs_push}
 use Rattle.std.proofs.lemmas.Slice.Eq.{bytes_eq-Decides}
 use Rattle.std.proofs.lemmas.Option.{none-some}
 use Rattle.tile_io.specs.declared.mark.Mark.{Mark}
-use Rattle.tile_io.specs.Checks.{last_of}
+use Rattle.tile_io.specs.Checks.{last_of, number_given}
 use Rattle.tile_io.specs.Formats.{Reads}
 use Rattle.tile_io.proofs.Checking.{last_push}
 use Rattle.machine_text.specs.declared.rule.Transition.{Transition}
 use Rattle.machine_text.specs.declared.kind.LineKind.{LineKind}
 use Rattle.machine_text.specs.declared.kind.LineKind.TheVariants as kinds
 use Rattle.machine_text.specs.Machines.{TuringMachine, AreNames, IsTransition, IsMachine, is_for, is_short_name, rule_among}
-use Rattle.machine_text.specs.MachineText.{MachineItem, machine_of, number_given, state_name_of, symbol_name_of, transition_of, cells_of, rows_of, head_of, tape_of, is_end_line, machine_format, machine_table}
+use Rattle.machine_text.specs.MachineText.{MachineItem, machine_of, state_name_of, symbol_name_of, transition_of, cells_of, rows_of, head_of, tape_of, word_of, machine_format, machine_table}
 use Rattle.machine_text.specs.MachineText.MachineItem.{Header, StateLine, SymbolLine, RuleLine, CellsLine, RowsLine, HeadLine, TapeLine, EndLine}
 use Rattle.machine_text.specs.Inner.Kinds.{kind_of, may_stand_after, is_last}
 use Rattle.machine_text.specs.Inner.SoFar.{with_item, IsDraft, HasAlphabet, HasAll, HasCome, IsFit, HoldsLines}
@@ -272,7 +272,7 @@ nothing_held = record {
     none_within : {P : Type 0} {n : ℕ} → n < 0 → P
     none_within within = let never : ⊥ = omega (arith, within) in absurd never
 
-pub last_is : (item : MachineItem) → is_end_line item ≡ is_last (kind_of item)
+pub last_is : (item : MachineItem) → bytes_eq (word_of item) (codes "end") ≡ is_last (kind_of item)
 last_is Header = refl
 last_is (StateLine name) = refl
 last_is (SymbolLine name) = refl
@@ -303,7 +303,7 @@ is_machine M draft has = record {
   tape_symbols = draft.tape_symbols;
 }
 
-ends_at_end : (item : MachineItem) → is_end_line item ≡ true → kind_of item ≡ kinds.End
+ends_at_end : (item : MachineItem) → bytes_eq (word_of item) (codes "end") ≡ true → kind_of item ≡ kinds.End
 ends_at_end EndLine ends = refl
 ends_at_end item ends = absurd (cc ends)
 

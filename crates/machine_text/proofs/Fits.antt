@@ -12,7 +12,7 @@ use Rattle.machine_text.specs.declared.rule.Transition.{Transition}
 use Rattle.machine_text.specs.declared.kind.LineKind.{LineKind}
 use Rattle.machine_text.specs.declared.kind.LineKind.TheVariants as kinds
 use Rattle.machine_text.specs.Machines.{TuringMachine, IsTransition, is_short_name, rule_among}
-use Rattle.machine_text.specs.MachineText.{MachineItem, machine_of, state_room, symbol_room, tape_room, header_fields, state_fields, symbol_fields, transition_in, rule_fields, cells_fields, rows_fields, head_fields, tape_fields, turn_field, references}
+use Rattle.machine_text.specs.MachineText.{MachineItem, machine_of, state_row, symbol_row, tape_row, machine_row, transition_in, rule_row, cells_row, rows_row, head_row, turn_field, references}
 use Rattle.machine_text.specs.MachineText.MachineItem.{Header, StateLine, SymbolLine, RuleLine, CellsLine, RowsLine, HeadLine, TapeLine, EndLine}
 use Rattle.machine_text.specs.Inner.Kinds.{kind_of, row_of, may_stand_after}
 use Rattle.machine_text.specs.Inner.SoFar.{IsFit}
@@ -58,59 +58,51 @@ module _ (M : TuringMachine) where
       (cc (five.2))
 
 module _ (M : TuringMachine) (words : List (List ℕ)) (item : MachineItem) where
-  header_fit : header_fields words ≡ Ok item → IsFit M item
-  unfolding header_fields
+  header_fit : machine_row.fields M words ≡ Ok item → IsFit M item
   header_fit is =
       let one = bind_ok (require (bytes_eq (field words 1) (49 ∷ [])) NoHeader) (λ _. Ok Header) item is in
       let same : Header ≡ item = cc (one.2) in
       subst (IsFit M) same tt
 
-  state_fit : state_room M words ≡ true → state_fields M words ≡ Ok item → IsFit M item
-  unfolding state_fields
+  state_fit : state_row.has_room M words ≡ true → state_row.fields M words ≡ Ok item → IsFit M item
   state_fit room is =
       let one = bind_ok (declared is_short_name M.states (field words 1)) (λ name. Ok (StateLine name)) item is in
       let same : StateLine one.0 ≡ item = cc (one.2) in
       let new = declared_ok is_short_name M.states (field words 1) one.0 one.1 in
       subst (IsFit M) same (ltb-true (length M.states) 64 room, new.0, new.1)
 
-  symbol_fit : symbol_room M words ≡ true → symbol_fields M words ≡ Ok item → IsFit M item
-  unfolding symbol_fields
+  symbol_fit : symbol_row.has_room M words ≡ true → symbol_row.fields M words ≡ Ok item → IsFit M item
   symbol_fit room is =
       let one = bind_ok (declared is_short_name M.symbols (field words 1)) (λ name. Ok (SymbolLine name)) item is in
       let same : SymbolLine one.0 ≡ item = cc (one.2) in
       let new = declared_ok is_short_name M.symbols (field words 1) one.0 one.1 in
       subst (IsFit M) same (ltb-true (length M.symbols) 64 room, new.0, new.1)
 
-  rule_fit : rule_fields M words ≡ Ok item → IsFit M item
-  unfolding rule_fields
+  rule_fit : rule_row.fields M words ≡ Ok item → IsFit M item
   rule_fit is =
       let one = bind_ok (transition_in M words) (λ t. Ok (RuleLine t)) item is in
       let same : RuleLine one.0 ≡ item = cc (one.2) in
       subst (IsFit M) same (transition_ok M words one.0 one.1)
 
-  cells_fit : cells_fields words ≡ Ok item → IsFit M item
-  unfolding cells_fields
+  cells_fit : cells_row.fields M words ≡ Ok item → IsFit M item
   cells_fit is =
       let one = bind_ok (count_in 1 512 (field words 1)) (λ n. Ok (CellsLine n)) item is in
       let same : CellsLine one.0 ≡ item = cc (one.2) in
       subst (IsFit M) same (count_ok 1 512 (field words 1) one.0 one.1)
 
-  rows_fit : rows_fields words ≡ Ok item → IsFit M item
-  unfolding rows_fields
+  rows_fit : rows_row.fields M words ≡ Ok item → IsFit M item
   rows_fit is =
       let one = bind_ok (count_in 1 1024 (field words 1)) (λ n. Ok (RowsLine n)) item is in
       let same : RowsLine one.0 ≡ item = cc (one.2) in
       subst (IsFit M) same (count_ok 1 1024 (field words 1) one.0 one.1)
 
-  head_fit : head_fields M words ≡ Ok item → IsFit M item
-  unfolding head_fields
+  head_fit : head_row.fields M words ≡ Ok item → IsFit M item
   head_fit is =
       let one = bind_ok (count_in 0 (M.cells - 1) (field words 1)) (λ n. Ok (HeadLine n)) item is in
       let same : HeadLine one.0 ≡ item = cc (one.2) in
       subst (IsFit M) same (count_ok 0 (M.cells - 1) (field words 1) one.0 one.1).1
 
-  tape_fit : tape_room M words ≡ true → tape_fields M words ≡ Ok item → IsFit M item
-  unfolding tape_fields
+  tape_fit : tape_row.has_room M words ≡ true → tape_row.fields M words ≡ Ok item → IsFit M item
   tape_fit room is =
       let one = bind_ok (references M.symbols (drop 1 words)) (λ symbols. Ok (TapeLine symbols)) item is in
       let same : TapeLine one.0 ≡ item = cc (one.2) in
@@ -137,9 +129,9 @@ fit_of kinds.End items words item room is = end_fit (machine_of items) words ite
 
 -- the limits are told by the machine so far
 pub room_by_machine : (kind : LineKind) (a b : List MachineItem) (words : List (List ℕ)) → machine_of a ≡ machine_of b → (row_of kind).has_room a words ≡ (row_of kind).has_room b words
-room_by_machine kinds.State a b words same = ap (λ M. state_room M words) same
-room_by_machine kinds.Symbol a b words same = ap (λ M. symbol_room M words) same
-room_by_machine kinds.Tape a b words same = ap (λ M. tape_room M words) same
+room_by_machine kinds.State a b words same = ap (λ M. state_row.has_room M words) same
+room_by_machine kinds.Symbol a b words same = ap (λ M. symbol_row.has_room M words) same
+room_by_machine kinds.Tape a b words same = ap (λ M. tape_row.has_room M words) same
 room_by_machine kind a b words same = refl
 
 -- what may stand after what, by the keywords

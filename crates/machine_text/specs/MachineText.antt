@@ -1,11 +1,10 @@
 -- The text of a machine: what each kept line is, which checks it has to pass, and the machine that the lines describe.
-use Rattle.std.specs.Prelude.{◌≡◌, ℕ, ◌+◌, ◌-◌, ◌==◌, Bool, true, false, is_some, not, nat_le, nat_lt, if◌then◌else◌, List, [], ◌∷◌, length, drop, filter_map, flat_map, codes, bytes_eq, Option, Some, None, Result, Ok, Err}
-use Rattle.std.specs.Option.{unwrap_or}
+use Rattle.std.specs.Prelude.{◌≡◌, ℕ, ◌+◌, ◌-◌, ◌==◌, Bool, true, false, is_none, is_some, not, nat_le, nat_lt, if◌then◌else◌, List, [], ◌∷◌, length, drop, map, filter_map, flat_map, codes, bytes_eq, Option, Some, None, Result, Ok, Err}
 use Rattle.tile_io.specs.declared.fault.Cause.{Cause}
 use Rattle.tile_io.specs.declared.fault.Cause.TheVariants.{NoHeader, BadName, DoubleName}
 use Rattle.tile_io.specs.declared.mark.Mark.{Mark}
 use Rattle.tile_io.specs.Formats.{Format, Reads}
-use Rattle.tile_io.specs.Checks.{◌>>=◌, require, field, count_in, declared, referred, last_of, Keyword, Table, table_format}
+use Rattle.tile_io.specs.Checks.{◌>>=◌, require, field, count_in, declared, referred, behind, number_given, Keyword, told_by, Table, table_format}
 use Rattle.machine_text.specs.declared.limits.TheConstants.{MOST_STATES, MOST_SYMBOLS, MOST_CELLS, MOST_ROWS}
 use Rattle.machine_text.specs.declared.rule.Turn.{Turn}
 use Rattle.machine_text.specs.declared.rule.Turn.TheVariants.{Left, Right, Stay}
@@ -23,6 +22,18 @@ pub data MachineItem : Type 0 where
   HeadLine : (cell : ℕ) → MachineItem
   TapeLine : (symbols : List ℕ) → MachineItem
   EndLine : MachineItem
+
+-- the keyword of its line
+abbrev pub word_of : MachineItem → List ℕ
+word_of Header = codes "machine"
+word_of (StateLine name) = codes "state"
+word_of (SymbolLine name) = codes "symbol"
+word_of (RuleLine transition) = codes "rule"
+word_of (CellsLine cells) = codes "cells"
+word_of (RowsLine rows) = codes "rows"
+word_of (HeadLine cell) = codes "head"
+word_of (TapeLine symbols) = codes "tape"
+word_of EndLine = codes "end"
 
 abbrev pub state_name_of : MachineItem → Option (List ℕ)
 state_name_of (StateLine name) = Some name
@@ -52,10 +63,6 @@ abbrev pub tape_of : MachineItem → List ℕ
 tape_of (TapeLine symbols) = symbols
 tape_of _ = []
 
--- the number that a line gives; 0 where none does
-abbrev pub number_given : (MachineItem → Option ℕ) → List MachineItem → ℕ
-number_given of items = unwrap_or (last_of (filter_map of items)) 0
-
 -- the machine that lines describe
 unfoldable pub machine_of : List MachineItem → TuringMachine
 machine_of items = record {
@@ -84,23 +91,7 @@ references names (word ∷ words) = do
   others ← references names words
   Ok (first ∷ others)
 
--- The fields of each keyword, after the lines of a machine so far.
-unfoldable pub header_fields : List (List ℕ) → Result MachineItem Cause
-header_fields words = do
-  _ ← require (bytes_eq (field words 1) (codes "1")) NoHeader
-  Ok Header
-
-unfoldable pub state_fields : TuringMachine → List (List ℕ) → Result MachineItem Cause
-state_fields M words = do
-  name ← declared is_short_name M.states (field words 1)
-  Ok (StateLine name)
-
-unfoldable pub symbol_fields : TuringMachine → List (List ℕ) → Result MachineItem Cause
-symbol_fields M words = do
-  name ← declared is_short_name M.symbols (field words 1)
-  Ok (SymbolLine name)
-
--- a second rule for the same state and symbol is a double one
+-- the transition of a `rule` line; a second one for the same state and symbol is a double one
 unfoldable pub transition_in : TuringMachine → List (List ℕ) → Result Transition Cause
 transition_in M words = do
   state ← referred is_short_name M.states (field words 1)
@@ -111,125 +102,101 @@ transition_in M words = do
   turn ← turn_field (field words 5)
   Ok (record { state = state; symbol = symbol; rule = record { state = next_state; symbol = next_symbol; turn = turn } })
 
-unfoldable pub rule_fields : TuringMachine → List (List ℕ) → Result MachineItem Cause
-rule_fields M words = do
-  t ← transition_in M words
-  Ok (RuleLine t)
+-- The rows of the table of keywords: the word, how many words its line has, behind which lines it may stand, the limit of its
+-- kind, and its fields from left to right. The limit and the fields are told by the machine that the earlier lines describe.
+abbrev pub machine_row : Keyword TuringMachine MachineItem
+machine_row = record {
+  word = codes "machine"; has_words = λ n. n == 2; may_follow = is_none;
+  has_room = λ M words. true;
+  fields = λ M words. do
+    _ ← require (bytes_eq (field words 1) (codes "1")) NoHeader
+    Ok Header;
+}
 
-unfoldable pub cells_fields : List (List ℕ) → Result MachineItem Cause
-cells_fields words = do
-  n ← count_in 1 MOST_CELLS (field words 1)
-  Ok (CellsLine n)
+abbrev pub state_row : Keyword TuringMachine MachineItem
+state_row = record {
+  word = codes "state"; has_words = λ n. n == 2;
+  may_follow = behind word_of (codes "machine" ∷ codes "state" ∷ []);
+  has_room = λ M words. nat_lt (length M.states) MOST_STATES;
+  fields = λ M words. do
+    name ← declared is_short_name M.states (field words 1)
+    Ok (StateLine name);
+}
 
-unfoldable pub rows_fields : List (List ℕ) → Result MachineItem Cause
-rows_fields words = do
-  n ← count_in 1 MOST_ROWS (field words 1)
-  Ok (RowsLine n)
+abbrev pub symbol_row : Keyword TuringMachine MachineItem
+symbol_row = record {
+  word = codes "symbol"; has_words = λ n. n == 2;
+  may_follow = behind word_of (codes "state" ∷ codes "symbol" ∷ []);
+  has_room = λ M words. nat_lt (length M.symbols) MOST_SYMBOLS;
+  fields = λ M words. do
+    name ← declared is_short_name M.symbols (field words 1)
+    Ok (SymbolLine name);
+}
 
-unfoldable pub head_fields : TuringMachine → List (List ℕ) → Result MachineItem Cause
-head_fields M words = do
-  n ← count_in 0 (M.cells - 1) (field words 1)
-  Ok (HeadLine n)
+abbrev pub rule_row : Keyword TuringMachine MachineItem
+rule_row = record {
+  word = codes "rule"; has_words = λ n. n == 6;
+  may_follow = behind word_of (codes "symbol" ∷ codes "rule" ∷ []);
+  has_room = λ M words. true;
+  fields = λ M words. do
+    t ← transition_in M words
+    Ok (RuleLine t);
+}
 
-unfoldable pub tape_fields : TuringMachine → List (List ℕ) → Result MachineItem Cause
-tape_fields M words = do
-  symbols ← references M.symbols (drop 1 words)
-  Ok (TapeLine symbols)
+abbrev pub cells_row : Keyword TuringMachine MachineItem
+cells_row = record {
+  word = codes "cells"; has_words = λ n. n == 2;
+  may_follow = behind word_of (codes "symbol" ∷ codes "rule" ∷ []);
+  has_room = λ M words. true;
+  fields = λ M words. do
+    n ← count_in 1 MOST_CELLS (field words 1)
+    Ok (CellsLine n);
+}
 
--- what may stand before what
-abbrev pub stands_first : Option MachineItem → Bool
-stands_first None = true
-stands_first _ = false
+abbrev pub rows_row : Keyword TuringMachine MachineItem
+rows_row = record {
+  word = codes "rows"; has_words = λ n. n == 2; may_follow = behind word_of (codes "cells" ∷ []);
+  has_room = λ M words. true;
+  fields = λ M words. do
+    n ← count_in 1 MOST_ROWS (field words 1)
+    Ok (RowsLine n);
+}
 
-abbrev pub follows_header_or_state : Option MachineItem → Bool
-follows_header_or_state (Some Header) = true
-follows_header_or_state (Some (StateLine _)) = true
-follows_header_or_state _ = false
-
-abbrev pub follows_state_or_symbol : Option MachineItem → Bool
-follows_state_or_symbol (Some (StateLine _)) = true
-follows_state_or_symbol (Some (SymbolLine _)) = true
-follows_state_or_symbol _ = false
-
-abbrev pub follows_symbol_or_rule : Option MachineItem → Bool
-follows_symbol_or_rule (Some (SymbolLine _)) = true
-follows_symbol_or_rule (Some (RuleLine _)) = true
-follows_symbol_or_rule _ = false
-
-abbrev pub follows_cells : Option MachineItem → Bool
-follows_cells (Some (CellsLine _)) = true
-follows_cells _ = false
-
-abbrev pub follows_rows : Option MachineItem → Bool
-follows_rows (Some (RowsLine _)) = true
-follows_rows _ = false
-
-abbrev pub follows_head_or_tape : Option MachineItem → Bool
-follows_head_or_tape (Some (HeadLine _)) = true
-follows_head_or_tape (Some (TapeLine _)) = true
-follows_head_or_tape _ = false
-
-abbrev pub always_room : TuringMachine → List (List ℕ) → Bool
-always_room M words = true
-
-abbrev pub state_room : TuringMachine → List (List ℕ) → Bool
-state_room M words = nat_lt (length M.states) MOST_STATES
-
-abbrev pub symbol_room : TuringMachine → List (List ℕ) → Bool
-symbol_room M words = nat_lt (length M.symbols) MOST_SYMBOLS
+abbrev pub head_row : Keyword TuringMachine MachineItem
+head_row = record {
+  word = codes "head"; has_words = λ n. n == 2; may_follow = behind word_of (codes "rows" ∷ []);
+  has_room = λ M words. true;
+  fields = λ M words. do
+    n ← count_in 0 (M.cells - 1) (field words 1)
+    Ok (HeadLine n);
+}
 
 -- all tape lines together have no more symbols than there are cells
-abbrev pub tape_room : TuringMachine → List (List ℕ) → Bool
-tape_room M words = nat_le (length M.tape + (length words - 1)) M.cells
+abbrev pub tape_row : Keyword TuringMachine MachineItem
+tape_row = record {
+  word = codes "tape"; has_words = λ n. nat_le 2 n;
+  may_follow = behind word_of (codes "head" ∷ codes "tape" ∷ []);
+  has_room = λ M words. nat_le (length M.tape + (length words - 1)) M.cells;
+  fields = λ M words. do
+    symbols ← references M.symbols (drop 1 words)
+    Ok (TapeLine symbols);
+}
 
--- A row of the table: word, numbers of words, what it may stand after, limit, fields. The limit and the fields are told by the machine
--- that the earlier lines describe.
-abbrev pub row : List ℕ → (ℕ → Bool) → (Option MachineItem → Bool) → (TuringMachine → List (List ℕ) → Bool) → (TuringMachine → List (List ℕ) → Result MachineItem Cause) → Keyword MachineItem
-row word counts follows room fields = record { word = word; has_words = counts; may_follow = follows; has_room = λ earlier words. room (machine_of earlier) words; fields = λ earlier words. fields (machine_of earlier) words }
-
-abbrev pub exactly : ℕ → ℕ → Bool
-exactly n m = m == n
-
-abbrev pub two_or_more : ℕ → Bool
-two_or_more m = nat_le 2 m
-
-abbrev pub machine_row : Keyword MachineItem
-machine_row = row (codes "machine") (exactly 2) stands_first always_room (λ M words. header_fields words)
-
-abbrev pub state_row : Keyword MachineItem
-state_row = row (codes "state") (exactly 2) follows_header_or_state state_room state_fields
-
-abbrev pub symbol_row : Keyword MachineItem
-symbol_row = row (codes "symbol") (exactly 2) follows_state_or_symbol symbol_room symbol_fields
-
-abbrev pub rule_row : Keyword MachineItem
-rule_row = row (codes "rule") (exactly 6) follows_symbol_or_rule always_room rule_fields
-
-abbrev pub cells_row : Keyword MachineItem
-cells_row = row (codes "cells") (exactly 2) follows_symbol_or_rule always_room (λ M words. cells_fields words)
-
-abbrev pub rows_row : Keyword MachineItem
-rows_row = row (codes "rows") (exactly 2) follows_cells always_room (λ M words. rows_fields words)
-
-abbrev pub head_row : Keyword MachineItem
-head_row = row (codes "head") (exactly 2) follows_rows always_room head_fields
-
-abbrev pub tape_row : Keyword MachineItem
-tape_row = row (codes "tape") two_or_more follows_head_or_tape tape_room tape_fields
-
-abbrev pub end_row : Keyword MachineItem
-end_row = row (codes "end") (exactly 1) follows_head_or_tape always_room (λ M words. Ok EndLine)
-
-abbrev pub is_end_line : MachineItem → Bool
-is_end_line EndLine = true
-is_end_line _ = false
+abbrev pub end_row : Keyword TuringMachine MachineItem
+end_row = record {
+  word = codes "end"; has_words = λ n. n == 1;
+  may_follow = behind word_of (codes "head" ∷ codes "tape" ∷ []);
+  has_room = λ M words. true;
+  fields = λ M words. Ok EndLine;
+}
 
 -- the table of keywords; only the end line completes a text
 unfoldable pub machine_table : Table MachineItem
 machine_table = record {
-  keywords = machine_row ∷ state_row ∷ symbol_row ∷ rule_row ∷ cells_row ∷ rows_row ∷ head_row ∷ tape_row ∷ end_row ∷ [];
+  keywords = map (told_by machine_of)
+      (machine_row ∷ state_row ∷ symbol_row ∷ rule_row ∷ cells_row ∷ rows_row ∷ head_row ∷ tape_row ∷ end_row ∷ []);
   has_header = true;
-  is_end = is_end_line;
+  is_end = λ item. bytes_eq (word_of item) (codes "end");
   is_complete = λ items. false;
 }
 

@@ -3,11 +3,11 @@
 ghost use Rattle.std.specs.Prelude.{◌≡◌, ◌≤◌, ◌<◌, length, IfOk, drop};
 ghost use Rattle.std.specs.List.{list_all};
 ghost use Rattle.std.specs.Iterator.{YieldsFirstRef};
-ghost use Rattle.tile_io.specs.Checks.{declared, referred};
+ghost use Rattle.tile_io.specs.Checks.{Declares, declared, referred};
 ghost use Rattle.tile_io.specs.Lines.{words_of};
 ghost use Rattle.machine_text.specs.Machines.{is_short_name, is_short_name_byte};
 ghost use Rattle.machine_text.specs.MachineText.{references};
-ghost use Rattle.machine_text.specs.NameChecks.{Declares, Refers};
+ghost use Rattle.machine_text.specs.NameChecks.{Refers};
 
 use crate::limits::LONGEST_SHORT_NAME;
 use crate::name_list::NameList;

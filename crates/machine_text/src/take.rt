@@ -1,7 +1,7 @@
 // What the fields of a line make of a machine in the making.
 ghost use Rattle.std.specs.Prelude.{◌≡◌, ◌≤◌, ◌<◌, List, true, None, length, IfOk};
 ghost use Rattle.machine_text.specs.Machines.{TuringMachine, rule_among};
-ghost use Rattle.machine_text.specs.MachineText.{MachineItem, header_fields, state_fields, symbol_fields, transition_in, rule_fields, cells_fields, rows_fields, head_fields, tape_fields, turn_field, machine_of};
+ghost use Rattle.machine_text.specs.MachineText.{MachineItem, machine_row, state_row, symbol_row, transition_in, rule_row, cells_row, rows_row, head_row, tape_row, turn_field, machine_of};
 ghost use Rattle.machine_text.specs.Inner.Kinds.{row_of};
 ghost use Rattle.machine_text.specs.Inner.SoFar.{machine_in, HasFewNames, Gets};
 
@@ -40,10 +40,9 @@ pub(crate) fn take_item(
 }
 
 // Whether the header is of version 1.
-#[tactic(auto, unfolding(crate::specs::MachineText::header_fields))]
 fn check_version(words: &LineWords) -> Result<(), LineStop>
     requires { length words.now ≡ 2 }
-    ensures { (M : TuringMachine) → Gets LineKind.Machine (header_fields words.now) M M result }
+    ensures { (M : TuringMachine) → Gets LineKind.Machine (machine_row.fields M words.now) M M result }
 {
     if !is_word(words.word(1), b"1") {
         return Err(LineStop::Fault(Cause::NoHeader));
@@ -52,11 +51,10 @@ fn check_version(words: &LineWords) -> Result<(), LineStop>
 }
 
 // Takes the fields of a `state` line.
-#[tactic(auto, unfolding(crate::specs::MachineText::state_fields))]
 fn take_state(alloc: Global, parts: &mut MachineParts, words: &LineWords) -> Result<(), LineStop>
     requires words { length words.now ≡ 2 }
     requires few { HasFewNames (machine_in parts.old) }
-    ensures { Gets LineKind.State (state_fields (machine_in parts.old) words.now)
+    ensures { Gets LineKind.State (state_row.fields (machine_in parts.old) words.now)
         (machine_in parts.old) (machine_in parts.new) result }
 {
     let name = words.word(1);
@@ -68,11 +66,10 @@ fn take_state(alloc: Global, parts: &mut MachineParts, words: &LineWords) -> Res
 }
 
 // Takes the fields of a `symbol` line.
-#[tactic(auto, unfolding(crate::specs::MachineText::symbol_fields))]
 fn take_symbol(alloc: Global, parts: &mut MachineParts, words: &LineWords) -> Result<(), LineStop>
     requires words { length words.now ≡ 2 }
     requires few { HasFewNames (machine_in parts.old) }
-    ensures { Gets LineKind.Symbol (symbol_fields (machine_in parts.old) words.now)
+    ensures { Gets LineKind.Symbol (symbol_row.fields (machine_in parts.old) words.now)
         (machine_in parts.old) (machine_in parts.new) result }
 {
     let name = words.word(1);
@@ -84,11 +81,10 @@ fn take_symbol(alloc: Global, parts: &mut MachineParts, words: &LineWords) -> Re
 }
 
 // Takes the fields of a `rule` line.
-#[tactic(auto, unfolding(crate::specs::MachineText::rule_fields))]
 fn take_rule(parts: &mut MachineParts, words: &LineWords) -> Result<(), LineStop>
     requires words { length words.now ≡ 6 }
     requires few { HasFewNames (machine_in parts.old) }
-    ensures { Gets LineKind.Rule (rule_fields (machine_in parts.old) words.now)
+    ensures { Gets LineKind.Rule (rule_row.fields (machine_in parts.old) words.now)
         (machine_in parts.old) (machine_in parts.new) result }
 {
     let transition = read_rule(parts, words)?;
@@ -128,10 +124,9 @@ fn read_rule(parts: &MachineParts, words: &LineWords) -> Result<Transition, Caus
 }
 
 // Takes the fields of a `cells` line.
-#[tactic(auto, unfolding(crate::specs::MachineText::cells_fields))]
 fn take_cells(parts: &mut MachineParts, words: &LineWords) -> Result<(), LineStop>
     requires { length words.now ≡ 2 }
-    ensures { Gets LineKind.Cells (cells_fields words.now) (machine_in parts.old)
+    ensures { Gets LineKind.Cells (cells_row.fields (machine_in parts.old) words.now) (machine_in parts.old)
         (machine_in parts.new) result }
 {
     parts.cells = read_count(words.word(1), 1, MOST_CELLS)?;
@@ -139,10 +134,9 @@ fn take_cells(parts: &mut MachineParts, words: &LineWords) -> Result<(), LineSto
 }
 
 // Takes the fields of a `rows` line.
-#[tactic(auto, unfolding(crate::specs::MachineText::rows_fields))]
 fn take_rows(parts: &mut MachineParts, words: &LineWords) -> Result<(), LineStop>
     requires { length words.now ≡ 2 }
-    ensures { Gets LineKind.Rows (rows_fields words.now) (machine_in parts.old)
+    ensures { Gets LineKind.Rows (rows_row.fields (machine_in parts.old) words.now) (machine_in parts.old)
         (machine_in parts.new) result }
 {
     parts.rows = read_count(words.word(1), 1, MOST_ROWS)?;
@@ -150,10 +144,9 @@ fn take_rows(parts: &mut MachineParts, words: &LineWords) -> Result<(), LineStop
 }
 
 // Takes the fields of a `head` line.
-#[tactic(auto, unfolding(crate::specs::MachineText::head_fields))]
 fn take_head(parts: &mut MachineParts, words: &LineWords) -> Result<(), LineStop>
     requires { length words.now ≡ 2 }
-    ensures { Gets LineKind.Head (head_fields (machine_in parts.old) words.now)
+    ensures { Gets LineKind.Head (head_row.fields (machine_in parts.old) words.now)
         (machine_in parts.old) (machine_in parts.new) result }
 {
     let last = parts.cells.saturating_sub(1);
@@ -162,10 +155,9 @@ fn take_head(parts: &mut MachineParts, words: &LineWords) -> Result<(), LineStop
 }
 
 // Takes the fields of a `tape` line.
-#[tactic(auto, unfolding(crate::specs::MachineText::tape_fields))]
 fn take_tape(alloc: Global, parts: &mut MachineParts, words: &LineWords) -> Result<(), LineStop>
     requires { 2 ≤ length words.now }
-    ensures { Gets LineKind.Tape (tape_fields (machine_in parts.old) words.now)
+    ensures { Gets LineKind.Tape (tape_row.fields (machine_in parts.old) words.now)
         (machine_in parts.old) (machine_in parts.new) result }
 {
     let symbols = find_names(alloc, &parts.symbols, words)?;

@@ -1,17 +1,16 @@
 -- A line of a border, with all its checks.
 use Rattle.std.proofs.Common.{◌≡◌, ◌≤◌, ℕ, Bool, true, false, List, [], ◌∷◌, ◌++◌, length, Option, Some, Ok, Err, refl, sym, ap, subst, ◌∙◌, arith}
-use Rattle.std.specs.Prelude.{find, bytes_eq}
+use Rattle.std.specs.Prelude.{codes, find, bytes_eq, nat_le}
 use Rattle.std.proofs.lemmas.Bool.{le-leb}
 use Rattle.tile_io.specs.declared.line_reader.LineStop.{LineStop}
 use Rattle.tile_io.specs.declared.line_reader.LineStop.TheVariants as stops
 use Rattle.tile_io.specs.Checks.{Keyword, field, keyword_of, check_keyword, check_line, last_of}
 use Rattle.tile_io.specs.LineReader.{TakesItem}
-use Rattle.machine_text.specs.MachineText.{two_or_more}
 use Rattle.quadrant_compile.specs.declared.border.Border.{Border}
 use Rattle.quadrant_compile.specs.declared.border.Border.TheVariants as borders
 use Rattle.quadrant_compile.specs.declared.line_kind.LineKind.{LineKind}
 use Rattle.quadrant_compile.specs.Weaves.{Weave}
-use Rattle.quadrant_compile.specs.WeaveText.{WeaveItem, weave_of, bottom_room, left_room, is_end_line, quadrant_table}
+use Rattle.quadrant_compile.specs.WeaveText.{WeaveItem, weave_of, bottom_row, left_row, word_of, quadrant_table}
 use Rattle.quadrant_compile.specs.Inner.Keywords.{kind_of, row_of, is_last, may_stand_after}
 use Rattle.quadrant_compile.specs.Inner.Borders.{HasPlace, border_kind, border_room}
 use Rattle.quadrant_compile.specs.Inner.SoFar.{Gets, HoldsLines, IsFit, with_item}
@@ -23,13 +22,13 @@ pub keyword_at : (words : List (List ℕ)) → 1 ≤ length words → keyword_of
 keyword_at [] some = let never : ⊥ = omega (arith, some) in absurd never
 keyword_at (word ∷ words) some = refl
 
-count_is : (border : Border) (words : List (List ℕ)) → two_or_more (length words) ≡ true → (row_of (border_kind border)).has_words (length words) ≡ true
+count_is : (border : Border) (words : List (List ℕ)) → nat_le 2 (length words) ≡ true → (row_of (border_kind border)).has_words (length words) ≡ true
 count_is borders.Bottom words count = count
 count_is borders.Left words count = count
 
 room_is : (border : Border) (w : Weave) (items : List WeaveItem) (words : List (List ℕ)) → w ≡ weave_of items → border_room border w words ≡ true → (row_of (border_kind border)).has_room items words ≡ true
-room_is borders.Bottom w items words same room = ap (λ v. bottom_room v words) (sym same) ∙ room
-room_is borders.Left w items words same room = ap (λ v. left_room v words) (sym same) ∙ room
+room_is borders.Bottom w items words same room = ap (λ v. bottom_row.has_room v words) (sym same) ∙ room
+room_is borders.Left w items words same room = ap (λ v. left_row.has_room v words) (sym same) ∙ room
 
 -- the checks before the fields, as they are made
 pub has_place : (border : Border) (w : Weave) (last : Option LineKind) (words : List (List ℕ)) (kind : LineKind) (count : ℕ) (stands room : Bool) → count ≡ length words → 2 ≤ count →
@@ -47,7 +46,7 @@ never_last borders.Bottom = refl
 never_last borders.Left = refl
 
 -- the fields alone are left to check
-passed : (row : Keyword WeaveItem) (items : List WeaveItem) (words : List (List ℕ)) → row.has_words (length words) ≡ true → row.may_follow (last_of items) ≡ true → row.has_room items words ≡ true → check_keyword (Some row) items words ≡ row.fields items words
+passed : (row : Keyword (List WeaveItem) WeaveItem) (items : List WeaveItem) (words : List (List ℕ)) → row.has_words (length words) ≡ true → row.may_follow (last_of items) ≡ true → row.has_room items words ≡ true → check_keyword (Some row) items words ≡ row.fields items words
 passed row items words count follows room = rw (count, follows, room) refl
 
 module _ (border : Border) (w : Weave) (last : Option LineKind) (items : List WeaveItem) (words : List (List ℕ)) (place : HasPlace border w last words) (held : HoldsLines w last items) where
@@ -60,7 +59,7 @@ module _ (border : Border) (w : Weave) (last : Option LineKind) (items : List We
 
   -- it passes
   pub border_taken : (new : Weave) → keyword_of quadrant_table.keywords words ≡ Some (row_of (border_kind border)) → Gets (border_kind border) ((row_of (border_kind border)).fields items words) w new (Ok tt) →
-      TakesItem is_end_line (λ l. HoldsLines new (Some (border_kind border)) l) items (check_line quadrant_table.keywords items words) (Ok false)
+      TakesItem (λ item. bytes_eq (word_of item) (codes "end")) (λ l. HoldsLines new (Some (border_kind border)) l) items (check_line quadrant_table.keywords items words) (Ok false)
   border_taken new keyword took =
       let kind = border_kind border in
       let item : WeaveItem = took.0 in
@@ -73,6 +72,6 @@ module _ (border : Border) (w : Weave) (last : Option LineKind) (items : List We
 
   -- or stops
   pub border_stopped : (new : Weave) (stop : LineStop) → keyword_of quadrant_table.keywords words ≡ Some (row_of (border_kind border)) → Gets (border_kind border) ((row_of (border_kind border)).fields items words) w new (Err stop) →
-      TakesItem is_end_line (λ l. HoldsLines new last l) items (check_line quadrant_table.keywords items words) (Err stop)
+      TakesItem (λ item. bytes_eq (word_of item) (codes "end")) (λ l. HoldsLines new last l) items (check_line quadrant_table.keywords items words) (Err stop)
   border_stopped new (stops.Fault cause) keyword stopped = (border_check keyword ∙ stopped.0, subst (λ (v : Weave). HoldsLines v last items) (sym stopped.1) held)
   border_stopped new stops.NoMemory keyword stopped = subst (λ (v : Weave). HoldsLines v last items) (sym stopped) held

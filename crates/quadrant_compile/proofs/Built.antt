@@ -1,6 +1,6 @@
 -- A weave in the making has what the lines give, and is sound.
 use Rattle.std.proofs.Common.{◌≡◌, ◌≢◌, ◌<◌, ◌≤◌, ◌+◌, ◌==◌, ℕ, true, false, List, [], ◌∷◌, ◌++◌, length, get_or, Option, Some, None, refl, sym, ◌∙◌, ap, subst, inl, inr, arith, length-append, append-nil}
-use Rattle.std.specs.Prelude.{IsTrue, AllPairs, filter_map, bytes_eq, option_map, find}
+use Rattle.std.specs.Prelude.{codes, IsTrue, AllPairs, filter_map, bytes_eq, option_map, find}
 use Rattle.std.specs.List.{cons_option}
 use Rattle.std.specs.Option.{unwrap_or, option_to_list}
 use Rattle.std.specs.List.{list_any}
@@ -11,7 +11,7 @@ use Rattle.std.proofs.lemmas.List.Quantifiers.{all_pairs_push}
 use Rattle.std.proofs.lemmas.Slice.Eq.{bytes_eq-Decides}
 use Rattle.std.proofs.lemmas.Option.{none-some}
 use Rattle.tile_io.specs.declared.mark.Mark.{Mark}
-use Rattle.tile_io.specs.Checks.{last_of}
+use Rattle.tile_io.specs.Checks.{last_of, number_given}
 use Rattle.tile_io.specs.Formats.{Reads}
 use Rattle.tile_io.proofs.Checking.{last_push}
 use Rattle.tile_io.proofs.PassedFields.{and_both}
@@ -21,7 +21,7 @@ use Rattle.quadrant_compile.specs.declared.rule.Rule.{Rule}
 use Rattle.quadrant_compile.specs.declared.line_kind.LineKind.{LineKind}
 use Rattle.quadrant_compile.specs.declared.line_kind.LineKind.TheVariants as kinds
 use Rattle.quadrant_compile.specs.Weaves.{Weave, IsWeave, IsRuleOver, is_for, answer_among}
-use Rattle.quadrant_compile.specs.WeaveText.{WeaveItem, weave_of, number_given, symbol_name_of, rule_of, width_of, height_of, bottom_of, left_of, is_end_line, quadrant_format, quadrant_table}
+use Rattle.quadrant_compile.specs.WeaveText.{WeaveItem, weave_of, symbol_name_of, rule_of, width_of, height_of, bottom_of, left_of, word_of, quadrant_format, quadrant_table}
 use Rattle.quadrant_compile.specs.WeaveText.WeaveItem.{Header, SymbolLine, RuleLine, SizeLine, BottomLine, LeftLine, EndLine}
 use Rattle.quadrant_compile.specs.Inner.Keywords.{kind_of, may_stand_after, is_last}
 use Rattle.quadrant_compile.specs.Inner.SoFar.{with_item, IsDraft, HasAlphabet, HasAll, HasCome, IsFit, HoldsLines}
@@ -241,7 +241,7 @@ nothing_held = record {
     none_within : {P : Type 0} {n : ℕ} → n < 0 → P
     none_within within = let never : ⊥ = omega (arith, within) in absurd never
 
-pub last_is : (item : WeaveItem) → is_end_line item ≡ is_last (kind_of item)
+pub last_is : (item : WeaveItem) → bytes_eq (word_of item) (codes "end") ≡ is_last (kind_of item)
 last_is Header = refl
 last_is (SymbolLine name) = refl
 last_is (RuleLine t) = refl
@@ -268,7 +268,7 @@ is_weave w draft has = record {
   left_symbols = draft.left_symbols;
 }
 
-ends_at_end : (item : WeaveItem) → is_end_line item ≡ true → kind_of item ≡ kinds.End
+ends_at_end : (item : WeaveItem) → bytes_eq (word_of item) (codes "end") ≡ true → kind_of item ≡ kinds.End
 ends_at_end EndLine ends = refl
 ends_at_end item ends = absurd (cc ends)
 

@@ -14,7 +14,7 @@ use Rattle.quadrant_compile.specs.declared.rule.Rule.{Rule}
 use Rattle.quadrant_compile.specs.declared.line_kind.LineKind.{LineKind}
 use Rattle.quadrant_compile.specs.declared.line_kind.LineKind.TheVariants as kinds
 use Rattle.quadrant_compile.specs.Weaves.{Weave, IsRuleOver, answer_among}
-use Rattle.quadrant_compile.specs.WeaveText.{WeaveItem, weave_of, symbol_room, bottom_room, left_room, header_fields, symbol_fields, rule_in, rule_fields, size_fields, bottom_fields, left_fields}
+use Rattle.quadrant_compile.specs.WeaveText.{WeaveItem, weave_of, symbol_row, bottom_row, left_row, quadrant_row, rule_in, rule_row, size_row}
 use Rattle.quadrant_compile.specs.WeaveText.WeaveItem.{Header, SymbolLine, RuleLine, SizeLine, BottomLine, LeftLine, EndLine}
 use Rattle.quadrant_compile.specs.Inner.Keywords.{kind_of, row_of, may_stand_after}
 use Rattle.quadrant_compile.specs.Inner.SoFar.{IsFit}
@@ -56,30 +56,26 @@ module _ (w : Weave) where
       (cc (four.2))
 
 module _ (w : Weave) (words : List (List ℕ)) (item : WeaveItem) where
-  header_fit : header_fields words ≡ Ok item → IsFit w item
-  unfolding header_fields
+  header_fit : quadrant_row.fields w words ≡ Ok item → IsFit w item
   header_fit is =
       let one = bind_ok (require (bytes_eq (field words 1) (49 ∷ [])) NoHeader) (λ _. Ok Header) item is in
       let same : Header ≡ item = cc (one.2) in
       subst (IsFit w) same tt
 
-  symbol_fit : symbol_room w words ≡ true → symbol_fields w words ≡ Ok item → IsFit w item
-  unfolding symbol_fields
+  symbol_fit : symbol_row.has_room w words ≡ true → symbol_row.fields w words ≡ Ok item → IsFit w item
   symbol_fit room is =
       let one = bind_ok (declared is_short_name w.symbols (field words 1)) (λ name. Ok (SymbolLine name)) item is in
       let same : SymbolLine one.0 ≡ item = cc (one.2) in
       let new = declared_ok is_short_name w.symbols (field words 1) one.0 one.1 in
       subst (IsFit w) same (ltb-true (length w.symbols) 64 room, new.0, new.1)
 
-  rule_fit : rule_fields w words ≡ Ok item → IsFit w item
-  unfolding rule_fields
+  rule_fit : rule_row.fields w words ≡ Ok item → IsFit w item
   rule_fit is =
       let one = bind_ok (rule_in w words) (λ r. Ok (RuleLine r)) item is in
       let same : RuleLine one.0 ≡ item = cc (one.2) in
       subst (IsFit w) same (rule_ok w words one.0 one.1)
 
-  size_fit : size_fields words ≡ Ok item → IsFit w item
-  unfolding size_fields
+  size_fit : size_row.fields w words ≡ Ok item → IsFit w item
   size_fit is =
       let one = bind_ok (count_in 1 1023 (field words 1)) (λ x. count_in 1 1023 (field words 2) >>= (λ y. Ok (SizeLine x y))) item is in
       let two = bind_ok (count_in 1 1023 (field words 2)) (λ y. Ok (SizeLine one.0 y)) item one.2 in
@@ -88,8 +84,7 @@ module _ (w : Weave) (words : List (List ℕ)) (item : WeaveItem) where
       let y = count_ok 1 1023 (field words 2) two.0 two.1 in
       subst (IsFit w) same (x.0, x.1, y.0, y.1)
 
-  bottom_fit : bottom_room w words ≡ true → bottom_fields w words ≡ Ok item → IsFit w item
-  unfolding bottom_fields
+  bottom_fit : bottom_row.has_room w words ≡ true → bottom_row.fields w words ≡ Ok item → IsFit w item
   bottom_fit room is =
       let one = bind_ok (references w.symbols (drop 1 words)) (λ symbols. Ok (BottomLine symbols)) item is in
       let same : BottomLine one.0 ≡ item = cc (one.2) in
@@ -99,8 +94,7 @@ module _ (w : Weave) (words : List (List ℕ)) (item : WeaveItem) where
       let few = leb-true (length w.bottom + (length words - 1)) w.width room in
       subst (IsFit w) same (read.0, omega (arith, count, rest, few))
 
-  left_fit : left_room w words ≡ true → left_fields w words ≡ Ok item → IsFit w item
-  unfolding left_fields
+  left_fit : left_row.has_room w words ≡ true → left_row.fields w words ≡ Ok item → IsFit w item
   left_fit room is =
       let one = bind_ok (references w.symbols (drop 1 words)) (λ symbols. Ok (LeftLine symbols)) item is in
       let same : LeftLine one.0 ≡ item = cc (one.2) in
@@ -125,9 +119,9 @@ fit_of kinds.End items words item room is = end_fit (weave_of items) words item 
 
 -- the limits are told by the weave so far
 pub room_by_weave : (kind : LineKind) (a b : List WeaveItem) (words : List (List ℕ)) → weave_of a ≡ weave_of b → (row_of kind).has_room a words ≡ (row_of kind).has_room b words
-room_by_weave kinds.Symbol a b words same = ap (λ w. symbol_room w words) same
-room_by_weave kinds.Bottom a b words same = ap (λ w. bottom_room w words) same
-room_by_weave kinds.Left a b words same = ap (λ w. left_room w words) same
+room_by_weave kinds.Symbol a b words same = ap (λ w. symbol_row.has_room w words) same
+room_by_weave kinds.Bottom a b words same = ap (λ w. bottom_row.has_room w words) same
+room_by_weave kinds.Left a b words same = ap (λ w. left_row.has_room w words) same
 room_by_weave kind a b words same = refl
 
 -- what may stand after what, by the keywords

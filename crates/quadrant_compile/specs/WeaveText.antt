@@ -1,13 +1,12 @@
 -- The text of a weave: what each kept line is, which checks it has to pass, and the weave that the lines describe.
-use Rattle.std.specs.Prelude.{◌≡◌, ℕ, ◌+◌, ◌-◌, Bool, true, false, is_some, not, nat_le, nat_lt, List, [], ◌∷◌, length, drop, filter_map, flat_map, codes, bytes_eq, Option, Some, None, Result, Ok}
-use Rattle.std.specs.Option.{unwrap_or}
+use Rattle.std.specs.Prelude.{◌≡◌, ℕ, ◌+◌, ◌-◌, ◌==◌, Bool, true, false, is_none, is_some, not, nat_le, nat_lt, List, [], ◌∷◌, length, drop, map, filter_map, flat_map, codes, bytes_eq, Option, Some, None, Result, Ok}
 use Rattle.tile_io.specs.declared.fault.Cause.{Cause}
 use Rattle.tile_io.specs.declared.fault.Cause.TheVariants.{NoHeader, DoubleName}
 use Rattle.tile_io.specs.declared.mark.Mark.{Mark}
 use Rattle.tile_io.specs.Formats.{Format, Reads}
-use Rattle.tile_io.specs.Checks.{◌>>=◌, require, field, count_in, declared, referred, last_of, Keyword, Table, table_format}
+use Rattle.tile_io.specs.Checks.{◌>>=◌, require, field, count_in, declared, referred, behind, number_given, Keyword, told_by, Table, table_format}
 use Rattle.machine_text.specs.Machines.{is_short_name}
-use Rattle.machine_text.specs.MachineText.{references, exactly, two_or_more}
+use Rattle.machine_text.specs.MachineText.{references}
 use Rattle.quadrant_compile.specs.declared.limits.TheConstants.{MOST_SYMBOLS, LONGEST_SIDE}
 use Rattle.quadrant_compile.specs.declared.rule.Rule.{Rule}
 use Rattle.quadrant_compile.specs.Weaves.{Weave, answer_among}
@@ -21,6 +20,16 @@ pub data WeaveItem : Type 0 where
   BottomLine : (symbols : List ℕ) → WeaveItem
   LeftLine : (symbols : List ℕ) → WeaveItem
   EndLine : WeaveItem
+
+-- the keyword of its line
+abbrev pub word_of : WeaveItem → List ℕ
+word_of Header = codes "quadrant"
+word_of (SymbolLine name) = codes "symbol"
+word_of (RuleLine rule) = codes "rule"
+word_of (SizeLine width height) = codes "size"
+word_of (BottomLine symbols) = codes "bottom"
+word_of (LeftLine symbols) = codes "left"
+word_of EndLine = codes "end"
 
 abbrev pub symbol_name_of : WeaveItem → Option (List ℕ)
 symbol_name_of (SymbolLine name) = Some name
@@ -46,10 +55,6 @@ abbrev pub left_of : WeaveItem → List ℕ
 left_of (LeftLine symbols) = symbols
 left_of _ = []
 
--- the number that a line gives; 0 where none does
-abbrev pub number_given : (WeaveItem → Option ℕ) → List WeaveItem → ℕ
-number_given of items = unwrap_or (last_of (filter_map of items)) 0
-
 -- the weave that lines describe
 unfoldable pub weave_of : List WeaveItem → Weave
 weave_of items = record {
@@ -61,18 +66,7 @@ weave_of items = record {
   left = flat_map left_of items;
 }
 
--- The fields of each keyword, after the lines of a weave so far.
-unfoldable pub header_fields : List (List ℕ) → Result WeaveItem Cause
-header_fields words = do
-  _ ← require (bytes_eq (field words 1) (codes "1")) NoHeader
-  Ok Header
-
-unfoldable pub symbol_fields : Weave → List (List ℕ) → Result WeaveItem Cause
-symbol_fields w words = do
-  name ← declared is_short_name w.symbols (field words 1)
-  Ok (SymbolLine name)
-
--- a second rule for the same symbols from the west and from the south is a double one
+-- the rule of a `rule` line; a second one for the same symbols from the west and from the south is a double one
 unfoldable pub rule_in : Weave → List (List ℕ) → Result Rule Cause
 rule_in w words = do
   west ← referred is_short_name w.symbols (field words 1)
@@ -82,103 +76,85 @@ rule_in w words = do
   north ← referred is_short_name w.symbols (field words 4)
   Ok (record { west = west; south = south; answer = record { east = east; north = north } })
 
-unfoldable pub rule_fields : Weave → List (List ℕ) → Result WeaveItem Cause
-rule_fields w words = do
-  rule ← rule_in w words
-  Ok (RuleLine rule)
+-- The rows of the table of keywords: the word, how many words its line has, behind which lines it may stand, the limit of its
+-- kind, and its fields from left to right. The limit and the fields are told by the weave that the earlier lines describe.
+abbrev pub quadrant_row : Keyword Weave WeaveItem
+quadrant_row = record {
+  word = codes "quadrant"; has_words = λ n. n == 2; may_follow = is_none;
+  has_room = λ w words. true;
+  fields = λ w words. do
+    _ ← require (bytes_eq (field words 1) (codes "1")) NoHeader
+    Ok Header;
+}
 
-unfoldable pub size_fields : List (List ℕ) → Result WeaveItem Cause
-size_fields words = do
-  width ← count_in 1 LONGEST_SIDE (field words 1)
-  height ← count_in 1 LONGEST_SIDE (field words 2)
-  Ok (SizeLine width height)
+abbrev pub symbol_row : Keyword Weave WeaveItem
+symbol_row = record {
+  word = codes "symbol"; has_words = λ n. n == 2;
+  may_follow = behind word_of (codes "quadrant" ∷ codes "symbol" ∷ []);
+  has_room = λ w words. nat_lt (length w.symbols) MOST_SYMBOLS;
+  fields = λ w words. do
+    name ← declared is_short_name w.symbols (field words 1)
+    Ok (SymbolLine name);
+}
 
-unfoldable pub bottom_fields : Weave → List (List ℕ) → Result WeaveItem Cause
-bottom_fields w words = do
-  symbols ← references w.symbols (drop 1 words)
-  Ok (BottomLine symbols)
+abbrev pub rule_row : Keyword Weave WeaveItem
+rule_row = record {
+  word = codes "rule"; has_words = λ n. n == 5;
+  may_follow = behind word_of (codes "symbol" ∷ codes "rule" ∷ []);
+  has_room = λ w words. true;
+  fields = λ w words. do
+    rule ← rule_in w words
+    Ok (RuleLine rule);
+}
 
-unfoldable pub left_fields : Weave → List (List ℕ) → Result WeaveItem Cause
-left_fields w words = do
-  symbols ← references w.symbols (drop 1 words)
-  Ok (LeftLine symbols)
-
--- what may stand before what
-abbrev pub stands_first : Option WeaveItem → Bool
-stands_first None = true
-stands_first _ = false
-
-abbrev pub follows_header_or_symbol : Option WeaveItem → Bool
-follows_header_or_symbol (Some Header) = true
-follows_header_or_symbol (Some (SymbolLine _)) = true
-follows_header_or_symbol _ = false
-
-abbrev pub follows_symbol_or_rule : Option WeaveItem → Bool
-follows_symbol_or_rule (Some (SymbolLine _)) = true
-follows_symbol_or_rule (Some (RuleLine _)) = true
-follows_symbol_or_rule _ = false
-
-abbrev pub follows_size_or_bottom : Option WeaveItem → Bool
-follows_size_or_bottom (Some (SizeLine _ _)) = true
-follows_size_or_bottom (Some (BottomLine _)) = true
-follows_size_or_bottom _ = false
-
-abbrev pub follows_size_or_border : Option WeaveItem → Bool
-follows_size_or_border (Some (SizeLine _ _)) = true
-follows_size_or_border (Some (BottomLine _)) = true
-follows_size_or_border (Some (LeftLine _)) = true
-follows_size_or_border _ = false
-
-abbrev pub always_room : Weave → List (List ℕ) → Bool
-always_room w words = true
-
-abbrev pub symbol_room : Weave → List (List ℕ) → Bool
-symbol_room w words = nat_lt (length w.symbols) MOST_SYMBOLS
+abbrev pub size_row : Keyword Weave WeaveItem
+size_row = record {
+  word = codes "size"; has_words = λ n. n == 3;
+  may_follow = behind word_of (codes "symbol" ∷ codes "rule" ∷ []);
+  has_room = λ w words. true;
+  fields = λ w words. do
+    width ← count_in 1 LONGEST_SIDE (field words 1)
+    height ← count_in 1 LONGEST_SIDE (field words 2)
+    Ok (SizeLine width height);
+}
 
 -- all bottom lines together have no more symbols than there are columns
-abbrev pub bottom_room : Weave → List (List ℕ) → Bool
-bottom_room w words = nat_le (length w.bottom + (length words - 1)) w.width
+abbrev pub bottom_row : Keyword Weave WeaveItem
+bottom_row = record {
+  word = codes "bottom"; has_words = λ n. nat_le 2 n;
+  may_follow = behind word_of (codes "size" ∷ codes "bottom" ∷ []);
+  has_room = λ w words. nat_le (length w.bottom + (length words - 1)) w.width;
+  fields = λ w words. do
+    symbols ← references w.symbols (drop 1 words)
+    Ok (BottomLine symbols);
+}
 
 -- and all left lines no more than there are rows
-abbrev pub left_room : Weave → List (List ℕ) → Bool
-left_room w words = nat_le (length w.left + (length words - 1)) w.height
+abbrev pub left_row : Keyword Weave WeaveItem
+left_row = record {
+  word = codes "left"; has_words = λ n. nat_le 2 n;
+  may_follow = behind word_of (codes "size" ∷ codes "bottom" ∷ codes "left" ∷ []);
+  has_room = λ w words. nat_le (length w.left + (length words - 1)) w.height;
+  fields = λ w words. do
+    symbols ← references w.symbols (drop 1 words)
+    Ok (LeftLine symbols);
+}
 
--- A row of the table: word, numbers of words, what it may stand after, limit, fields. The limit and the fields are told by the weave
--- that the earlier lines describe.
-abbrev pub row : List ℕ → (ℕ → Bool) → (Option WeaveItem → Bool) → (Weave → List (List ℕ) → Bool) → (Weave → List (List ℕ) → Result WeaveItem Cause) → Keyword WeaveItem
-row word counts follows room fields = record { word = word; has_words = counts; may_follow = follows; has_room = λ earlier words. room (weave_of earlier) words; fields = λ earlier words. fields (weave_of earlier) words }
-
-abbrev pub quadrant_row : Keyword WeaveItem
-quadrant_row = row (codes "quadrant") (exactly 2) stands_first always_room (λ w words. header_fields words)
-
-abbrev pub symbol_row : Keyword WeaveItem
-symbol_row = row (codes "symbol") (exactly 2) follows_header_or_symbol symbol_room symbol_fields
-
-abbrev pub rule_row : Keyword WeaveItem
-rule_row = row (codes "rule") (exactly 5) follows_symbol_or_rule always_room rule_fields
-
-abbrev pub size_row : Keyword WeaveItem
-size_row = row (codes "size") (exactly 3) follows_symbol_or_rule always_room (λ w words. size_fields words)
-
-abbrev pub bottom_row : Keyword WeaveItem
-bottom_row = row (codes "bottom") two_or_more follows_size_or_bottom bottom_room bottom_fields
-
-abbrev pub left_row : Keyword WeaveItem
-left_row = row (codes "left") two_or_more follows_size_or_border left_room left_fields
-
-abbrev pub end_row : Keyword WeaveItem
-end_row = row (codes "end") (exactly 1) follows_size_or_border always_room (λ w words. Ok EndLine)
-
-abbrev pub is_end_line : WeaveItem → Bool
-is_end_line EndLine = true
-is_end_line _ = false
+abbrev pub end_row : Keyword Weave WeaveItem
+end_row = record {
+  word = codes "end"; has_words = λ n. n == 1;
+  may_follow = behind word_of (codes "size" ∷ codes "bottom" ∷ codes "left" ∷ []);
+  has_room = λ w words. true;
+  fields = λ w words. Ok EndLine;
+}
 
 -- the table of keywords; only the end line completes a text
 unfoldable pub quadrant_table : Table WeaveItem
 quadrant_table = record {
-  keywords = quadrant_row ∷ symbol_row ∷ rule_row ∷ size_row ∷ bottom_row ∷ left_row ∷ end_row ∷ [];
+  keywords = map (told_by weave_of)
+      (quadrant_row ∷ symbol_row ∷ rule_row ∷ size_row ∷ bottom_row ∷ left_row ∷ end_row ∷ []);
   has_header = true;
-  is_end = is_end_line;
+  is_end = λ item. bytes_eq (word_of item) (codes "end");
   is_complete = λ items. false;
 }
 

@@ -2,7 +2,7 @@
 ghost use Rattle.std.specs.Prelude.{◌≡◌, ◌≤◌, ◌<◌, ℕ, List, true, None, Ok, drop, length, IfOk};
 ghost use Rattle.quadrant_compile.specs.declared.limits.TheConstants.{MOST_SYMBOLS};
 ghost use Rattle.quadrant_compile.specs.Weaves.{Weave, answer_among};
-ghost use Rattle.quadrant_compile.specs.WeaveText.{WeaveItem, header_fields, symbol_fields, rule_in, rule_fields, size_fields, bottom_fields, left_fields, weave_of};
+ghost use Rattle.quadrant_compile.specs.WeaveText.{WeaveItem, quadrant_row, symbol_row, rule_in, rule_row, size_row, bottom_row, left_row, weave_of};
 ghost use Rattle.quadrant_compile.specs.Inner.Keywords.{row_of};
 ghost use Rattle.quadrant_compile.specs.Inner.Borders.{border_kind};
 ghost use Rattle.quadrant_compile.specs.Inner.SoFar.{weave_in, Gets};
@@ -61,10 +61,9 @@ pub(crate) fn take_border(
 }
 
 // Whether the header is of version 1.
-#[tactic(auto, unfolding(crate::specs::WeaveText::header_fields))]
 fn check_version(words: &LineWords) -> Result<(), LineStop>
     requires { length words.now ≡ 2 }
-    ensures { (w : Weave) → Gets LineKind.Quadrant (header_fields words.now) w w result }
+    ensures { (w : Weave) → Gets LineKind.Quadrant (quadrant_row.fields w words.now) w w result }
 {
     if !is_word(words.word(1), b"1") {
         return Err(LineStop::Fault(Cause::NoHeader));
@@ -73,11 +72,10 @@ fn check_version(words: &LineWords) -> Result<(), LineStop>
 }
 
 // Takes the fields of a `symbol` line.
-#[tactic(auto, unfolding(crate::specs::WeaveText::symbol_fields))]
 fn take_symbol(alloc: Global, parts: &mut QuadrantParts, words: &LineWords) -> Result<(), LineStop>
     requires words { length words.now ≡ 2 }
     requires few { length parts.old.symbols ≤ MOST_SYMBOLS }
-    ensures { Gets LineKind.Symbol (symbol_fields (weave_in parts.old) words.now)
+    ensures { Gets LineKind.Symbol (symbol_row.fields (weave_in parts.old) words.now)
         (weave_in parts.old) (weave_in parts.new) result }
 {
     let name = words.word(1);
@@ -89,11 +87,10 @@ fn take_symbol(alloc: Global, parts: &mut QuadrantParts, words: &LineWords) -> R
 }
 
 // Takes the fields of a `rule` line.
-#[tactic(auto, unfolding(crate::specs::WeaveText::rule_fields))]
 fn take_rule(parts: &mut QuadrantParts, words: &LineWords) -> Result<(), LineStop>
     requires words { length words.now ≡ 5 }
     requires few { length parts.old.symbols ≤ MOST_SYMBOLS }
-    ensures { Gets LineKind.Rule (rule_fields (weave_in parts.old) words.now)
+    ensures { Gets LineKind.Rule (rule_row.fields (weave_in parts.old) words.now)
         (weave_in parts.old) (weave_in parts.new) result }
 {
     let rule = read_rule(parts, words)?;
@@ -128,10 +125,9 @@ fn read_rule(parts: &QuadrantParts, words: &LineWords) -> Result<Rule, Cause>
 }
 
 // Takes the fields of a `size` line.
-#[tactic(auto, unfolding(crate::specs::WeaveText::size_fields))]
 fn take_size(parts: &mut QuadrantParts, words: &LineWords) -> Result<(), LineStop>
     requires { length words.now ≡ 3 }
-    ensures { Gets LineKind.Size (size_fields words.now) (weave_in parts.old)
+    ensures { Gets LineKind.Size (size_row.fields (weave_in parts.old) words.now) (weave_in parts.old)
         (weave_in parts.new) result }
 {
     let width = read_count(words.word(1), 1, LONGEST_SIDE)?;
@@ -142,10 +138,9 @@ fn take_size(parts: &mut QuadrantParts, words: &LineWords) -> Result<(), LineSto
 }
 
 // Takes the fields of a `bottom` line.
-#[tactic(auto, unfolding(crate::specs::WeaveText::bottom_fields))]
 fn take_bottom(alloc: Global, parts: &mut QuadrantParts, words: &LineWords) -> Result<(), LineStop>
     requires { 2 ≤ length words.now }
-    ensures { Gets LineKind.Bottom (bottom_fields (weave_in parts.old) words.now)
+    ensures { Gets LineKind.Bottom (bottom_row.fields (weave_in parts.old) words.now)
         (weave_in parts.old) (weave_in parts.new) result }
 {
     let symbols = find_names(alloc, &parts.symbols, words)?;
@@ -153,9 +148,8 @@ fn take_bottom(alloc: Global, parts: &mut QuadrantParts, words: &LineWords) -> R
 }
 
 // The same by the bytes of the line.
-#[tactic(auto, unfolding(crate::specs::WeaveText::bottom_fields))]
 fn take_bottom_line(alloc: Global, parts: &mut QuadrantParts, line: &[u8]) -> Result<(), LineStop>
-    ensures { Gets LineKind.Bottom (bottom_fields (weave_in parts.old) (words_of line.now))
+    ensures { Gets LineKind.Bottom (bottom_row.fields (weave_in parts.old) (words_of line.now))
         (weave_in parts.old) (weave_in parts.new) result }
 {
     let symbols = find_names_of_line(alloc, &parts.symbols, line)?;
@@ -166,7 +160,7 @@ fn take_bottom_line(alloc: Global, parts: &mut QuadrantParts, line: &[u8]) -> Re
 fn keep_bottom(parts: &mut QuadrantParts, symbols: &[u32]) -> Result<(), LineStop>
     ensures { (words : List (List ℕ)) →
         references (weave_in parts.old).symbols (drop 1 words) ≡ Ok symbols.now →
-        Gets LineKind.Bottom (bottom_fields (weave_in parts.old) words)
+        Gets LineKind.Bottom (bottom_row.fields (weave_in parts.old) words)
         (weave_in parts.old) (weave_in parts.new) result }
 {
     match parts.bottom.extend_from_slice(symbols) {
@@ -176,10 +170,9 @@ fn keep_bottom(parts: &mut QuadrantParts, symbols: &[u32]) -> Result<(), LineSto
 }
 
 // Takes the fields of a `left` line.
-#[tactic(auto, unfolding(crate::specs::WeaveText::left_fields))]
 fn take_left(alloc: Global, parts: &mut QuadrantParts, words: &LineWords) -> Result<(), LineStop>
     requires { 2 ≤ length words.now }
-    ensures { Gets LineKind.Left (left_fields (weave_in parts.old) words.now)
+    ensures { Gets LineKind.Left (left_row.fields (weave_in parts.old) words.now)
         (weave_in parts.old) (weave_in parts.new) result }
 {
     let symbols = find_names(alloc, &parts.symbols, words)?;
@@ -187,9 +180,8 @@ fn take_left(alloc: Global, parts: &mut QuadrantParts, words: &LineWords) -> Res
 }
 
 // The same by the bytes of the line.
-#[tactic(auto, unfolding(crate::specs::WeaveText::left_fields))]
 fn take_left_line(alloc: Global, parts: &mut QuadrantParts, line: &[u8]) -> Result<(), LineStop>
-    ensures { Gets LineKind.Left (left_fields (weave_in parts.old) (words_of line.now))
+    ensures { Gets LineKind.Left (left_row.fields (weave_in parts.old) (words_of line.now))
         (weave_in parts.old) (weave_in parts.new) result }
 {
     let symbols = find_names_of_line(alloc, &parts.symbols, line)?;
@@ -200,7 +192,7 @@ fn take_left_line(alloc: Global, parts: &mut QuadrantParts, line: &[u8]) -> Resu
 fn keep_left(parts: &mut QuadrantParts, symbols: &[u32]) -> Result<(), LineStop>
     ensures { (words : List (List ℕ)) →
         references (weave_in parts.old).symbols (drop 1 words) ≡ Ok symbols.now →
-        Gets LineKind.Left (left_fields (weave_in parts.old) words)
+        Gets LineKind.Left (left_row.fields (weave_in parts.old) words)
         (weave_in parts.old) (weave_in parts.new) result }
 {
     match parts.left.extend_from_slice(symbols) {

@@ -13,7 +13,7 @@ use Rattle.atam.specs.TileSystem.{TileSystem}
 use Rattle.assembly.specs.Grids.{TileGrid}
 use Rattle.seq_text.specs.declared.kind.LineKind.{LineKind}
 use Rattle.seq_text.specs.declared.kind.LineKind.TheVariants as kinds
-use Rattle.seq_text.specs.GrowthText.{GrowthItem, growth_table, growth_format, place_row, closed_row, unique_row, grid_format, ReadsPlaces, ReadsGrid, follows_place, follows_place_or_closed, place_of, places_of}
+use Rattle.seq_text.specs.GrowthText.{GrowthItem, growth_table, growth_format, place_row, closed_row, unique_row, grid_format, ReadsPlaces, ReadsGrid, place_of, places_of}
 use Rattle.seq_text.specs.GrowthText.GrowthItem.{PlaceLine, ClosedLine, UniqueLine}
 use Rattle.seq_text.specs.Inner.Kinds.{row_of, kind_of, kind_named}
 use Rattle.seq_text.specs.Inner.SoFar.{HasScratch, HoldsLines}
@@ -42,27 +42,27 @@ module _ (sys : TileSystem) where
   holds_other places scratch last items item none h =
       record { places_are = h.places_are ∙ sym (places-same items item none); grid = h.grid; kind = sym (ap (option_map kind_of) (last_push items item)) }
 
-follows_some : (p : Option Place) → follows_place (option_map PlaceLine p) ≡ true
+follows_some : (p : Option Place) → closed_row.may_follow (option_map PlaceLine p) ≡ true
 follows_some None = refl
 follows_some (Some p) = refl
 
 -- a place follows the start and each place
-pub follows_places : (places : List Place) → follows_place (last_of (map PlaceLine places)) ≡ true
+pub follows_places : (places : List Place) → closed_row.may_follow (last_of (map PlaceLine places)) ≡ true
 follows_places places =
     let n = length (map PlaceLine places) - 1 in
-    ap follows_place (slice_get-map PlaceLine places n) ∙ follows_some (slice_get places n)
+    ap closed_row.may_follow (slice_get-map PlaceLine places n) ∙ follows_some (slice_get places n)
 
-follows_more : (last : Option GrowthItem) → follows_place last ≡ true → follows_place_or_closed last ≡ true
+follows_more : (last : Option GrowthItem) → closed_row.may_follow last ≡ true → unique_row.may_follow last ≡ true
 follows_more None e = refl
 follows_more (Some (PlaceLine p)) e = refl
 follows_more (Some ClosedLine) e = absurd (cc e)
 follows_more (Some UniqueLine) e = absurd (cc e)
 
 -- so does the line on local determinism, which may also follow a `closed` line
-pub unique_follows : (places : List Place) → follows_place_or_closed (last_of (map PlaceLine places)) ≡ true
+pub unique_follows : (places : List Place) → unique_row.may_follow (last_of (map PlaceLine places)) ≡ true
 unique_follows places = follows_more (last_of (map PlaceLine places)) (follows_places places)
 
-pub unique_follows_closed : (places : List Place) → follows_place_or_closed (last_of (map PlaceLine places ++ ClosedLine ∷ [])) ≡ true
+pub unique_follows_closed : (places : List Place) → unique_row.may_follow (last_of (map PlaceLine places ++ ClosedLine ∷ [])) ≡ true
 unique_follows_closed places = rw (last_push (map PlaceLine places) ClosedLine) refl
 
 pub places_back : (places : List Place) → places_of (map PlaceLine places) ≡ places

@@ -25,7 +25,7 @@ use Rattle.tile_text.specs.Fields.{site_field, place_field}
 use Rattle.tile_text.specs.SystemText.{is_in_box}
 use Rattle.seq_text.specs.declared.kind.LineKind.{LineKind}
 use Rattle.seq_text.specs.declared.kind.LineKind.TheVariants as kinds
-use Rattle.seq_text.specs.GrowthText.{GrowthItem, growth_table, place_row, place_fields, place_in, places_of, names_of, may_stand, follows_place}
+use Rattle.seq_text.specs.GrowthText.{GrowthItem, growth_table, place_row, place_in, places_of, names_of, may_stand, closed_row}
 use Rattle.seq_text.specs.GrowthText.GrowthItem.{PlaceLine, ClosedLine, UniqueLine}
 use Rattle.seq_text.specs.Inner.Kinds.{kind_of, may_stand_after}
 use Rattle.seq_text.specs.Inner.SoFar.{HoldsLines}
@@ -214,7 +214,7 @@ module _ (text : List ℕ) (m : Site) (fields name behind : List ℕ) (plain : I
   pub front_within : length behind ≤ length text
   front_within = let size : length text ≡ length front_line + 1 + length behind = front_size in omega (arith, size)
 
-place_follows : (last : Option GrowthItem) → may_stand_after kinds.Place (option_map kind_of last) ≡ true → follows_place last ≡ true
+place_follows : (last : Option GrowthItem) → may_stand_after kinds.Place (option_map kind_of last) ≡ true → closed_row.may_follow last ≡ true
 place_follows None e = refl
 place_follows (Some (PlaceLine p)) e = refl
 place_follows (Some ClosedLine) e = absurd (cc e)
@@ -223,7 +223,7 @@ place_follows (Some UniqueLine) e = absurd (cc e)
 module _ (distinct : Bool) (sys : TileSystem) (places : List Place) (scratch : Option TileGrid) (last : Option LineKind) (items : List GrowthItem) (held : HoldsLines sys places scratch last items) where
   -- a `place` line that passes its checks is taken as its place
   pub place_taken : (words : List (List ℕ)) (p : Place) → IsPlaceLine distinct sys places words p → may_stand_after kinds.Place last ≡ true → check_line (growth_table distinct sys).keywords items words ≡ Ok (PlaceLine p)
-  unfolding place_fields growth_table
+  unfolding growth_table
   place_taken words p line stands =
       let Stands : Option LineKind → Type 0 = λ l. may_stand_after kinds.Place l ≡ true in
       let keywords = (growth_table distinct sys).keywords in

@@ -32,7 +32,7 @@ use Rattle.seq_text.specs.VerdictLines.{verdict_line}
 use Rattle.seq_text.specs.PrintedGrowths.{growth_lines, line_or_none, MayBeOpen, MayBeTold, MayBePrinted}
 use Rattle.tile_text.specs.declared.version.Version.{Version}
 use Rattle.tile_text.specs.Spelling.{spelling, spelling_by, version_of}
-use Rattle.seq_text.specs.GrowthText.{GrowthItem, follows_place_or_closed, growth_table, growth_format, place_fields, place_in, places_of, may_stand, ReadsPlaces}
+use Rattle.seq_text.specs.GrowthText.{GrowthItem, unique_row, growth_table, growth_format, place_row, place_in, places_of, may_stand, ReadsPlaces}
 use Rattle.seq_text.specs.GrowthText.GrowthItem.{PlaceLine, ClosedLine, UniqueLine}
 use Rattle.seq_text.proofs.Growths.{follows_places, unique_follows, unique_follows_closed, places_back, places-same}
 
@@ -197,7 +197,7 @@ module _ (sys : TileSystem) (valid : IsValid sys) where
 
   place_checks : (distinct : Bool) (done : List Place) (p : Place) → IsType sys p.tile → InBox sys.area p.site → may_stand distinct (places_of (map PlaceLine done)) p.site ≡ true →
       (growth_format distinct sys).check (map PlaceLine done) (place_words sys p) ≡ Ok (PlaceLine p)
-  unfolding growth_table place_fields place_in place_field site_field type_field
+  unfolding growth_table place_in place_field site_field type_field
   place_checks distinct done p typed inside free =
       let plain = plain_seed sys.area p valid.box inside in
       let named = named_seed sys p valid.type_names valid.distinct_types typed in
@@ -208,7 +208,7 @@ module _ (sys : TileSystem) (valid : IsValid sys) where
   closed_checks distinct done None = rw (follows_places done) refl
   closed_checks distinct done (Some found) = rw (follows_places done) refl
 
-  verdict_checks : (distinct : Bool) (before : List GrowthItem) (verdict : Verdict) → follows_place_or_closed (last_of before) ≡ true → (growth_format distinct sys).check before (verdict_words sys verdict) ≡ Ok UniqueLine
+  verdict_checks : (distinct : Bool) (before : List GrowthItem) (verdict : Verdict) → unique_row.may_follow (last_of before) ≡ true → (growth_format distinct sys).check before (verdict_words sys verdict) ≡ Ok UniqueLine
   unfolding growth_table
   verdict_checks distinct before Yes follows = rw follows refl
   verdict_checks distinct before (NotExact m sum) follows = rw follows refl

@@ -1,10 +1,10 @@
 -- The text of a growth: what each kept line is, and which checks it has to pass. It follows a system text, and names the types of that system.
-use Rattle.std.specs.Prelude.{◌≡◌, ℕ, ◌==◌, Bool, true, false, nat_le, List, [], ◌∷◌, map, filter_map, codes, is_none, Option, Some, None, Result, Ok}
+use Rattle.std.specs.Prelude.{◌≡◌, ℕ, ◌==◌, Bool, true, false, ◌||◌, nat_le, List, [], ◌∷◌, map, filter_map, codes, is_none, Option, Some, None, Result, Ok}
 use Rattle.tile_io.specs.declared.fault.Cause.{Cause}
 use Rattle.tile_io.specs.declared.fault.Cause.TheVariants.{OutsideBox, DoubleSite}
 use Rattle.tile_io.specs.declared.mark.Mark.{Mark}
 use Rattle.tile_io.specs.Formats.{Format, Reads}
-use Rattle.tile_io.specs.Checks.{◌>>=◌, require, field, Keyword, Table, table_format}
+use Rattle.tile_io.specs.Checks.{◌>>=◌, require, field, behind, Keyword, Table, table_format}
 use Rattle.atam.specs.declared.site.Site.{Site}
 use Rattle.atam.specs.declared.place.Place.{Place}
 use Rattle.atam.specs.Placements.{tile_at, SamePlacements}
@@ -18,6 +18,12 @@ pub data GrowthItem : Type 0 where
   PlaceLine : (place : Place) → GrowthItem
   ClosedLine : GrowthItem
   UniqueLine : GrowthItem
+
+-- the keyword of its line
+abbrev pub word_of : GrowthItem → List ℕ
+word_of (PlaceLine p) = codes "place"
+word_of ClosedLine = codes "closed"
+word_of UniqueLine = codes "unique"
 
 abbrev pub place_of : GrowthItem → Option Place
 place_of (PlaceLine p) = Some p
@@ -44,33 +50,33 @@ place_in distinct sys earlier words = do
   _ ← require (may_stand distinct earlier p.site) DoubleSite
   Ok p
 
-unfoldable pub place_fields : Bool → TileSystem → List GrowthItem → List (List ℕ) → Result GrowthItem Cause
-place_fields distinct sys earlier words = do
-  p ← place_in distinct sys (places_of earlier) words
-  Ok (PlaceLine p)
+-- The rows of the table of keywords: the word, how many words its line has, behind which lines it may stand, the limit of its
+-- kind, and its fields from left to right with the checks of the whole line.
+abbrev pub place_row : Bool → TileSystem → Keyword (List GrowthItem) GrowthItem
+place_row distinct sys = record {
+  word = codes "place"; has_words = λ n. n == 4;
+  may_follow = λ before. is_none before || behind word_of (codes "place" ∷ []) before;
+  has_room = λ earlier words. true;
+  fields = λ earlier words. do
+    p ← place_in distinct sys (places_of earlier) words
+    Ok (PlaceLine p);
+}
 
--- what may stand before what
-abbrev pub follows_place : Option GrowthItem → Bool
-follows_place None = true
-follows_place (Some (PlaceLine _)) = true
-follows_place _ = false
+abbrev pub closed_row : Keyword (List GrowthItem) GrowthItem
+closed_row = record {
+  word = codes "closed"; has_words = λ n. nat_le 2 n;
+  may_follow = λ before. is_none before || behind word_of (codes "place" ∷ []) before;
+  has_room = λ earlier words. true;
+  fields = λ earlier words. Ok ClosedLine;
+}
 
-abbrev pub follows_place_or_closed : Option GrowthItem → Bool
-follows_place_or_closed (Some ClosedLine) = true
-follows_place_or_closed before = follows_place before
-
-abbrev pub always_room : {Item : Type 0} → List Item → List (List ℕ) → Bool
-always_room earlier words = true
-
--- the rows of the table: word, number of words, what it may stand after, limit, fields
-abbrev pub place_row : Bool → TileSystem → Keyword GrowthItem
-place_row distinct sys = record { word = codes "place"; has_words = λ n. n == 4; may_follow = follows_place; has_room = always_room; fields = place_fields distinct sys }
-
-abbrev pub closed_row : Keyword GrowthItem
-closed_row = record { word = codes "closed"; has_words = λ n. nat_le 2 n; may_follow = follows_place; has_room = always_room; fields = λ earlier words. Ok ClosedLine }
-
-abbrev pub unique_row : Keyword GrowthItem
-unique_row = record { word = codes "unique"; has_words = λ n. nat_le 2 n; may_follow = follows_place_or_closed; has_room = always_room; fields = λ earlier words. Ok UniqueLine }
+abbrev pub unique_row : Keyword (List GrowthItem) GrowthItem
+unique_row = record {
+  word = codes "unique"; has_words = λ n. nat_le 2 n;
+  may_follow = λ before. is_none before || behind word_of (codes "place" ∷ codes "closed" ∷ []) before;
+  has_room = λ earlier words. true;
+  fields = λ earlier words. Ok UniqueLine;
+}
 
 -- the table of the growth texts of a system: there is no header and no end line, and the input may end after any line
 unfoldable pub growth_table : Bool → TileSystem → Table GrowthItem

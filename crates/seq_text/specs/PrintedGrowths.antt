@@ -36,7 +36,3 @@ pub record MayBePrinted (sys : TileSystem) (places : List Place) (closed : Optio
   pub fits : Fits sys places
   pub open_site : IfSome closed (MayBeOpen sys)
   pub told : IfSome verdict (MayBeTold sys)
-
--- the start of an input
-abbrev pub start_mark : Mark
-start_mark = record { at = 0; line = 1 }

@@ -8,55 +8,45 @@ use Rattle.atam.specs.TileSystem.{TileSystem}
 use Rattle.tile_text.specs.Fields.{site_field, place_field}
 use Rattle.atam.specs.declared.event.Event.{Event}
 use Rattle.atam.specs.declared.event.Event.TheVariants.{Look, Claim, Split, Join}
-use Rattle.seq_text.specs.GrowthText.{always_room, names_of}
+use Rattle.seq_text.specs.GrowthText.{names_of}
 
 -- the number of a scout, whether there is such a one or not
 abbrev pub scout : List ℕ → Result ℕ Cause
 scout word = count_in 0 4294967295 word
 
--- The fields of each keyword. A site outside the box is no fault of the text.
-unfoldable pub look_fields : List (List ℕ) → Result Event Cause
-look_fields words = do
+-- A row of the table of keywords: the word, how many words its line has, and its fields from left to right. The lines stand in
+-- any order, and a site outside the box is no fault of the text.
+abbrev pub event_row : List ℕ → ℕ → (List (List ℕ) → Result Event Cause) → Keyword (List Event) Event
+event_row word n fields = record {
+  word = word;
+  has_words = λ m. m == n;
+  may_follow = λ before. true;
+  has_room = λ earlier words. true;
+  fields = λ earlier words. fields words;
+}
+
+abbrev pub look_row : Keyword (List Event) Event
+look_row = event_row (codes "look") 4 (λ words. do
   w ← scout (field words 1)
   m ← site_field (field words 2) (field words 3)
-  Ok (Look w m)
+  Ok (Look w m))
 
-unfoldable pub claim_fields : TileSystem → List (List ℕ) → Result Event Cause
-claim_fields sys words = do
+abbrev pub claim_row : TileSystem → Keyword (List Event) Event
+claim_row sys = event_row (codes "claim") 5 (λ words. do
   w ← scout (field words 1)
   p ← place_field (names_of sys) (field words 2) (field words 3) (field words 4)
-  Ok (Claim w p.site p.tile)
+  Ok (Claim w p.site p.tile))
 
-unfoldable pub split_fields : List (List ℕ) → Result Event Cause
-split_fields words = do
+abbrev pub split_row : Keyword (List Event) Event
+split_row = event_row (codes "split") 2 (λ words. do
   w ← scout (field words 1)
-  Ok (Split w)
+  Ok (Split w))
 
-unfoldable pub join_fields : List (List ℕ) → Result Event Cause
-join_fields words = do
+abbrev pub join_row : Keyword (List Event) Event
+join_row = event_row (codes "join") 3 (λ words. do
   w ← scout (field words 1)
   v ← scout (field words 2)
-  Ok (Join w v)
-
--- the lines stand in any order
-abbrev pub follows_all : Option Event → Bool
-follows_all before = true
-
--- the rows of the table: word, number of words, fields
-abbrev pub event_row : List ℕ → ℕ → (List (List ℕ) → Result Event Cause) → Keyword Event
-event_row word n fields = record { word = word; has_words = λ m. m == n; may_follow = follows_all; has_room = always_room; fields = λ earlier words. fields words }
-
-abbrev pub look_row : Keyword Event
-look_row = event_row (codes "look") 4 look_fields
-
-abbrev pub claim_row : TileSystem → Keyword Event
-claim_row sys = event_row (codes "claim") 5 (claim_fields sys)
-
-abbrev pub split_row : Keyword Event
-split_row = event_row (codes "split") 2 split_fields
-
-abbrev pub join_row : Keyword Event
-join_row = event_row (codes "join") 3 join_fields
+  Ok (Join w v))
 
 -- the table of the schedule texts of a system: there is no header and no end line, and the input may end after any line
 unfoldable pub schedule_table : TileSystem → Table Event

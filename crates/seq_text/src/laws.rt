@@ -1,4 +1,5 @@
 // Laws of growth and schedule texts.
+ghost use Rattle.tile_io.specs.Lines.{first_mark};
 ghost use Rattle.std.specs.Prelude.{◌≡◌, ◌≤◌, ◌⊎◌, ◌++◌, ℕ, List, Bool, Option, length, drop};
 ghost use Rattle.tile_io.specs.declared.mark.Mark.{Mark};
 ghost use Rattle.tile_io.specs.declared.fault.Cause.{Cause};
@@ -14,7 +15,7 @@ ghost use Rattle.tile_text.specs.declared.version.Version.{Version};
 ghost use Rattle.tile_text.specs.declared.version.Version.TheVariants.{Two};
 ghost use Rattle.tile_text.specs.SystemText.{ReadsAny};
 ghost use Rattle.tile_text.specs.Spelling.{spelling, spelling_by, newest_spelling, version_of, end_of_print};
-ghost use Rattle.seq_text.specs.PrintedGrowths.{growth_lines, start_mark, MayBePrinted};
+ghost use Rattle.seq_text.specs.PrintedGrowths.{growth_lines, MayBePrinted};
 ghost use Rattle.atam.specs.declared.event.Event.{Event};
 ghost use Rattle.seq_text.specs.GrowthText.{growth_format, ReadsPlaces, ReadsSequence, ReadsPlacements};
 ghost use Rattle.seq_text.specs.ScheduleText.{schedule_format, ReadsEvents};
@@ -71,20 +72,20 @@ pub fn law_growth_reads_printed()
 /// reads, from the start of the input, as this system and then as its places.
 pub fn law_input_reads_printed()
     ensures system { (sys : TileSystem) (tail : List ℕ) → IsValid sys →
-        ReadsAny (spelling sys ++ tail) start_mark sys
-        (end_of_print (version_of sys) sys start_mark) }
+        ReadsAny (spelling sys ++ tail) first_mark sys
+        (end_of_print (version_of sys) sys first_mark) }
     ensures newest { (sys : TileSystem) (tail : List ℕ) → IsValid sys →
-        ReadsAny (newest_spelling sys ++ tail) start_mark sys (end_of_print Two sys start_mark) }
+        ReadsAny (newest_spelling sys ++ tail) first_mark sys (end_of_print Two sys first_mark) }
     ensures sequence { (version : Version) (sys : TileSystem) (places : List Place)
         (closed : Option (Option (Site × TypeId))) (verdict : Option Verdict) → IsValid sys →
         MayBePrinted sys places closed verdict →
         ReadsSequence sys (spelling_by version sys ++ growth_lines sys places closed verdict)
-        (end_of_print version sys start_mark) places }
+        (end_of_print version sys first_mark) places }
     ensures grid { (version : Version) (sys : TileSystem) (places : List Place)
         (closed : Option (Option (Site × TypeId))) (verdict : Option Verdict) → IsValid sys →
         MayBePrinted sys places closed verdict → HasDistinctSites places →
         ReadsPlacements sys (spelling_by version sys ++ growth_lines sys places closed verdict)
-        (end_of_print version sys start_mark) places }
+        (end_of_print version sys first_mark) places }
 {}
 
 /// Each text, from each start, either reads as one list of events or has one fault.

@@ -10,7 +10,7 @@ ghost use Rattle.tile_io.specs.Formats.{ReadsOrStops};
 ghost use Rattle.tile_io.specs.LineReader.{TakesItem};
 ghost use Rattle.atam.specs.TileSystem.{IsType};
 ghost use Rattle.tile_text.specs.Fields.{place_field};
-ghost use Rattle.seq_text.specs.GrowthText.{GrowthItem, sequence_format, grid_format, ReadsSequence, ReadsGrid, names_of, place_fields, place_in, may_stand};
+ghost use Rattle.seq_text.specs.GrowthText.{GrowthItem, sequence_format, grid_format, ReadsSequence, ReadsGrid, names_of, place_row, place_in, may_stand};
 ghost use Rattle.seq_text.specs.Inner.Kinds.{may_stand_after};
 ghost use Rattle.seq_text.specs.Inner.Plain.{BeginsPlain};
 ghost use Rattle.seq_text.specs.Inner.SoFar.{HasScratch};
@@ -251,7 +251,7 @@ impl<'a> GrowthReader<'a> {
             TakesItem (λ item. false)
             (HoldsLines self.new.system.now self.new.places self.new.scratch self.new.last)
             items
-            (place_fields (is_some self.old.scratch) self.old.system.now items words.now)
+            ((place_row (is_some self.old.scratch) self.old.system.now).fields items words.now)
             result }
         ensures distinct { is_some self.new.scratch ≡ is_some self.old.scratch }
         ensures system { self.new.system.now ≡ self.old.system.now }

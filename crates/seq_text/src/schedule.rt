@@ -1,10 +1,10 @@
 // A schedule is read from its text.
-ghost use Rattle.std.specs.Prelude.{◌≡◌, ◌≤◌, true, IfOk, List, length};
+ghost use Rattle.std.specs.Prelude.{[], ◌≡◌, ◌≤◌, true, IfOk, List, length};
 ghost use Rattle.atam.specs.TileSystem.{TileSystem};
 ghost use Rattle.tile_io.specs.NextLine.{IsMark};
 ghost use Rattle.tile_io.specs.Formats.{ReadsOrStops};
 ghost use Rattle.atam.specs.declared.event.Event.{Event};
-ghost use Rattle.seq_text.specs.ScheduleText.{schedule_format, ReadsEvents, scout, look_fields, claim_fields, split_fields, join_fields};
+ghost use Rattle.seq_text.specs.ScheduleText.{schedule_format, ReadsEvents, scout, look_row, claim_row, split_row, join_row};
 ghost use Rattle.seq_text.specs.Inner.Kinds.{action_row};
 
 use crate::action::Action;
@@ -119,20 +119,18 @@ fn read_event(system: &System, action: Action, words: &LineWords) -> Result<Even
     }
 }
 
-#[tactic(auto, unfolding(crate::specs::ScheduleText::look_fields))]
 fn read_look(words: &LineWords) -> Result<Event, Cause>
     requires { length words.now ≡ 4 }
-    ensures { result ≡ look_fields words.now }
+    ensures { result ≡ look_row.fields [] words.now }
 {
     let who = read_scout(words.word(1))?;
     let site = read_site(words.word(2), words.word(3))?;
     Ok(Event::Look { who, site })
 }
 
-#[tactic(auto, unfolding(crate::specs::ScheduleText::claim_fields))]
 fn read_claim(system: &System, words: &LineWords) -> Result<Event, Cause>
     requires { length words.now ≡ 5 }
-    ensures { result ≡ claim_fields system.now words.now }
+    ensures { result ≡ (claim_row system.now).fields [] words.now }
 {
     let who = read_scout(words.word(1))?;
     let name = words.word(4);
@@ -145,19 +143,17 @@ fn read_claim(system: &System, words: &LineWords) -> Result<Event, Cause>
     })
 }
 
-#[tactic(auto, unfolding(crate::specs::ScheduleText::split_fields))]
 fn read_split(words: &LineWords) -> Result<Event, Cause>
     requires { length words.now ≡ 2 }
-    ensures { result ≡ split_fields words.now }
+    ensures { result ≡ split_row.fields [] words.now }
 {
     let who = read_scout(words.word(1))?;
     Ok(Event::Split { who })
 }
 
-#[tactic(auto, unfolding(crate::specs::ScheduleText::join_fields))]
 fn read_join(words: &LineWords) -> Result<Event, Cause>
     requires { length words.now ≡ 3 }
-    ensures { result ≡ join_fields words.now }
+    ensures { result ≡ join_row.fields [] words.now }
 {
     let into = read_scout(words.word(1))?;
     let from = read_scout(words.word(2))?;

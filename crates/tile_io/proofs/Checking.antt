@@ -23,7 +23,7 @@ require_ok true cause u e = refl
 require_ok false cause u e = absurd (cc e)
 
 -- a keyword's line that passed: it may stand there, and its fields pass
-pub row_ok : {Item : Type 0} (row : Keyword Item) (earlier : List Item) (words : List (List ℕ)) (item : Item) → check_keyword (Some row) earlier words ≡ Ok item →
+pub row_ok : {Item : Type 0} (row : Keyword (List Item) Item) (earlier : List Item) (words : List (List ℕ)) (item : Item) → check_keyword (Some row) earlier words ≡ Ok item →
     (row.has_words (length words) ≡ true) × (row.may_follow (last_of earlier) ≡ true) × (row.has_room earlier words ≡ true) × (row.fields earlier words ≡ Ok item)
 row_ok row earlier words item e =
     let one = bind_ok (require (row.has_words (length words)) BadLine) (λ _. require (row.may_follow (last_of earlier)) OutOfOrder >>= (λ _. require (row.has_room earlier words) TooMany >>= (λ _. row.fields earlier words))) item e in

@@ -8,12 +8,12 @@ use Rattle.tile_io.specs.Inner.Headers.{first_cause}
 
 module _ {Item : Type 0} where
   -- the keyword of a line is that of its first word
-  by_word : (keywords : List (Keyword Item)) (words : List (List ℕ)) → 0 < length words → keyword_of keywords words ≡ find (λ row. bytes_eq (field words 0) row.word) keywords
+  by_word : (keywords : List (Keyword (List Item) Item)) (words : List (List ℕ)) → 0 < length words → keyword_of keywords words ≡ find (λ row. bytes_eq (field words 0) row.word) keywords
   by_word keywords [] some = absurd (omega (arith, some))
   by_word keywords (word ∷ rest) some = refl
 
   -- a line that may stand where it does passes where its fields do
-  pub check_line_by : (keywords : List (Keyword Item)) (row : Keyword Item) (items : List Item) (words : List (List ℕ)) → 0 < length words →
+  pub check_line_by : (keywords : List (Keyword (List Item) Item)) (row : Keyword (List Item) Item) (items : List Item) (words : List (List ℕ)) → 0 < length words →
       Some row ≡ find (λ row. bytes_eq (field words 0) row.word) keywords → row.has_words (length words) ≡ true → row.may_follow (last_of items) ≡ true → row.has_room items words ≡ true →
       check_line keywords items words ≡ row.fields items words
   check_line_by keywords row items words some found count follows room =
@@ -38,6 +38,6 @@ module _ {Item : Type 0} where
   header_ok true [] (Err cause) item e = absurd (cc e)
   header_ok true (first ∷ others) check item e = e
 
-  pub found_row : (row : Option (Keyword Item)) (items : List Item) (words : List (List ℕ)) (item : Item) → check_keyword row items words ≡ Ok item → (found : Keyword Item) × (row ≡ Some found) × (check_keyword (Some found) items words ≡ Ok item)
+  pub found_row : (row : Option (Keyword (List Item) Item)) (items : List Item) (words : List (List ℕ)) (item : Item) → check_keyword row items words ≡ Ok item → (found : Keyword (List Item) Item) × (row ≡ Some found) × (check_keyword (Some found) items words ≡ Ok item)
   found_row None items words item e = absurd (cc e)
   found_row (Some row) items words item e = (row, refl, e)

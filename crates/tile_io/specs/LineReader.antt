@@ -24,7 +24,7 @@ module _ {Item : Type 0} where
     pub taken : (items : List Item) → Before items → TakesItem table.is_end After items (check_line table.keywords items (words_of line)) front.done
 
   -- a reader that holds some items, after which a line of this keyword may stand
-  pub record MayTake (row : Keyword Item) (Holds : List Item → Type 0) (words : List (List ℕ)) : Type 0 where
+  pub record MayTake (row : Keyword (List Item) Item) (Holds : List Item → Type 0) (words : List (List ℕ)) : Type 0 where
     pub items : List Item
     pub held : Holds items
     pub count : row.has_words (length words) ≡ true

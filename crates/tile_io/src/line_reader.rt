@@ -50,7 +50,7 @@ pub trait LineReader {
     ghost table: { Context → Table Item };
 
     // The row of a keyword in the table.
-    ghost row: { Context → Self.Kind → Keyword Item };
+    ghost row: { Context → Self.Kind → Keyword (List Item) Item };
 
     // What the reader holds says so much of the lines that were taken.
     ghost holds: { Self → List Item → Type 0 };

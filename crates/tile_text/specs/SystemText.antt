@@ -1,12 +1,12 @@
 -- The text of a system: what each kept line is, which checks it has to pass, and the items of a system.
-use Rattle.std.specs.Prelude.{◌≡◌, ◌≢◌, ℕ, ◌==◌, Bool, true, false, not, ◌&&◌, ◌⊎◌, nat_lt, is_some, List, [], ◌∷◌, ◌++◌, length, map, filter_map, codes, bytes_eq, Option, Some, None, Result, Ok, Err, pos, ◌+ℤ◌, int_le}
+use Rattle.std.specs.Prelude.{◌≡◌, ◌≢◌, ℕ, ◌==◌, Bool, true, false, not, ◌&&◌, ◌⊎◌, nat_lt, is_none, is_some, if◌then◌else◌, List, [], ◌∷◌, ◌++◌, length, map, filter_map, codes, bytes_eq, Option, Some, None, Result, Ok, Err, pos, ◌+ℤ◌, int_le}
 use Rattle.tile_io.specs.declared.fault.Cause.{Cause}
 use Rattle.tile_io.specs.declared.fault.Cause.TheVariants.{DoubleName, DoubleSite, NoHeader, OutOfRange, SeedOutside}
 use Rattle.tile_io.specs.declared.fault.TextStop.{TextStop}
 use Rattle.tile_io.specs.declared.fault.TextStop.TheVariants as stops
 use Rattle.tile_io.specs.declared.mark.Mark.{Mark}
 use Rattle.tile_io.specs.Formats.{Format, Fault, Reads}
-use Rattle.tile_io.specs.Checks.{◌>>=◌, require, field, count_in, declared, referred, last_of, Keyword, Table, table_format}
+use Rattle.tile_io.specs.Checks.{◌>>=◌, require, field, count_in, declared, referred, behind, last_of, Keyword, Table, table_format}
 use Rattle.atam.specs.declared.limits.TheConstants.{MOST_GLUES, MOST_PAIRS, MOST_SEEDS, MOST_STRENGTH, MOST_TAU, MOST_TYPES}
 use Rattle.atam.specs.declared.site.Site.{Site}
 use Rattle.atam.specs.declared.place.GlueId.{GlueId}
@@ -31,9 +31,22 @@ pub data SystemItem : Type 0 where
   SeedLine : (seed : Place) → SystemItem
   EndLine : SystemItem
 
+-- the keyword of its line
+abbrev pub word_of : SystemItem → List ℕ
+word_of Header = codes "tiles"
+word_of (TauLine tau) = codes "tau"
+word_of (GlueLine glue) = codes "glue"
+word_of (PairLine pair) = codes "pair"
+word_of (TileLine type) = codes "tile"
+word_of (BoxLine area) = codes "box"
+word_of (SeedLine seed) = codes "seed"
+word_of EndLine = codes "end"
+
 -- the kept lines of the text of a system, one by one
 unfoldable pub system_items : TileSystem → List SystemItem
-system_items sys = (Header ∷ TauLine sys.tau ∷ []) ++ map GlueLine sys.glues ++ map PairLine sys.pairs ++ map TileLine sys.types ++ (BoxLine sys.area ∷ []) ++ map SeedLine sys.seeds ++ (EndLine ∷ [])
+system_items sys =
+    (Header ∷ TauLine sys.tau ∷ []) ++ map GlueLine sys.glues ++ map PairLine sys.pairs ++ map TileLine sys.types
+    ++ (BoxLine sys.area ∷ []) ++ map SeedLine sys.seeds ++ (EndLine ∷ [])
 
 abbrev pub glue_of : SystemItem → Option Glue
 glue_of (GlueLine g) = Some g
@@ -62,191 +75,130 @@ glue_names earlier = map (λ g. g.name) (filter_map glue_of earlier)
 unfoldable pub type_names : List SystemItem → List (List ℕ)
 type_names earlier = map (λ t. t.name) (filter_map type_of earlier)
 
--- the pairs and the seeds before a line
-unfoldable pub pairs_before : List SystemItem → List GluePair
-pairs_before earlier = filter_map pair_of earlier
-
-unfoldable pub seeds_before : List SystemItem → List Place
-seeds_before earlier = filter_map seed_of earlier
-
 -- a side: the glue of this name, or none where the word is `-`
-abbrev pub side_unless : Bool → List SystemItem → List ℕ → Result (Option GlueId) Cause
-side_unless true earlier word = Ok None
-side_unless false earlier word = do
-  g ← referred is_name (glue_names earlier) word
-  Ok (Some (record { 0 = g }))
-
 abbrev pub side : List SystemItem → List ℕ → Result (Option GlueId) Cause
-side earlier word = side_unless (bytes_eq word (codes "-")) earlier word
+side earlier word =
+    if bytes_eq word (codes "-") then Ok None
+    else (referred is_name (glue_names earlier) word >>= (λ g. Ok (Some (record { 0 = g }))))
 
 -- a box of 1 to 1024 columns and rows
 abbrev pub is_box : BoxArea → Bool
-is_box area = int_le area.x0 area.x1 && int_le area.y0 area.y1 && int_le area.x1 (area.x0 +ℤ pos 1023) && int_le area.y1 (area.y0 +ℤ pos 1023)
+is_box area = int_le area.x0 area.x1 && int_le area.y0 area.y1
+    && int_le area.x1 (area.x0 +ℤ pos 1023) && int_le area.y1 (area.y0 +ℤ pos 1023)
 
 abbrev pub is_in_box : BoxArea → Site → Bool
 is_in_box area m = int_le area.x0 m.x && int_le m.x area.x1 && int_le area.y0 m.y && int_le m.y area.y1
-
--- the box that is declared before a line
-unfoldable pub box_before : List SystemItem → Option BoxArea
-box_before earlier = last_of (filter_map area_of earlier)
 
 abbrev pub is_inside : Option BoxArea → Site → Bool
 is_inside None m = true
 is_inside (Some area) m = is_in_box area m
 
--- The fields of each keyword, and then the checks of the whole line.
 abbrev pub version_word : Version → List ℕ
 version_word One = codes "1"
 version_word Two = codes "2"
 
-unfoldable pub header_fields : Version → List SystemItem → List (List ℕ) → Result SystemItem Cause
-header_fields version earlier words = do
-  _ ← require (bytes_eq (field words 1) (version_word version)) NoHeader
-  Ok Header
+-- what version 2 has beside version 1: pairs, and further seeds
+abbrev pub if_two : {X : Type 0} → Version → X → List X
+if_two One x = []
+if_two Two x = x ∷ []
 
-unfoldable pub tau_fields : List SystemItem → List (List ℕ) → Result SystemItem Cause
-tau_fields earlier words = do
-  n ← count_in 1 MOST_TAU (field words 1)
-  Ok (TauLine n)
+-- The rows of the table of keywords: the word, how many words its line has, behind which lines it may stand, the limit of its
+-- kind, and its fields from left to right with the checks of the whole line.
+abbrev pub tiles_row : Version → Keyword (List SystemItem) SystemItem
+tiles_row version = record {
+  word = codes "tiles"; has_words = λ n. n == 2; may_follow = is_none;
+  has_room = λ earlier words. true;
+  fields = λ earlier words. do
+    _ ← require (bytes_eq (field words 1) (version_word version)) NoHeader
+    Ok Header;
+}
 
-unfoldable pub glue_fields : List SystemItem → List (List ℕ) → Result SystemItem Cause
-glue_fields earlier words = do
-  name ← declared is_name (glue_names earlier) (field words 1)
-  n ← count_in 0 MOST_STRENGTH (field words 2)
-  Ok (GlueLine (record { name = name; strength = n }))
+abbrev pub tau_row : Keyword (List SystemItem) SystemItem
+tau_row = record {
+  word = codes "tau"; has_words = λ n. n == 2; may_follow = behind word_of (codes "tiles" ∷ []);
+  has_room = λ earlier words. true;
+  fields = λ earlier words. do
+    n ← count_in 1 MOST_TAU (field words 1)
+    Ok (TauLine n);
+}
+
+abbrev pub glue_row : Keyword (List SystemItem) SystemItem
+glue_row = record {
+  word = codes "glue"; has_words = λ n. n == 3;
+  may_follow = behind word_of (codes "tau" ∷ codes "glue" ∷ []);
+  has_room = λ earlier words. nat_lt (length (glue_names earlier)) MOST_GLUES;
+  fields = λ earlier words. do
+    name ← declared is_name (glue_names earlier) (field words 1)
+    n ← count_in 0 MOST_STRENGTH (field words 2)
+    Ok (GlueLine (record { name = name; strength = n }));
+}
 
 -- two glues that differ and aren't paired yet
-unfoldable pub pair_fields : List SystemItem → List (List ℕ) → Result SystemItem Cause
-pair_fields earlier words = do
-  g ← referred is_name (glue_names earlier) (field words 1)
-  h ← referred is_name (glue_names earlier) (field words 2)
-  n ← count_in 0 MOST_STRENGTH (field words 3)
-  _ ← require (not (g == h) && not (is_some (paired_strength (pairs_before earlier) (record { 0 = g }) (record { 0 = h })))) DoubleName
-  Ok (PairLine (record { first = record { 0 = g }; second = record { 0 = h }; strength = n }))
+abbrev pub pair_row : Keyword (List SystemItem) SystemItem
+pair_row = record {
+  word = codes "pair"; has_words = λ n. n == 4;
+  may_follow = behind word_of (codes "glue" ∷ codes "pair" ∷ []);
+  has_room = λ earlier words. nat_lt (length (filter_map pair_of earlier)) MOST_PAIRS;
+  fields = λ earlier words. do
+    g ← referred is_name (glue_names earlier) (field words 1)
+    h ← referred is_name (glue_names earlier) (field words 2)
+    n ← count_in 0 MOST_STRENGTH (field words 3)
+    _ ← require (not (g == h)
+        && not (is_some (paired_strength (filter_map pair_of earlier) (record { 0 = g }) (record { 0 = h })))) DoubleName
+    Ok (PairLine (record { first = record { 0 = g }; second = record { 0 = h }; strength = n }));
+}
 
-unfoldable pub tile_fields : List SystemItem → List (List ℕ) → Result SystemItem Cause
-tile_fields earlier words = do
-  name ← declared is_name (type_names earlier) (field words 1)
-  n ← side earlier (field words 2)
-  e ← side earlier (field words 3)
-  s ← side earlier (field words 4)
-  w ← side earlier (field words 5)
-  Ok (TileLine (record { name = name; north = n; east = e; south = s; west = w }))
+abbrev pub tile_row : Keyword (List SystemItem) SystemItem
+tile_row = record {
+  word = codes "tile"; has_words = λ n. n == 6;
+  may_follow = behind word_of (codes "tau" ∷ codes "glue" ∷ codes "pair" ∷ codes "tile" ∷ []);
+  has_room = λ earlier words. nat_lt (length (type_names earlier)) MOST_TYPES;
+  fields = λ earlier words. do
+    name ← declared is_name (type_names earlier) (field words 1)
+    n ← side earlier (field words 2)
+    e ← side earlier (field words 3)
+    s ← side earlier (field words 4)
+    w ← side earlier (field words 5)
+    Ok (TileLine (record { name = name; north = n; east = e; south = s; west = w }));
+}
 
-unfoldable pub box_fields : List SystemItem → List (List ℕ) → Result SystemItem Cause
-box_fields earlier words = do
-  area ← box_field (field words 1) (field words 2) (field words 3) (field words 4)
-  _ ← require (is_box area) OutOfRange
-  Ok (BoxLine area)
-
-unfoldable pub seed_fields : List SystemItem → List (List ℕ) → Result SystemItem Cause
-seed_fields earlier words = do
-  seed ← place_field (type_names earlier) (field words 1) (field words 2) (field words 3)
-  _ ← require (is_inside (box_before earlier) seed.site) SeedOutside
-  _ ← require (not (is_seeded (seeds_before earlier) seed.site)) DoubleSite
-  Ok (SeedLine seed)
-
--- what may stand before what
-abbrev pub stands_first : Option SystemItem → Bool
-stands_first None = true
-stands_first _ = false
-
-abbrev pub follows_header : Option SystemItem → Bool
-follows_header (Some Header) = true
-follows_header _ = false
-
-abbrev pub follows_tau_or_glue : Option SystemItem → Bool
-follows_tau_or_glue (Some (TauLine _)) = true
-follows_tau_or_glue (Some (GlueLine _)) = true
-follows_tau_or_glue _ = false
-
-abbrev pub follows_glue_or_pair : Option SystemItem → Bool
-follows_glue_or_pair (Some (GlueLine _)) = true
-follows_glue_or_pair (Some (PairLine _)) = true
-follows_glue_or_pair _ = false
-
--- under version 1 there is no pair to follow
-abbrev pub may_follow_tile : Option SystemItem → Bool
-may_follow_tile (Some (TileLine _)) = true
-may_follow_tile (Some (PairLine _)) = true
-may_follow_tile before = follows_tau_or_glue before
-
-abbrev pub follows_tile : Option SystemItem → Bool
-follows_tile (Some (TileLine _)) = true
-follows_tile _ = false
-
-abbrev pub follows_box : Option SystemItem → Bool
-follows_box (Some (BoxLine _)) = true
-follows_box _ = false
-
-abbrev pub follows_seed : Option SystemItem → Bool
-follows_seed (Some (SeedLine _)) = true
-follows_seed _ = false
+abbrev pub box_row : Keyword (List SystemItem) SystemItem
+box_row = record {
+  word = codes "box"; has_words = λ n. n == 5; may_follow = behind word_of (codes "tile" ∷ []);
+  has_room = λ earlier words. true;
+  fields = λ earlier words. do
+    area ← box_field (field words 1) (field words 2) (field words 3) (field words 4)
+    _ ← require (is_box area) OutOfRange
+    Ok (BoxLine area);
+}
 
 -- under version 1 there is one seed
-abbrev pub may_follow_seed : Version → Option SystemItem → Bool
-may_follow_seed One before = follows_box before
-may_follow_seed Two (Some (SeedLine _)) = true
-may_follow_seed Two before = follows_box before
+abbrev pub seed_row : Version → Keyword (List SystemItem) SystemItem
+seed_row version = record {
+  word = codes "seed"; has_words = λ n. n == 4;
+  may_follow = behind word_of (codes "box" ∷ if_two version (codes "seed"));
+  has_room = λ earlier words. nat_lt (length (filter_map seed_of earlier)) MOST_SEEDS;
+  fields = λ earlier words. do
+    seed ← place_field (type_names earlier) (field words 1) (field words 2) (field words 3)
+    _ ← require (is_inside (last_of (filter_map area_of earlier)) seed.site) SeedOutside
+    _ ← require (not (is_seeded (filter_map seed_of earlier) seed.site)) DoubleSite
+    Ok (SeedLine seed);
+}
 
-abbrev pub always_room : List SystemItem → List (List ℕ) → Bool
-always_room earlier words = true
-
-abbrev pub glue_room : List SystemItem → List (List ℕ) → Bool
-glue_room earlier words = nat_lt (length (glue_names earlier)) MOST_GLUES
-
-abbrev pub tile_room : List SystemItem → List (List ℕ) → Bool
-tile_room earlier words = nat_lt (length (type_names earlier)) MOST_TYPES
-
-abbrev pub pair_room : List SystemItem → List (List ℕ) → Bool
-pair_room earlier words = nat_lt (length (pairs_before earlier)) MOST_PAIRS
-
-abbrev pub seed_room : List SystemItem → List (List ℕ) → Bool
-seed_room earlier words = nat_lt (length (seeds_before earlier)) MOST_SEEDS
-
--- the rows of the table: word, number of words, what it may stand after, limit, fields
-abbrev pub keyword : List ℕ → ℕ → (Option SystemItem → Bool) → (List SystemItem → List (List ℕ) → Bool) → (List SystemItem → List (List ℕ) → Result SystemItem Cause) → Keyword SystemItem
-keyword word n follows room fields = record { word = word; has_words = λ m. m == n; may_follow = follows; has_room = room; fields = fields }
-
-abbrev pub tiles_row : Version → Keyword SystemItem
-tiles_row version = keyword (codes "tiles") 2 stands_first always_room (header_fields version)
-
-abbrev pub tau_row : Keyword SystemItem
-tau_row = keyword (codes "tau") 2 follows_header always_room tau_fields
-
-abbrev pub glue_row : Keyword SystemItem
-glue_row = keyword (codes "glue") 3 follows_tau_or_glue glue_room glue_fields
-
-abbrev pub pair_row : Keyword SystemItem
-pair_row = keyword (codes "pair") 4 follows_glue_or_pair pair_room pair_fields
-
-abbrev pub tile_row : Keyword SystemItem
-tile_row = keyword (codes "tile") 6 may_follow_tile tile_room tile_fields
-
-abbrev pub box_row : Keyword SystemItem
-box_row = keyword (codes "box") 5 follows_tile always_room box_fields
-
-abbrev pub seed_row : Version → Keyword SystemItem
-seed_row version = keyword (codes "seed") 4 (may_follow_seed version) seed_room seed_fields
-
-abbrev pub end_row : Keyword SystemItem
-end_row = keyword (codes "end") 1 follows_seed always_room (λ earlier words. Ok EndLine)
-
-abbrev pub is_end_line : SystemItem → Bool
-is_end_line EndLine = true
-is_end_line _ = false
-
--- pairs are a matter of version 2
-abbrev pub pair_rows : Version → List (Keyword SystemItem)
-pair_rows One = []
-pair_rows Two = pair_row ∷ []
+abbrev pub end_row : Keyword (List SystemItem) SystemItem
+end_row = record {
+  word = codes "end"; has_words = λ n. n == 1; may_follow = behind word_of (codes "seed" ∷ []);
+  has_room = λ earlier words. true;
+  fields = λ earlier words. Ok EndLine;
+}
 
 -- the table of keywords of a version; only the end line completes a text
 unfoldable pub system_table : Version → Table SystemItem
 system_table version = record {
-  keywords = (tiles_row version ∷ tau_row ∷ glue_row ∷ []) ++ pair_rows version ++ (tile_row ∷ box_row ∷ seed_row version ∷ end_row ∷ []);
+  keywords = tiles_row version ∷ tau_row ∷ glue_row ∷ if_two version pair_row
+      ++ (tile_row ∷ box_row ∷ seed_row version ∷ end_row ∷ []);
   has_header = true;
-  is_end = is_end_line;
+  is_end = λ item. bytes_eq (word_of item) (codes "end");
   is_complete = λ items. false;
 }
 
@@ -272,12 +224,14 @@ HasOtherHeader text from = (number : ℕ) × Fault (system_format One) text from
 
 -- The text is one of either version: of the first, or else, where it has another header, of the second.
 abbrev pub ReadsAny : List ℕ → Mark → TileSystem → Mark → Type 0
-ReadsAny text from sys to = ReadsVersion One text from sys to ⊎ (HasOtherHeader text from × ReadsVersion Two text from sys to)
+ReadsAny text from sys to =
+    ReadsVersion One text from sys to ⊎ (HasOtherHeader text from × ReadsVersion Two text from sys to)
 
 -- Its fault is that of version 1, and else, where it has another header, that of version 2.
 abbrev pub FaultAny : List ℕ → Mark → ℕ → Cause → Type 0
 FaultAny text from number cause =
-    (Fault (system_format One) text from number cause × (cause ≢ NoHeader)) ⊎ (HasOtherHeader text from × Fault (system_format Two) text from number cause)
+    (Fault (system_format One) text from number cause × (cause ≢ NoHeader))
+    ⊎ (HasOtherHeader text from × Fault (system_format Two) text from number cause)
 
 -- the text is one of either version, of some system
 abbrev pub IsReadAny : List ℕ → Mark → Type 0

@@ -1,5 +1,5 @@
 -- What `certify` and `verify` answer to a text.
-use Rattle.std.proofs.Common.{◌≡◌, ◌≢◌, ◌↔◌, ℕ, true, false, List, All, refl, sym, ap, subst}
+use Rattle.std.proofs.Common.{◌≡◌, ◌≢◌, ◌↔◌, ℕ, true, false, List, All, inl, inr, refl, sym, ap, subst}
 use Rattle.atam.specs.declared.place.Place.{Place}
 use Rattle.atam.specs.Assembly.{Fits}
 use Rattle.atam.specs.Placements.{HasDistinctSites}
@@ -21,26 +21,33 @@ use Rattle.cert_text.specs.CertificateLines.{NamesKnownType, verified_line}
 use Rattle.tilebench.specs.declared.commands.certify.Certification.{Certification}
 use Rattle.tilebench.specs.declared.reordering.Reordering.{Reordering}
 use Rattle.tilebench.specs.declared.reordering.Reordering.TheVariants.{Whole, SeedMissing, Stuck}
-use Rattle.tilebench.specs.Commands.Certify.{IsCertification, IsCertificateOfTiles, IsCertifyAnswer, IsRefutedBy, certification_text, is_given}
-use Rattle.tilebench.specs.Commands.Replay.{IsReordering, is_whole}
+use Rattle.tilebench.specs.Commands.Certify.{IsCertificateOfTiles, IsCertifyAnswer, IsRefutedBy, TellsCertificate}
+use Rattle.tilebench.specs.declared.commands.certify.Certification.TheVariants.{Given, Refuted, Unordered}
+use Rattle.tilebench.specs.Commands.Replay.{TellsNoOrder}
+use Rattle.tilebench.specs.Inner.Certifications.{IsCertification, certification_text, is_given}
+use Rattle.tilebench.specs.Inner.Reorderings.{IsReordering, is_whole, reordering_text}
 use Rattle.tilebench.specs.Commands.Verify.{IsVerifyAnswer, is_verified}
-use Rattle.tilebench.specs.Growths.{is_unique}
+use Rattle.job_board.specs.AnswerText.{is_unique}
 use Rattle.tilebench.specs.Inputs.{IsAssemblyOf, IsSystemThenCertificate, IsSystemThenPlacements}
 
--- the certificate of what was read, or what stands in its place, is the answer
+-- what keeps tiles from having an order is told
+no_order_told : (sys : TileSystem) (tiles : List Place) (reordering : Reordering) → IsReordering sys tiles reordering → is_whole reordering ≡ false → TellsNoOrder sys tiles (reordering_text sys reordering)
+no_order_told sys tiles (Whole order) reordered no = absurd (cc no)
+no_order_told sys tiles (SeedMissing site) reordered no = inl (site, reordered, refl)
+no_order_told sys tiles (Stuck left least) reordered no = inr (left, least, reordered, refl)
+
+-- the certificate, or what stands in its place
+certificate_told : (sys : TileSystem) (tiles : List Place) (certification : Certification) → IsCertification sys tiles certification →
+    TellsCertificate sys tiles (is_given certification) (certification_text sys certification)
+certificate_told sys tiles (Given entries) certified = (entries, certified, refl)
+certificate_told sys tiles (Refuted verdict) certified = inl (verdict, certified, refl)
+certificate_told sys tiles (Unordered reordering) certified = inr (no_order_told sys tiles reordering certified.0 certified.1)
+
+-- and it is the answer
 pub certify_answer : (input : List ℕ) (sys : TileSystem) (places tiles : List Place) (certification : Certification) → IsSystemThenPlacements input sys places → IsAssemblyOf places tiles →
     IsCertification sys tiles certification → IsCertifyAnswer input (is_given certification) (certification_text sys certification)
-certify_answer input sys places tiles certification read assembly certified = record {
-  sys = sys;
-  places = places;
-  read = read;
-  tiles = tiles;
-  assembly = assembly;
-  certification = certification;
-  certified = certified;
-  printed = refl;
-  answer = refl;
-}
+certify_answer input sys places tiles certification read assembly certified =
+    record { sys = sys; places = places; read = read; tiles = tiles; assembly = assembly; told = certificate_told sys tiles certification certified }
 
 -- the certificate of an order that the verdict says yes to
 pub certificate_given : (sys : TileSystem) (tiles order : List Place) (verdict : Verdict) (entries : List Entry) → IsWholeOrder sys tiles order → judging.IsVerdict sys order verdict → verdict ≡ verdicts.Yes →

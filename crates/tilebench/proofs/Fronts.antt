@@ -1,4 +1,5 @@
 -- An input that is read in parts: a front with a system, and what follows it in blocks.
+use Rattle.tile_io.specs.Lines.{first_mark}
 use Rattle.std.proofs.Common.{◌≡◌, ◌++◌, ◌∙◌, ℕ, true, Bool, List, [], length, Option, Result, Ok, Err, refl, sym, subst, arith, inl, inr}
 use Rattle.std.proofs.Math.Nat.{le_trans}
 use Rattle.std.specs.Io.KnownBytes.{Consumes}
@@ -15,12 +16,12 @@ use Rattle.tile_io.specs.NextLine.{IsMark}
 use Rattle.tile_io.proofs.Progress.{start_is_mark}
 use Rattle.tile_io.proofs.TakenOn.{takes_more}
 use Rattle.atam.specs.TileSystem.{TileSystem}
-use Rattle.tile_text.specs.SystemText.{ReadsAny}
+use Rattle.tile_text.specs.SystemText.{ReadsAny, FaultAny}
 use Rattle.tile_text.proofs.Onward.{any_mark_on, any_on}
 use Rattle.tilebench.specs.declared.input.SystemFront.{SystemFront}
 use Rattle.tilebench.specs.declared.stop.Stop.{Stop}
 use Rattle.tilebench.specs.declared.stop.Stop.TheVariants.{Words, Counter, Text, ReadFault, NoMemory}
-use Rattle.tilebench.specs.Inputs.{FailsWithin, IsWholeInput, first_mark}
+use Rattle.tilebench.specs.Inputs.{FailsWithin, IsWholeInput}
 use Rattle.tilebench.specs.Inner.Fronts.{IsFront, FailsAtFront}
 use Rattle.tilebench.specs.Inner.Gives.{AnswersFrom, Gives, GivesBehind, GivesRead}
 use Rattle.tilebench.specs.Inner.Stops.{stop_of_input, stop_of_read}
@@ -64,7 +65,7 @@ module _ {S : Type 0} (left : S → Option (List ℕ)) (faults : S → ℕ) wher
 
     module _ {Item : Type 0} (format : TileSystem → Format Item) where
       -- a fault of the system
-      pub front_stop : (source after : S) (stop : Stop) → GivesRead left faults IsFront FailsAtFront source after (Err stop) → GivesRead left faults Holds (FailsWithin format) source after (Err stop)
+      pub front_stop : (source after : S) (stop : Stop) → GivesRead left faults IsFront FailsAtFront source after (Err stop) → GivesRead left faults Holds (FailsWithin ReadsAny FaultAny format) source after (Err stop)
       front_stop source after (Text fault) (inl long, later) = (inl long, later)
       front_stop source after (Text fault) (inr faulty, later) = (inr (record { input = faulty.input; whole = faulty.whole; fails = inl faulty.fails }), later)
       front_stop source after ReadFault h = h
@@ -74,8 +75,8 @@ module _ {S : Type 0} (left : S → Option (List ℕ)) (faults : S → ℕ) wher
 
       -- or of what follows it
       blocks_behind : (before : Option (List ℕ)) (source after : S) (text : List ℕ) (sys : TileSystem) (end : Mark) (stop : InputStop) → TakesOn before (left source) [] text → ReadsAny text first_mark sys end →
-          StopsInBlocks left faults (format sys) text end source after stop → GivesBehind before left faults Holds (FailsWithin format) source after (Err (stop_of_input stop))
-      blocks_behind before source after text sys end (Unread stop) taken reads h = unread_behind (FailsWithin format) before source after text stop taken h
+          StopsInBlocks left faults (format sys) text end source after stop → GivesBehind before left faults Holds (FailsWithin ReadsAny FaultAny format) source after (Err (stop_of_input stop))
+      blocks_behind before source after text sys end (Unread stop) taken reads h = unread_behind (FailsWithin ReadsAny FaultAny format) before source after text stop taken h
       blocks_behind before source after text sys end (Refused fault) taken reads h =
           let whole = h.0.0 in
           let is = h.0.1 in
@@ -84,9 +85,9 @@ module _ {S : Type 0} (left : S → Option (List ℕ)) (faults : S → ℕ) wher
           (inr (record { input = whole; whole = whole_input before (left source) (left after) text whole taken is; fails = inr (sys, record { end = end; reads = onward; rest = h.0.2 }) }), h.1)
 
       pub blocks_stop : (source middle after : S) (front : SystemFront) (stop : InputStop) → IsFront (left source) (left middle) front → faults source ≤ faults middle →
-          StopsInBlocks left faults (format front.sys) front.begun.text.items front.end middle after stop → GivesRead left faults Holds (FailsWithin format) source after (Err (stop_of_input stop))
+          StopsInBlocks left faults (format front.sys) front.begun.text.items front.end middle after stop → GivesRead left faults Holds (FailsWithin ReadsAny FaultAny format) source after (Err (stop_of_input stop))
       blocks_stop source middle after front stop is later h =
-          from_before (FailsWithin format) source middle after (Err (stop_of_input stop)) later (blocks_behind (left source) middle after front.begun.text.items front.sys front.end stop is.taken is.reads h)
+          from_before (FailsWithin ReadsAny FaultAny format) source middle after (Err (stop_of_input stop)) later (blocks_behind (left source) middle after front.begun.text.items front.sys front.end stop is.taken is.reads h)
 
   -- the front of a whole text is faulty
   pub front_faulty : (before : Option (List ℕ)) (source after : S) (whole : List ℕ) (stop : Stop) → IsWholeInput before (left after) whole → faults source ≤ faults after →

@@ -21,7 +21,8 @@ use Rattle.local_check.specs.Judged.{IsJudged}
 use Rattle.local_check.proofs.Verdicts.{verdict_types}
 use Rattle.tilebench.specs.declared.growth.Growth.{Growth}
 use Rattle.tilebench.specs.Commands.Grow.{IsGrowthText}
-use Rattle.tilebench.specs.Growths.{IsGrowth, growth_text, is_unique}
+use Rattle.job_board.specs.AnswerText.{growth_text, is_unique}
+use Rattle.tilebench.specs.Growths.{IsGrowth}
 use Rattle.tilebench.specs.Inner.Rooms.{GrowsTo, NamesItsTypes, outcome_of}
 
 -- a producible assembly in the box is of types of its system

@@ -1,4 +1,5 @@
 -- What the laws of confluence say of growth answers.
+use Rattle.tile_text.specs.SystemText.{ReadsAny}
 use Rattle.std.proofs.Common.{◌≡◌, ◌∙◌, ◌+◌, ℕ, Bool, true, true≢false, Some, List, [], ◌∷◌, Option, refl, sym, ap, subst}
 use Rattle.std.specs.List.{AllZip}
 use Rattle.atam.specs.declared.place.Place.{Place}
@@ -29,9 +30,10 @@ use Rattle.tilebench.specs.Growing.{TellsGrowth}
 use Rattle.tilebench.specs.Commands.Batch.{IsBatchAnswer}
 use Rattle.tilebench.specs.Commands.Grow.{IsGrowthText}
 use Rattle.tilebench.specs.Commands.Watch.{TellsWatchedGrowth}
-use Rattle.tilebench.specs.Growths.{IsGrowth, growth_text, is_unique}
+use Rattle.job_board.specs.AnswerText.{growth_text, is_unique}
+use Rattle.tilebench.specs.Growths.{IsGrowth}
 use Rattle.tilebench.specs.Headline.{IsBatchHeadline, IsHeadline, IsJobHeadline, IsWatchedHeadline}
-use Rattle.tilebench.specs.Inputs.{IsSystemAlone}
+use Rattle.tilebench.specs.Inputs.{IsAlone}
 use Rattle.tilebench.proofs.Orders.{canonical_whole}
 use Rattle.tilebench.proofs.ReadingBack.{growth_may, sequence_back}
 use Rattle.tilebench.proofs.Spelling.{spelled}
@@ -85,7 +87,7 @@ one_text sys table is_yes text seeds told holds others other others_grown =
     ap (growth_text sys) (sym one.1) ∙ sym told.printed
 
 -- of the text of what the input's system grew into
-pub growth_headline : (input : List ℕ) (sys : TileSystem) (table : GrownValue) (is_yes : Bool) (text : List ℕ) → IsSystemAlone input sys → IsGrowthText sys table is_yes text → IsHeadline input is_yes text
+pub growth_headline : (input : List ℕ) (sys : TileSystem) (table : GrownValue) (is_yes : Bool) (text : List ℕ) → IsAlone ReadsAny input sys → IsGrowthText sys table is_yes text → IsHeadline input is_yes text
 growth_headline input sys table is_yes text read told =
     let valid = any_valid input _ read.end sys read.reads in
     let seeds : HasDistinctSites sys.seeds = valid.distinct_seeds in
@@ -154,7 +156,7 @@ job_headline job outcome valid answers =
     let table : GrownValue = record { grid = record { area = sys.area; tiles = answers.tiles }; won = [] } in
     let told : IsGrowthText sys table (is_unique outcome.verdict) (growth_text sys outcome) =
     record { outcome = outcome; grown = answered_growth sys outcome valid.distinct_seeds answers; printed = refl; answer = refl } in
-    let back : IsSystemAlone (spelling sys) sys = (spelled sys valid).reads_back in
+    let back : IsAlone ReadsAny (spelling sys) sys = (spelled sys valid).reads_back in
     record {
       headline = growth_headline (spelling sys) sys table (is_unique outcome.verdict) (growth_text sys outcome) back told;
       of_job = refl;

@@ -36,7 +36,8 @@ use Rattle.atam.specs.declared.verdict.Verdict.TheVariants.{Yes}
 use Rattle.unique_law.specs.Outcomes.{Outcome}
 use Rattle.unique_law.proofs.OneOutcome.{one_full_growth, yes_in_some_order}
 use Rattle.tilebench.specs.declared.growth.Growth.{Growth}
-use Rattle.tilebench.specs.Growths.{IsGrowth, is_unique}
+use Rattle.job_board.specs.AnswerText.{is_unique}
+use Rattle.tilebench.specs.Growths.{IsGrowth}
 use Rattle.tilebench.specs.Commands.Load.{IsLoadAnswer, load_bits, load_start, load_system, load_tiles, numbers_after_start, summary}
 use Rattle.tilebench.specs.Inner.Rooms.{GrowsTo, outcome_of}
 use Rattle.tilebench.proofs.Headlines.{growth_of_deterministic}

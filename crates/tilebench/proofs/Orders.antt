@@ -1,5 +1,6 @@
 -- What `replay` answers to a text.
-use Rattle.std.proofs.Common.{◌≡◌, ◌≢◌, ◌↔◌, ◌∙◌, ◌++◌, [], ℕ, List, None, Result, Ok, Err, IfOk, IfErr, IsOk, IsErr, refl, sym, ap, subst, append-nil, inr, true≢false}
+use Rattle.tile_io.specs.Lines.{first_mark}
+use Rattle.std.proofs.Common.{◌≡◌, ◌≢◌, ◌↔◌, ◌∙◌, ◌++◌, [], ℕ, List, None, Result, Ok, Err, IfOk, IfErr, IsOk, IsErr, refl, sym, ap, subst, append-nil, inl, inr, true≢false}
 use Rattle.atam.specs.declared.place.Place.{Place}
 use Rattle.atam.specs.Placements.{HasDistinctSites}
 use Rattle.atam.specs.TileSystem.{TileSystem, IsValid}
@@ -16,40 +17,41 @@ use Rattle.replay_order.specs.ReplayAnswers as answers
 use Rattle.tile_system.specs.declared.memory.NoMemory.{NoMemory}
 use Rattle.seq_text.specs.GrowthLines.{place_lines}
 use Rattle.tilebench.specs.declared.reordering.Reordering.{Reordering}
-use Rattle.tilebench.specs.Commands.Replay.{IsReordering, IsReplayAnswer, is_whole, reordering_text}
+use Rattle.tilebench.specs.declared.reordering.Reordering.TheVariants.{Whole, SeedMissing, Stuck}
+use Rattle.tilebench.specs.Commands.Replay.{IsReplayAnswer, TellsReordering}
+use Rattle.tilebench.specs.Inner.Reorderings.{IsReordering, is_whole, reordering_text}
 use Rattle.tilebench.proofs.ReadingBack.{placements_back}
 use Rattle.tile_io.specs.declared.mark.Mark.{Mark}
 use Rattle.tile_io.specs.declared.fault.TextStop.{TextStop}
 use Rattle.tile_io.specs.Formats.{Format, ReadsOrStops}
-use Rattle.tile_text.specs.SystemText.{ReadsAny}
+use Rattle.tile_text.specs.SystemText.{ReadsAny, FaultAny}
 use Rattle.tile_text.proofs.Eithers.{any_valid}
-use Rattle.tilebench.specs.Inputs.{FailsWithin, IsAssemblyOf, IsSystemThenPlacements, first_mark}
+use Rattle.tilebench.specs.Inputs.{FailsWithin, IsAssemblyOf, IsSystemThenPlacements}
 use Rattle.tilebench.specs.Inner.Gives.{Gives}
 use Rattle.tilebench.specs.Inner.Stops.{stop_of_text}
 use Rattle.tile_io.specs.declared.fault.TextStop.TheVariants as stops
 
--- the reordering of what was read is the answer
+-- the reordering of what was read is told
+order_told : (input : List ℕ) (sys : TileSystem) (places tiles : List Place) (reordering : Reordering) → IsSystemThenPlacements input sys places →
+    IsReordering sys tiles reordering → TellsReordering sys tiles (is_whole reordering) (reordering_text sys reordering)
+order_told input sys places tiles (SeedMissing site) read reordered = inl (site, reordered, refl)
+order_told input sys places tiles (Stuck left least) read reordered = inr (left, least, reordered, refl)
+order_told input sys places tiles (Whole order) read whole =
+    let valid : IsValid sys = any_valid input _ read.end sys read.reads in
+    let distinct : HasDistinctSites order = IsLegal-distinct sys order valid.distinct_seeds whole.legal in
+    let lines = place_lines sys order in
+    record {
+      order = order;
+      ordered = whole;
+      printed = refl;
+      reads_back = placements_back sys valid order None None lines (record { fits = whole.fits; open_site = tt; told = tt }) distinct (sym (append-nil (lines ++ []) ∙ append-nil lines));
+    }
+
+-- and is the answer
 pub replay_answer : (input : List ℕ) (sys : TileSystem) (places tiles : List Place) (reordering : Reordering) → IsSystemThenPlacements input sys places → IsAssemblyOf places tiles →
     IsReordering sys tiles reordering → IsReplayAnswer input (is_whole reordering) (reordering_text sys reordering)
-replay_answer input sys places tiles reordering read assembly reordered = record {
-  sys = sys;
-  places = places;
-  read = read;
-  tiles = tiles;
-  assembly = assembly;
-  reordering = reordering;
-  reordered = reordered;
-  printed = refl;
-  answer = refl;
-  reads_back = λ order is.
-      let valid : IsValid sys = any_valid input _ read.end sys read.reads in
-      let Reordered : Reordering → Type 0 = IsReordering sys tiles in
-      let whole = subst Reordered is reordered in
-      let distinct : HasDistinctSites order = IsLegal-distinct sys order valid.distinct_seeds whole.legal in
-      let lines = place_lines sys order in
-      placements_back sys valid order None None (reordering_text sys reordering)
-      (record { fits = whole.fits; open_site = tt; told = tt }) distinct (ap (reordering_text sys) is ∙ sym (append-nil (lines ++ []) ∙ append-nil lines));
-}
+replay_answer input sys places tiles reordering read assembly reordered =
+    record { sys = sys; places = places; read = read; tiles = tiles; assembly = assembly; told = order_told input sys places tiles reordering read reordered }
 
 -- a canonical sequence of a producible assembly is all of it
 pub canonical_whole : (sys : TileSystem) (tiles s : List Place) → HasDistinctSites sys.seeds → HasDistinctSites tiles → Fits sys tiles →
@@ -83,6 +85,6 @@ replayed_whole sys tiles (Err stop) (Err memory) answer same none = tt
 
 -- what stops the reading of a text behind that of a system is the input's fault, or want of memory
 pub stops_within : {Item Answer T : Type 0} (format : TileSystem → Format Item) (input : List ℕ) (sys : TileSystem) (end : Mark) → ReadsAny input first_mark sys end → (IsReadAs : Answer → Type 0) (stop : TextStop) →
-    ReadsOrStops (format sys) input end IsReadAs (Err stop) → (Holds : T → Type 0) → Gives Holds (FailsWithin format input) (Err (stop_of_text stop))
+    ReadsOrStops (format sys) input end IsReadAs (Err stop) → (Holds : T → Type 0) → Gives Holds (FailsWithin ReadsAny FaultAny format input) (Err (stop_of_text stop))
 stops_within format input sys end reads IsReadAs (stops.Fault fault) h Holds = inr (sys, record { end = end; reads = reads; rest = h })
 stops_within format input sys end reads IsReadAs stops.NoMemory h Holds = tt

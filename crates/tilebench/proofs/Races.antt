@@ -12,7 +12,8 @@ use Rattle.tilebench.specs.declared.wins.Win.{Win}
 use Rattle.tilebench.specs.Wins.{AreShares, AreWins, won_by}
 use Rattle.tilebench.specs.Commands.Race.{IsRaceText, race_text}
 use Rattle.tilebench.specs.declared.growth.Growth.{Growth}
-use Rattle.tilebench.specs.Growths.{IsGrowth, is_unique}
+use Rattle.job_board.specs.AnswerText.{is_unique}
+use Rattle.tilebench.specs.Growths.{IsGrowth}
 use Rattle.tilebench.specs.Commands.Report.{IsReportText, report_of}
 use Rattle.tilebench.specs.Inner.Races.{won_together}
 use Rattle.tilebench.specs.Inner.Rooms.{GrowsTo, outcome_of}

@@ -1,4 +1,5 @@
 -- What is printed of a growth reads back, behind the spelling of its system.
+use Rattle.tile_io.specs.Lines.{first_mark}
 use Rattle.std.proofs.Common.{take, ◌≡◌, ◌≤◌, ◌<◌, ◌==◌, ◌^◌, ◌++◌, ℕ, true, false, List, Option, Some, None, All, if◌then◌else◌, refl, sym, subst, arith}
 use Rattle.std.specs.Prelude.{slice_get}
 use Rattle.std.specs.Option.{option_map_or}
@@ -26,7 +27,7 @@ use Rattle.local_check.specs.Judgement.{IsVerdict}
 use Rattle.tile_text.specs.Spelling.{spelling, end_of_print, version_of}
 use Rattle.tile_text.proofs.PrintLemmas.{has_version}
 use Rattle.tile_text.proofs.SystemSpelled.{printed_any}
-use Rattle.seq_text.specs.PrintedGrowths.{MayBeOpen, MayBePrinted, MayBeTold, growth_lines, start_mark}
+use Rattle.seq_text.specs.PrintedGrowths.{MayBeOpen, MayBePrinted, MayBeTold, growth_lines}
 use Rattle.seq_text.proofs.Printed.{printed_reads, behind_system}
 use Rattle.tilebench.specs.Inputs.{IsSystemThenPlacements, IsSystemThenSequence}
 
@@ -98,9 +99,9 @@ module _ (sys : TileSystem) (valid : IsValid sys) where
       let Back : List ℕ → Type 0 = λ lines. IsSystemThenSequence (spelling sys ++ lines) sys places in
       let lines = growth_lines sys places closed verdict in
       subst Back (sym is) (record {
-        end = end_of_print (version_of sys) sys start_mark;
-        reads = printed_any (version_of sys) sys (spelling sys ++ lines) lines start_mark valid (has_version sys) refl;
-        rest = printed_reads sys valid false places closed verdict (spelling sys ++ lines) (end_of_print (version_of sys) sys start_mark) may (λ no. absurd (cc no)) (behind_system sys lines);
+        end = end_of_print (version_of sys) sys first_mark;
+        reads = printed_any (version_of sys) sys (spelling sys ++ lines) lines first_mark valid (has_version sys) refl;
+        rest = printed_reads sys valid false places closed verdict (spelling sys ++ lines) (end_of_print (version_of sys) sys first_mark) may (λ no. absurd (cc no)) (behind_system sys lines);
       })
 
   pub placements_back : (places : List Place) (closed : Option (Option (Site × TypeId))) (verdict : Option Verdict) (text : List ℕ) → MayBePrinted sys places closed verdict →
@@ -109,9 +110,9 @@ module _ (sys : TileSystem) (valid : IsValid sys) where
       let Back : List ℕ → Type 0 = λ lines. IsSystemThenPlacements (spelling sys ++ lines) sys places in
       let lines = growth_lines sys places closed verdict in
       subst Back (sym is) (record {
-        end = end_of_print (version_of sys) sys start_mark;
-        reads = printed_any (version_of sys) sys (spelling sys ++ lines) lines start_mark valid (has_version sys) refl;
-        rest = printed_reads sys valid true places closed verdict (spelling sys ++ lines) (end_of_print (version_of sys) sys start_mark) may (λ _. distinct) (behind_system sys lines);
+        end = end_of_print (version_of sys) sys first_mark;
+        reads = printed_any (version_of sys) sys (spelling sys ++ lines) lines first_mark valid (has_version sys) refl;
+        rest = printed_reads sys valid true places closed verdict (spelling sys ++ lines) (end_of_print (version_of sys) sys first_mark) may (λ _. distinct) (behind_system sys lines);
       })
 
   pub growth_may : (tiles order : List Place) (outside : Option (Site × TypeId)) (verdict : Verdict) → All (λ (q : Place). InBox sys.area q.site) tiles → Fits sys order →

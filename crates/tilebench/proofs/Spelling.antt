@@ -3,18 +3,18 @@ use Rattle.std.proofs.Common.{◌≡◌, ◌++◌, ℕ, List, [], length, drop, 
 use Rattle.tile_io.specs.declared.mark.Mark.{Mark}
 use Rattle.tile_io.specs.Checks.{nothing_more}
 use Rattle.tile_io.specs.Formats.{Passes}
-use Rattle.tile_io.specs.Lines.{TextLine, lines_from, lines_of, mark_after}
+use Rattle.tile_io.specs.Lines.{TextLine, lines_from, lines_of, mark_after, first_mark}
 use Rattle.tile_io.specs.Rest.{HasNoMore}
 use Rattle.tile_io.proofs.Progress.{passes_nothing}
 use Rattle.atam.specs.TileSystem.{TileSystem, IsValid}
 use Rattle.tile_text.specs.declared.version.Version.{Version}
 use Rattle.tile_text.specs.declared.version.Version.TheVariants.{Two}
-use Rattle.tile_text.specs.SystemText.{IsSystemOf}
+use Rattle.tile_text.specs.SystemText.{IsSystemOf, ReadsAny}
 use Rattle.tile_text.specs.Spelling.{end_of_print, newest_spelling, spelling, spelling_by, version_of}
 use Rattle.tile_text.proofs.PrintLemmas.{has_version}
 use Rattle.tile_text.proofs.SystemSpelled.{printed_any}
 use Rattle.seq_text.proofs.Printed.{behind_text}
-use Rattle.tilebench.specs.Inputs.{IsSystemAlone, first_mark}
+use Rattle.tilebench.specs.Inputs.{IsAlone}
 use Rattle.tilebench.specs.Spelled.{SpellsNewest, SpellsSystem}
 
 no_lines : lines_of [] ≡ []
@@ -30,9 +30,9 @@ nothing_left text from ended =
     (mark_after lines from (length lines), inr (record { passed = subst Passed (sym none) (passes_nothing nothing_more); complete = refl; place = refl }))
 
 -- the text of a version that has a system, and nothing behind it
-alone_back : (version : Version) (sys : TileSystem) → IsValid sys → IsSystemOf version sys → IsSystemAlone (spelling_by version sys) sys
+alone_back : (version : Version) (sys : TileSystem) → IsValid sys → IsSystemOf version sys → IsAlone ReadsAny (spelling_by version sys) sys
 alone_back version sys valid has =
-    let Alone : List ℕ → Type 0 = λ text. IsSystemAlone text sys in
+    let Alone : List ℕ → Type 0 = λ text. IsAlone ReadsAny text sys in
     let text = spelling_by version sys in
     let end = end_of_print version sys first_mark in
     subst Alone (append-nil text) (record {

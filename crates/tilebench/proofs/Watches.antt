@@ -1,4 +1,5 @@
 -- What is told of a watched growth, and how it stands to what is told of a growth.
+use Rattle.tile_text.specs.SystemText.{ReadsAny}
 use Rattle.std.proofs.Common.{◌≡◌, ◌≢◌, ◌∙◌, ◌++◌, ◌<◌, ◌≤◌, ℕ, zero, suc, Bool, true, All, List, [], ◌∷◌, length, Option, Some, unwrap_or, ap, refl, subst, sym, arith, inl, inr}
 use Rattle.std.specs.Prelude.{slice_index, sum}
 use Rattle.std.proofs.lemmas.List.Sums.{sum_by-cons}
@@ -17,8 +18,8 @@ use Rattle.watch_frames.specs.Watched.{GrewBesideWatcher, IsWatched}
 use Rattle.tilebench.specs.declared.growth.Growth.{Growth}
 use Rattle.tilebench.specs.Commands.Grow.{IsGrowthText}
 use Rattle.tilebench.specs.Commands.Watch.{TellsWatchedGrowth}
-use Rattle.tilebench.specs.Growths.{growth_text, is_unique}
-use Rattle.tilebench.specs.Inputs.{IsSystemAlone}
+use Rattle.job_board.specs.AnswerText.{growth_text, is_unique}
+use Rattle.tilebench.specs.Inputs.{IsAlone}
 use Rattle.tilebench.specs.Inner.Rooms.{GrowsTo, outcome_of}
 use Rattle.tilebench.specs.Laws.{HasFramesBefore, WatchAnswersAsGrow, WatchPrintsAsGrow}
 use Rattle.tilebench.proofs.Growths.{growth_told}
@@ -121,7 +122,7 @@ answers_as_grow frames workers table input is_yes text some answer =
     )
 
 -- two texts of what one system grew into, of which one is a yes
-prints_once : (sys : TileSystem) (input : List ℕ) (table table_too : GrownValue) (is_yes is_yes_too : Bool) (text text_too : List ℕ) → IsSystemAlone input sys → IsGrowthText sys table is_yes text →
+prints_once : (sys : TileSystem) (input : List ℕ) (table table_too : GrownValue) (is_yes is_yes_too : Bool) (text text_too : List ℕ) → IsAlone ReadsAny input sys → IsGrowthText sys table is_yes text →
     IsGrowthText sys table_too is_yes_too text_too → is_yes ≡ true → text_too ≡ text
 prints_once sys input table table_too is_yes is_yes_too text text_too read told other positive =
     let valid = any_valid input _ read.end sys read.reads in

@@ -1,23 +1,32 @@
--- The table of commands: what each reads, takes, answers and refuses stands in a file of its own below.
+-- The table of commands: what each reads, takes, answers and refuses; the answers stand in files of their own below.
 use Rattle.command_line.specs.declared.commands.Command.{Command}
 use Rattle.command_line.specs.declared.commands.Command.TheVariants as command
-use Rattle.tilebench.specs.Rows.{RoomRow}
+use Rattle.tile_io.specs.Formats.{Fault}
+use Rattle.tile_text.specs.SystemText.{FaultAny, ReadsAny}
+use Rattle.seq_text.specs.GrowthText.{grid_format, sequence_format}
+use Rattle.seq_text.specs.ScheduleText.{schedule_format}
+use Rattle.cert_text.specs.CertificateText.{certificate_format}
+use Rattle.machine_text.specs.MachineText.{ReadsMachine, machine_format}
+use Rattle.quadrant_compile.specs.WeaveText.{ReadsQuadrant, quadrant_format}
+use Rattle.tilebench.specs.Growing.{TellsNoGrowth}
+use Rattle.tilebench.specs.Inputs.{alone}
+use Rattle.tilebench.specs.Rows.{RoomRow, reading}
 use Rattle.tilebench.specs.Commands.Batch.{batch_row}
-use Rattle.tilebench.specs.Commands.Certify.{certify_row}
-use Rattle.tilebench.specs.Commands.Check.{check_row}
+use Rattle.tilebench.specs.Commands.Certify.{IsCertifyAnswer}
+use Rattle.tilebench.specs.Commands.Check.{IsCheckAnswer}
 use Rattle.tilebench.specs.Commands.Counter.{counter_row}
-use Rattle.tilebench.specs.Commands.Format.{format_row}
+use Rattle.tilebench.specs.Commands.Format.{IsFormatAnswer}
 use Rattle.tilebench.specs.Commands.Grow.{grow_row}
 use Rattle.tilebench.specs.Commands.Load.{load_row}
-use Rattle.tilebench.specs.Commands.Picture.{picture_row}
-use Rattle.tilebench.specs.Commands.Quadrant.{quadrant_row}
+use Rattle.tilebench.specs.Commands.Picture.{IsPictureAnswer}
+use Rattle.tilebench.specs.Commands.Quadrant.{IsQuadrantAnswer}
 use Rattle.tilebench.specs.Commands.Race.{race_row}
-use Rattle.tilebench.specs.Commands.Replay.{replay_row}
+use Rattle.tilebench.specs.Commands.Replay.{IsReplayAnswer}
 use Rattle.tilebench.specs.Commands.Report.{report_row}
-use Rattle.tilebench.specs.Commands.Schedule.{schedule_row}
-use Rattle.tilebench.specs.Commands.Turing.{turing_row}
-use Rattle.tilebench.specs.Commands.Upgrade.{upgrade_row}
-use Rattle.tilebench.specs.Commands.Verify.{verify_row}
+use Rattle.tilebench.specs.Commands.Schedule.{IsScheduleAnswer}
+use Rattle.tilebench.specs.Commands.Turing.{IsTuringAnswer}
+use Rattle.tilebench.specs.Commands.Upgrade.{IsUpgradeAnswer}
+use Rattle.tilebench.specs.Commands.Verify.{IsVerifyAnswer}
 use Rattle.tilebench.specs.Commands.Watch.{watch_row}
 pub mod Batch
 pub mod Certify
@@ -43,15 +52,19 @@ room_of (command.Race workers choice) = race_row workers.count
 room_of (command.Report workers choice) = report_row workers.count
 room_of (command.Watch workers choice frames) = watch_row frames.count
 room_of (command.Batch workers) = batch_row
-room_of command.Check = check_row
-room_of command.Replay = replay_row
-room_of command.Schedule = schedule_row
-room_of command.Format = format_row
-room_of command.Upgrade = upgrade_row
-room_of command.Turing = turing_row
-room_of command.Quadrant = quadrant_row
-room_of command.Picture = picture_row
-room_of command.Certify = certify_row
-room_of (command.Verify workers) = verify_row
+room_of command.Check = reading ReadsAny FaultAny sequence_format (TellsNoGrowth IsCheckAnswer)
+room_of command.Replay = reading ReadsAny FaultAny grid_format (TellsNoGrowth IsReplayAnswer)
+room_of command.Schedule =
+    reading ReadsAny FaultAny schedule_format (TellsNoGrowth IsScheduleAnswer)
+room_of command.Format = reading ReadsAny FaultAny alone (TellsNoGrowth IsFormatAnswer)
+room_of command.Upgrade = reading ReadsAny FaultAny alone (TellsNoGrowth IsUpgradeAnswer)
+room_of command.Turing =
+    reading ReadsMachine (Fault machine_format) alone (TellsNoGrowth IsTuringAnswer)
+room_of command.Quadrant =
+    reading ReadsQuadrant (Fault quadrant_format) alone (TellsNoGrowth IsQuadrantAnswer)
+room_of command.Picture = reading ReadsAny FaultAny grid_format (TellsNoGrowth IsPictureAnswer)
+room_of command.Certify = reading ReadsAny FaultAny grid_format (TellsNoGrowth IsCertifyAnswer)
+room_of (command.Verify workers) =
+    reading ReadsAny FaultAny certificate_format (TellsNoGrowth IsVerifyAnswer)
 room_of (command.Counter bits start) = counter_row bits start
 room_of (command.Load number) = load_row number

@@ -1,14 +1,15 @@
 -- What commands answer that grow a system.
+use Rattle.tile_text.specs.SystemText.{ReadsAny}
 use Rattle.std.specs.Prelude.{◌≡◌, ℕ, Bool, List, Option, Some, None}
 use Rattle.atam.specs.TileSystem.{TileSystem}
 use Rattle.site_table.specs.Seats.{GrownValue}
 use Rattle.grow_workers.specs.Workers.{IsGrownBy}
-use Rattle.tilebench.specs.Inputs.{IsSystemAlone}
+use Rattle.tilebench.specs.Inputs.{IsAlone}
 
 -- The input is the text of one system, which so many workers grew. What it grew into is handed out, and this is told of it.
 pub record TellsGrowth (Tells : TileSystem → GrownValue → Bool → List ℕ → Type 0) (workers : ℕ) (grown : Option GrownValue) (input : List ℕ) (is_yes : Bool) (text : List ℕ) : Type 0 where
   pub sys : TileSystem
-  pub read : IsSystemAlone input sys
+  pub read : IsAlone ReadsAny input sys
   pub table : GrownValue
   pub handed_out : grown ≡ Some table
   pub grew : IsGrownBy sys workers table

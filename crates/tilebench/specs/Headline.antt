@@ -1,12 +1,12 @@
 -- What the top call promises.
 use Rattle.std.specs.Prelude.{◌≡◌, ◌↔◌, ◌⊎◌, ◌++◌, ℕ, Bool, true, false, List, Option, None}
-use Rattle.std.specs.List.{AllZip}
+use Rattle.std.specs.List.{AllZip, list_all}
 use Rattle.tilebench.specs.declared.status.Status.TheVariants.{Done, No, Words, Text, ReadFault, WriteFault, NoMemory}
 use Rattle.tilebench.specs.Terms.{Command, CommandName, CounterStop, WordsStop, IsCallOf, IsTaken, IsRefusedAs, refused_counter, refused_words, room_of}
 use Rattle.tilebench.specs.Terms.{Status, TextFault, Rose, Gains, GainsFront, AnswersLeft, FailsLeft, IsReadyFor, refused_text}
-use Rattle.tilebench.specs.Terms.{GrownValue, Outcome, IsOutcome, IsSystemThenSequence, spelling, Place, TileSystem, IsSystemAlone, IsGrowth, IsLegal, SamePlacements, growth_text}
+use Rattle.tilebench.specs.Terms.{GrownValue, Outcome, IsOutcome, IsSystemThenSequence, spelling, Place, TileSystem, ReadsAny, IsAlone, IsGrowth, IsLegal, SamePlacements, growth_text}
 use Rattle.tilebench.specs.Terms.{IsClosedInBox, IsLeastOpenOutside, IsLocallyDeterministic, IsDeterministicInBox, IsDeterministicInSomeOrder, IsYesWithin, GrowsInto, IsWatchAnswer}
-use Rattle.tilebench.specs.Terms.{Job, IsBatch, are_unique, batch_text, is_unique, outcome_text}
+use Rattle.tilebench.specs.Terms.{Job, IsBatch, batch_text, is_unique}
 
 -- An answer: the words call for a command, as clap reads them, and this is what it answers to what was left of the source, with the growth that it hands out.
 pub record IsAnswer (words : List (List ℕ)) (left left_after : Option (List ℕ)) (grown : Option GrownValue) (is_yes : Bool) (text : List ℕ) : Type 0 where
@@ -68,7 +68,7 @@ pub record IsDue (words : List (List ℕ)) (left : Option (List ℕ)) : Type 0 w
 -- The growth answer: the input is the text of one system, and the text is that of a growth of it, of which this holds.
 pub record IsHeadline (input : List ℕ) (is_yes : Bool) (text : List ℕ) : Type 0 where
   pub sys : TileSystem
-  pub read : IsSystemAlone input sys
+  pub read : IsAlone ReadsAny input sys
   pub tiles : List Place
   pub outcome : Outcome
   pub grown : IsGrowth sys tiles outcome
@@ -99,7 +99,7 @@ pub record IsWatchedHeadline (frames : ℕ) (input : List ℕ) (is_yes : Bool) (
 
 -- What answers one job of a batch: the growth answer to the spelling of its system.
 pub record IsJobHeadline (job : Job) (outcome : Outcome) : Type 0 where
-  pub headline : IsHeadline (spelling job.sys) (is_unique outcome.verdict) (outcome_text job.sys outcome)
+  pub headline : IsHeadline (spelling job.sys) (is_unique outcome.verdict) (growth_text job.sys outcome)
   pub of_job : headline.sys ≡ job.sys
   pub its_outcome : headline.outcome ≡ outcome
 
@@ -110,4 +110,4 @@ pub record IsBatchHeadline (input : List ℕ) (is_yes : Bool) (text : List ℕ) 
   pub outcomes : List Outcome
   pub each : AllZip IsJobHeadline jobs outcomes
   pub printed : text ≡ batch_text jobs outcomes
-  pub answer : is_yes ≡ are_unique outcomes
+  pub answer : is_yes ≡ list_all (λ outcome. is_unique outcome.verdict) outcomes

@@ -1,9 +1,12 @@
 pub mod BatchReadings
+pub mod Certifications
+pub mod CommandRows
 pub mod Fronts
 pub mod Gives
 pub mod Races
 pub mod Readings
 pub mod Rooms
+pub mod Reorderings
 pub mod Runs
 pub mod Stops
 pub mod Tells

@@ -7,25 +7,18 @@ use Rattle.tile_io.specs.declared.fault.TextFault.{TextFault}
 use Rattle.tile_io.specs.declared.mark.Mark.{Mark}
 use Rattle.tile_io.specs.declared.limits.TheConstants.{MOST_INPUT}
 use Rattle.tile_io.specs.Checks.{nothing_more}
+use Rattle.tile_io.specs.Lines.{first_mark}
 use Rattle.tile_io.specs.Formats.{Format, Fault, IsRead}
 use Rattle.tile_io.specs.Rest.{HasNoMore}
 use Rattle.atam.specs.declared.place.Place.{Place}
 use Rattle.atam.specs.TileSystem.{TileSystem}
 use Rattle.atam.specs.Placements.{HasDistinctSites, SamePlacements}
-use Rattle.tile_text.specs.SystemText.{FaultAny, ReadsAny}
+use Rattle.tile_text.specs.SystemText.{ReadsAny}
 use Rattle.seq_text.specs.GrowthText.{ReadsPlacements, ReadsSequence}
 use Rattle.cert_check.specs.declared.entry.Entry.{Entry}
 use Rattle.cert_text.specs.CertificateText.{ReadsCertificate}
-use Rattle.machine_text.specs.Machines.{TuringMachine}
-use Rattle.machine_text.specs.MachineText.{ReadsMachine, machine_format}
-use Rattle.quadrant_compile.specs.Weaves.{Weave}
-use Rattle.quadrant_compile.specs.WeaveText.{ReadsQuadrant, quadrant_format}
 use Rattle.job_board.specs.declared.job.Job.{Job}
 use Rattle.job_board.specs.BatchText.{FaultBatch, ReadsBatch}
-
--- the start of an input
-abbrev pub first_mark : Mark
-first_mark = record { at = 0; line = 1 }
 
 -- the input is the text of this value, as its kind of text is read, and then what may stand behind it
 pub record IsTextThen {Value : Type 0} (IsText : List ℕ → Mark → Value → Mark → Type 0) (IsRest : Value → Mark → Type 0) (input : List ℕ) (value : Value) : Type 0 where
@@ -33,30 +26,24 @@ pub record IsTextThen {Value : Type 0} (IsText : List ℕ → Mark → Value →
   pub reads : IsText input first_mark value end
   pub rest : IsRest value end
 
-abbrev pub IsSystemThen : (TileSystem → Mark → Type 0) → List ℕ → TileSystem → Type 0
-IsSystemThen IsRest input sys = IsTextThen ReadsAny IsRest input sys
-
--- the input is the text of this system, of this machine or of this two-input rule, and only empty lines and remarks follow it
-abbrev pub IsSystemAlone : List ℕ → TileSystem → Type 0
-IsSystemAlone input sys = IsSystemThen (λ sys end. HasNoMore input end) input sys
-
-abbrev pub IsMachineAlone : List ℕ → TuringMachine → Type 0
-IsMachineAlone input M = IsTextThen ReadsMachine (λ M end. HasNoMore input end) input M
-
-abbrev pub IsQuadrantAlone : List ℕ → Weave → Type 0
-IsQuadrantAlone input w = IsTextThen ReadsQuadrant (λ w end. HasNoMore input end) input w
+-- and only empty lines and remarks follow it
+abbrev pub IsAlone : {Value : Type 0} → (List ℕ → Mark → Value → Mark → Type 0) → List ℕ → Value → Type 0
+IsAlone IsText input value = IsTextThen IsText (λ value end. HasNoMore input end) input value
 
 -- the input is the text of a system and then of a sequence
 abbrev pub IsSystemThenSequence : List ℕ → TileSystem → List Place → Type 0
-IsSystemThenSequence input sys sequence = IsSystemThen (λ s end. ReadsSequence s input end sequence) input sys
+IsSystemThenSequence input sys sequence =
+    IsTextThen ReadsAny (λ s end. ReadsSequence s input end sequence) input sys
 
 -- the input is the text of a system and then of these placements, with one line for a site at most
 abbrev pub IsSystemThenPlacements : List ℕ → TileSystem → List Place → Type 0
-IsSystemThenPlacements input sys places = IsSystemThen (λ s end. ReadsPlacements s input end places) input sys
+IsSystemThenPlacements input sys places =
+    IsTextThen ReadsAny (λ s end. ReadsPlacements s input end places) input sys
 
 -- the input is the text of a system and then of a certificate with these entries
 abbrev pub IsSystemThenCertificate : List ℕ → TileSystem → List Entry → Type 0
-IsSystemThenCertificate input sys entries = IsSystemThen (λ s end. ReadsCertificate s input end entries) input sys
+IsSystemThenCertificate input sys entries =
+    IsTextThen ReadsAny (λ s end. ReadsCertificate s input end entries) input sys
 
 -- the assembly has exactly the placements, one at each site
 pub record IsAssemblyOf (places tiles : List Place) : Type 0 where
@@ -64,36 +51,17 @@ pub record IsAssemblyOf (places tiles : List Place) : Type 0 where
   pub distinct : HasDistinctSites tiles
 
 -- of a kind of text, by what it reads as and by its faults, followed by a text of another format
-module _ {Value Item : Type 0} (IsText : List ℕ → Mark → Value → Mark → Type 0) (IsFault : List ℕ → Mark → ℕ → Cause → Type 0) (format : Value → Format Item) (input : List ℕ) where
+module _ {Value Item : Type 0} (IsText : List ℕ → Mark → Value → Mark → Type 0) where
   -- the input is the text of some value, and then one of this format
-  abbrev pub IsReadableAs : Type 0
-  IsReadableAs = (value : Value) × IsTextThen IsText (λ value end. IsRead (format value) input end) input value
+  abbrev pub IsReadable : (Value → Format Item) → List ℕ → Type 0
+  IsReadable format input =
+      (value : Value) × IsTextThen IsText (λ value end. IsRead (format value) input end) input value
 
   -- the text of a value, or what follows it, has this first fault
-  abbrev pub FailsWithinAs : TextFault → Type 0
-  FailsWithinAs fault = IsFault input first_mark fault.line fault.cause
-      ⊎ ((value : Value) × IsTextThen IsText (λ value end. Fault (format value) input end fault.line fault.cause) input value)
-
--- of the text of a system, of either version
-abbrev pub IsReadable : {Item : Type 0} → (TileSystem → Format Item) → List ℕ → Type 0
-IsReadable format input = IsReadableAs ReadsAny FaultAny format input
-
-abbrev pub FailsWithin : {Item : Type 0} → (TileSystem → Format Item) → List ℕ → TextFault → Type 0
-FailsWithin format input fault = FailsWithinAs ReadsAny FaultAny format input fault
-
--- of the text of a machine
-abbrev pub IsReadableMachine : {Item : Type 0} → (TuringMachine → Format Item) → List ℕ → Type 0
-IsReadableMachine format input = IsReadableAs ReadsMachine (Fault machine_format) format input
-
-abbrev pub FailsWithinMachine : {Item : Type 0} → (TuringMachine → Format Item) → List ℕ → TextFault → Type 0
-FailsWithinMachine format input fault = FailsWithinAs ReadsMachine (Fault machine_format) format input fault
-
--- of the text of a two-input rule
-abbrev pub IsReadableQuadrant : {Item : Type 0} → (Weave → Format Item) → List ℕ → Type 0
-IsReadableQuadrant format input = IsReadableAs ReadsQuadrant (Fault quadrant_format) format input
-
-abbrev pub FailsWithinQuadrant : {Item : Type 0} → (Weave → Format Item) → List ℕ → TextFault → Type 0
-FailsWithinQuadrant format input fault = FailsWithinAs ReadsQuadrant (Fault quadrant_format) format input fault
+  abbrev pub FailsWithin : (List ℕ → Mark → ℕ → Cause → Type 0) → (Value → Format Item) → List ℕ → TextFault → Type 0
+  FailsWithin IsFault format input fault = IsFault input first_mark fault.line fault.cause
+      ⊎ ((value : Value)
+        × IsTextThen IsText (λ value end. Fault (format value) input end fault.line fault.cause) input value)
 
 -- the input is the text of a batch of these jobs, which goes on to its end
 abbrev pub IsBatch : List ℕ → List Job → Type 0

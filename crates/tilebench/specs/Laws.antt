@@ -1,4 +1,5 @@
 -- Laws of what commands answer.
+use Rattle.tile_text.specs.SystemText.{ReadsAny}
 use Rattle.std.specs.Prelude.{◌≡◌, ◌⊎◌, ◌≤◌, ◌++◌, ℕ, Bool, true, List, length, Option, Some}
 use Rattle.atam.specs.declared.place.Place.{Place}
 use Rattle.atam.specs.TileSystem.{TileSystem}
@@ -7,12 +8,12 @@ use Rattle.watch_frames.specs.Frames.{AreFrames}
 use Rattle.watch_frames.specs.FrameText.{frames_text}
 use Rattle.tilebench.specs.Commands.Grow.{grow_row}
 use Rattle.tilebench.specs.Commands.Watch.{watch_row}
-use Rattle.tilebench.specs.Inputs.{IsSystemAlone}
+use Rattle.tilebench.specs.Inputs.{IsAlone}
 
 -- a text is so many frames of the input's system with the line `grown`, and then this one
 pub record HasFramesBefore (frames : ℕ) (input growth text : List ℕ) : Type 0 where
   pub sys : TileSystem
-  pub read : IsSystemAlone input sys
+  pub read : IsAlone ReadsAny input sys
   pub places : List Place
   pub counts : List ℕ
   pub are : AreFrames sys places counts

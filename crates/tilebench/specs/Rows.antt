@@ -1,9 +1,12 @@
 -- A row of the table of commands: all that a command is to who runs it.
 use Rattle.std.specs.Prelude.{◌≡◌, ℕ, Bool, true, false, List, [], Option}
+use Rattle.tile_io.specs.declared.fault.Cause.{Cause}
 use Rattle.tile_io.specs.declared.fault.TextFault.{TextFault}
+use Rattle.tile_io.specs.declared.mark.Mark.{Mark}
+use Rattle.tile_io.specs.Formats.{Format}
 use Rattle.site_table.specs.Seats.{GrownValue}
 use Rattle.counter_compile.specs.declared.stop.CounterStop.{CounterStop}
-use Rattle.tilebench.specs.Inputs.{FailsInput, HoldsInput, IsWholeInput}
+use Rattle.tilebench.specs.Inputs.{FailsInput, FailsWithin, HoldsInput, IsReadable, IsWholeInput}
 
 pub record RoomRow : Type 1 where
   -- whether it reads the source, to its end; the input of one that does not is empty
@@ -20,6 +23,28 @@ pub record RoomRow : Type 1 where
 -- a command whose numbers are never refused
 abbrev pub refuses_none : CounterStop → Type 0
 refuses_none stop = ⊥
+
+-- a command that reads the text of a value and then one of a format: what the text reads as and its faults, what follows it, and the answers
+abbrev pub reading : {Value Item : Type 0} →
+    (List ℕ → Mark → Value → Mark → Type 0) → (List ℕ → Mark → ℕ → Cause → Type 0) → (Value → Format Item) →
+    (Option GrownValue → List ℕ → Bool → List ℕ → Type 0) → RoomRow
+reading IsText IsFault format Answers = record {
+  reads = true;
+  answers = Answers;
+  takes = IsReadable IsText format;
+  fails = FailsWithin IsText IsFault format;
+  refuses = refuses_none;
+}
+
+-- a command that reads nothing, and may refuse its numbers: the answers, and why it refuses
+abbrev pub making : (Option GrownValue → Bool → List ℕ → Type 0) → (CounterStop → Type 0) → RoomRow
+making Answers Refuses = record {
+  reads = false;
+  answers = λ grown input. Answers grown;
+  takes = λ input. Unit {0};
+  fails = λ input fault. ⊥;
+  refuses = Refuses;
+}
 
 -- all that was left of the source is the input, or nothing was read
 pub record IsInputOf (row : RoomRow) (left left_after : Option (List ℕ)) (input : List ℕ) : Type 0 where

@@ -11,9 +11,10 @@ pub use Rattle.site_table.specs.Seats.{GrownValue}
 pub use Rattle.unique_law.specs.Outcomes.{Outcome, IsOutcome, IsDeterministicInSomeOrder}
 pub use Rattle.unique_law.specs.Within.{IsYesWithin}
 pub use Rattle.tile_text.specs.Spelling.{spelling}
+pub use Rattle.tile_text.specs.SystemText.{ReadsAny}
 pub use Rattle.watch_frames.specs.FrameText.{IsWatchAnswer}
 pub use Rattle.job_board.specs.declared.job.Job.{Job}
-pub use Rattle.job_board.specs.AnswerText.{batch_text, outcome_text}
+pub use Rattle.job_board.specs.AnswerText.{batch_text, growth_text, is_unique}
 pub use Rattle.counter_compile.specs.declared.stop.CounterStop.{CounterStop}
 pub use Rattle.command_line.specs.declared.commands.Command.{Command}
 pub use Rattle.command_line.specs.declared.commands.CommandName.{CommandName}
@@ -21,9 +22,8 @@ pub use Rattle.command_line.specs.declared.words_stop.WordsStop.{WordsStop}
 pub use Rattle.command_line.specs.Commands.{IsCallOf, IsTaken}
 pub use Rattle.tilebench.specs.declared.status.Status.{Status}
 pub use Rattle.tilebench.specs.Commands.{room_of}
-pub use Rattle.tilebench.specs.Commands.Batch.{are_unique}
 pub use Rattle.tilebench.specs.Rows.{AnswersLeft, FailsLeft, IsReadyFor}
-pub use Rattle.tilebench.specs.Growths.{IsGrowth, growth_text, is_unique}
-pub use Rattle.tilebench.specs.Inputs.{IsBatch, IsSystemAlone, IsSystemThenSequence}
+pub use Rattle.tilebench.specs.Growths.{IsGrowth}
+pub use Rattle.tilebench.specs.Inputs.{IsAlone, IsBatch, IsSystemThenSequence}
 pub use Rattle.tilebench.specs.Gains.{Gains, GainsFront}
 pub use Rattle.tilebench.specs.Refusals.{IsRefusedAs, refused_counter, refused_words, refused_text}

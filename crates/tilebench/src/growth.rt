@@ -1,7 +1,7 @@
 // What a system grew into, as an answer: its tiles, what is open outside its box, and the verdict.
 ghost use Rattle.std.specs.Prelude.{◌≡◌};
 ghost use Rattle.atam.specs.Growth.{IsClosedInBox, IsProducible};
-ghost use Rattle.tilebench.specs.Growths.{growth_text, is_unique};
+ghost use Rattle.job_board.specs.AnswerText.{growth_text, is_unique};
 ghost use Rattle.tilebench.specs.Inner.Rooms.{GrowsTo, HasTypes, IsJudgedGrowth, outcome_of};
 
 use crate::judged::{JudgedGrowth, is_unique};

@@ -1,4 +1,8 @@
 // The system at the front of an input with what follows it, or the machine, two-input rule or batch that it is.
+ghost use Rattle.tile_io.specs.Lines.{first_mark};
+ghost use Rattle.tile_io.specs.Formats.{Fault};
+ghost use Rattle.quadrant_compile.specs.WeaveText.{ReadsQuadrant, quadrant_format};
+ghost use Rattle.machine_text.specs.MachineText.{ReadsMachine, machine_format};
 ghost use Rattle.std.specs.Prelude.{◌≡◌, ◌<◌, ◌≤◌, ◌^◌, ℕ, true, List, [], length, Option, IfOk};
 ghost use Rattle.std.specs.Io.KnownBytes.{IsAtEnd};
 ghost use Rattle.tile_io.specs.declared.limits.TheConstants.{MOST_INPUT};
@@ -15,7 +19,7 @@ ghost use Rattle.atam.specs.Assembly.{Fits};
 ghost use Rattle.seq_text.specs.GrowthText.{grid_format, sequence_format};
 ghost use Rattle.cert_check.specs.Certificates.{places_of};
 ghost use Rattle.cert_text.specs.CertificateText.{certificate_format};
-ghost use Rattle.tilebench.specs.Inputs.{FailsBatch, FailsWithin, FailsWithinMachine, FailsWithinQuadrant, IsAssemblyOf, IsBatch, IsMachineAlone, IsQuadrantAlone, IsSystemAlone, IsSystemThenCertificate, IsSystemThenPlacements, IsSystemThenSequence, alone, first_mark};
+ghost use Rattle.tilebench.specs.Inputs.{FailsBatch, FailsWithin, IsAlone, IsAssemblyOf, IsBatch, IsSystemThenCertificate, IsSystemThenPlacements, IsSystemThenSequence, alone};
 
 use crate::stop::Stop;
 use assembly::{Grid, Sequence};
@@ -44,7 +48,7 @@ pub fn read_front(alloc: Global, input: &[u8]) -> Result<(System, Mark), Stop>
 /// The system whose text the input is.
 pub fn read_alone(alloc: Global, input: &[u8]) -> Result<System, Stop>
     requires { length input.now ≤ MOST_INPUT }
-    ensures { Gives (IsSystemAlone input.now) (FailsWithin alone input.now) result }
+    ensures { Gives (IsAlone ReadsAny input.now) (FailsWithin ReadsAny FaultAny alone input.now) result }
 {
     let (sys, end) = read_front(alloc, input)?;
     check_rest(input, end)?;
@@ -54,7 +58,7 @@ pub fn read_alone(alloc: Global, input: &[u8]) -> Result<System, Stop>
 /// The machine whose text the input is.
 pub fn read_machine_alone(alloc: Global, input: &[u8]) -> Result<Machine, Stop>
     requires { length input.now ≤ MOST_INPUT }
-    ensures read { Gives (IsMachineAlone input.now) (FailsWithinMachine alone input.now) result }
+    ensures read { Gives (IsAlone ReadsMachine input.now) (FailsWithin ReadsMachine (Fault machine_format) alone input.now) result }
     ensures valid { IfOk result IsMachine }
 {
     let (machine, end) = read_machine(alloc, input, Mark::start())?;
@@ -65,7 +69,7 @@ pub fn read_machine_alone(alloc: Global, input: &[u8]) -> Result<Machine, Stop>
 /// The two-input rule whose text the input is.
 pub fn read_quadrant_alone(alloc: Global, input: &[u8]) -> Result<Quadrant, Stop>
     requires { length input.now ≤ MOST_INPUT }
-    ensures read { Gives (IsQuadrantAlone input.now) (FailsWithinQuadrant alone input.now) result }
+    ensures read { Gives (IsAlone ReadsQuadrant input.now) (FailsWithin ReadsQuadrant (Fault quadrant_format) alone input.now) result }
     ensures valid { IfOk result IsWeave }
 {
     let (quadrant, end) = read_quadrant(alloc, input, Mark::start())?;
@@ -90,7 +94,7 @@ pub fn system_and_sequence<S: Source>(
 ) -> Result<(System, Sequence), Stop>
     ensures read { GivesRead S.left S.faults
         (HoldsWhole (λ input found. IsSystemThenSequence input found.0 found.1))
-        (FailsWithin sequence_format) source.old source.new result }
+        (FailsWithin ReadsAny FaultAny sequence_format) source.old source.new result }
     ensures later { S.faults source.old ≤ S.faults source.new }
     ensures fits { IfOk result (λ found. Fits found.0 found.1) }
     ensures short { IfOk result (λ found. length found.1 < 2 ^ 32) }
@@ -105,7 +109,7 @@ pub fn system_and_grid<S: Source>(alloc: Global, source: &mut S) -> Result<(Syst
     ensures read { GivesRead S.left S.faults
         (HoldsWhole (λ input found. (places : List Place)
         × IsSystemThenPlacements input found.0 places × IsAssemblyOf places found.1.tiles))
-        (FailsWithin grid_format) source.old source.new result }
+        (FailsWithin ReadsAny FaultAny grid_format) source.old source.new result }
     ensures later { S.faults source.old ≤ S.faults source.new }
     ensures area { IfOk result (λ found. found.1.area ≡ found.0.area) }
     ensures fits { IfOk result (λ found. Fits found.0 found.1.tiles) }
@@ -122,7 +126,7 @@ pub fn system_and_certificate<S: Source>(
 ) -> Result<(System, Certificate), Stop>
     ensures read { GivesRead S.left S.faults
         (HoldsWhole (λ input found. IsSystemThenCertificate input found.0 found.1))
-        (FailsWithin certificate_format) source.old source.new result }
+        (FailsWithin ReadsAny FaultAny certificate_format) source.old source.new result }
     ensures later { S.faults source.old ≤ S.faults source.new }
     ensures fits { IfOk result (λ found. Fits found.0 (places_of found.1)) }
 {

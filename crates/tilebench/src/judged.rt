@@ -6,7 +6,7 @@ ghost use Rattle.type_index.specs.Indexes.{IsIndexOf};
 ghost use Rattle.replay_order.specs.ReplayAnswers.{IsWholeOrder};
 ghost use Rattle.local_check.specs.Judgement.{IsVerdict};
 ghost use Rattle.grow_workers.specs.Workers.{IsGrownBy, IsSeenOrder};
-ghost use Rattle.tilebench.specs.Growths.{is_unique};
+ghost use Rattle.job_board.specs.AnswerText.{is_unique};
 ghost use Rattle.tilebench.specs.Inner.Rooms.{IsJudgedGrowth};
 
 use crate::order::{grow_ordered, known_or_found_order};

@@ -3,7 +3,8 @@ ghost use Rattle.std.specs.Prelude.{◌≡◌, IfOk};
 ghost use Rattle.atam.specs.Assembly.{Fits};
 ghost use Rattle.replay_order.specs.ReplayAnswers.{LacksSeed};
 ghost use Rattle.tile_io.specs.Prints.{Prints};
-ghost use Rattle.tilebench.specs.Commands.Replay.{IsReordering, LacksSeedAt, reordering_text};
+ghost use Rattle.tilebench.specs.Commands.Replay.{LacksSeedAt};
+ghost use Rattle.tilebench.specs.Inner.Reorderings.{IsReordering, reordering_text};
 ghost use Rattle.tilebench.specs.Inner.Rooms.{OrdersTypes};
 
 use assembly::{Grid, Sequence};

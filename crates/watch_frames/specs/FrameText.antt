@@ -21,15 +21,10 @@ spans_from number before (count ∷ counts) = record { number = number; before =
 abbrev pub spans : List ℕ → List FrameSpan
 spans counts = spans_from 1 0 counts
 
--- the places that a frame adds
-abbrev pub added : List Place → FrameSpan → List Place
-added places span = drop span.before (take span.count places)
-
-abbrev pub head_line : FrameSpan → List ℕ
-head_line span = line_of (codes "frame" ∷ decimal span.number ∷ decimal span.count ∷ [])
-
+-- the lines of a frame: its number and how many places it has, and then the places that it adds
 abbrev pub span_lines : TileSystem → List Place → FrameSpan → List ℕ
-span_lines sys places span = head_line span ++ place_lines sys (added places span)
+span_lines sys places span = line_of (codes "frame" ∷ decimal span.number ∷ decimal span.count ∷ [])
+    ++ place_lines sys (drop span.before (take span.count places))
 
 -- each frame with the places that it adds, and then that all is grown
 abbrev pub frames_text : TileSystem → List Place → List ℕ → List ℕ

@@ -12,7 +12,7 @@ use Rattle.cert_text.specs.declared.keyword.LineKind.TheVariants.{Mark}
 use Rattle.cert_text.specs.CertificateText.{mark_row}
 
 -- the row of a keyword in the table
-abbrev pub row_of : TileSystem → LineKind → Keyword Entry
+abbrev pub row_of : TileSystem → LineKind → Keyword (List Entry) Entry
 row_of sys Mark = mark_row sys
 
 -- entries of a certificate that fit the system, and a grid of their tiles over its box

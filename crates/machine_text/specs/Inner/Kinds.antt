@@ -1,22 +1,22 @@
 -- The keywords of a machine text, as the code has them.
-use Rattle.std.specs.Prelude.{Bool, true, false, Option, Some, None}
-use Rattle.tile_io.specs.Checks.{Keyword}
+use Rattle.std.specs.Prelude.{Bool, true, false, List, Option, Some, None}
+use Rattle.tile_io.specs.Checks.{Keyword, told_by}
 use Rattle.machine_text.specs.declared.kind.LineKind.{LineKind}
 use Rattle.machine_text.specs.declared.kind.LineKind.TheVariants as kinds
-use Rattle.machine_text.specs.MachineText.{MachineItem, machine_row, state_row, symbol_row, rule_row, cells_row, rows_row, head_row, tape_row, end_row}
+use Rattle.machine_text.specs.MachineText.{MachineItem, machine_of, machine_row, state_row, symbol_row, rule_row, cells_row, rows_row, head_row, tape_row, end_row}
 use Rattle.machine_text.specs.MachineText.MachineItem.{Header, StateLine, SymbolLine, RuleLine, CellsLine, RowsLine, HeadLine, TapeLine, EndLine}
 
 -- the row of a keyword in the table
-abbrev pub row_of : LineKind → Keyword MachineItem
-row_of kinds.Machine = machine_row
-row_of kinds.State = state_row
-row_of kinds.Symbol = symbol_row
-row_of kinds.Rule = rule_row
-row_of kinds.Cells = cells_row
-row_of kinds.Rows = rows_row
-row_of kinds.Head = head_row
-row_of kinds.Tape = tape_row
-row_of kinds.End = end_row
+abbrev pub row_of : LineKind → Keyword (List MachineItem) MachineItem
+row_of kinds.Machine = told_by machine_of machine_row
+row_of kinds.State = told_by machine_of state_row
+row_of kinds.Symbol = told_by machine_of symbol_row
+row_of kinds.Rule = told_by machine_of rule_row
+row_of kinds.Cells = told_by machine_of cells_row
+row_of kinds.Rows = told_by machine_of rows_row
+row_of kinds.Head = told_by machine_of head_row
+row_of kinds.Tape = told_by machine_of tape_row
+row_of kinds.End = told_by machine_of end_row
 
 -- the keyword of a line
 abbrev pub kind_of : MachineItem → LineKind

@@ -12,7 +12,7 @@ use Rattle.seq_text.specs.GrowthText.GrowthItem.{PlaceLine, ClosedLine, UniqueLi
 use Rattle.seq_text.specs.ScheduleText.{look_row, claim_row, split_row, join_row}
 
 -- the row of a keyword in the table of growth texts
-abbrev pub row_of : Bool → TileSystem → LineKind → Keyword GrowthItem
+abbrev pub row_of : Bool → TileSystem → LineKind → Keyword (List GrowthItem) GrowthItem
 row_of distinct sys kinds.Place = place_row distinct sys
 row_of distinct sys kinds.Closed = closed_row
 row_of distinct sys kinds.Unique = unique_row
@@ -39,7 +39,7 @@ may_stand_after kinds.Unique (Some kinds.Closed) = true
 may_stand_after kind last = false
 
 -- the row of a keyword in the table of schedule texts
-abbrev pub action_row : TileSystem → Action → Keyword Event
+abbrev pub action_row : TileSystem → Action → Keyword (List Event) Event
 action_row sys actions.Look = look_row
 action_row sys actions.Claim = claim_row sys
 action_row sys actions.Split = split_row

@@ -3,25 +3,20 @@ use Rattle.std.specs.Prelude.{◌≡◌, ℕ, Bool, true, List}
 use Rattle.std.specs.List.{list_all}
 use Rattle.unique_law.specs.Outcomes.{Outcome}
 use Rattle.job_board.specs.declared.job.Job.{Job}
-use Rattle.job_board.specs.AnswerText.{batch_text}
+use Rattle.job_board.specs.AnswerText.{batch_text, is_unique}
 use Rattle.job_board.specs.Answers.{AnswerEach}
 use Rattle.tilebench.specs.Growing.{TellsNoGrowth}
-use Rattle.tilebench.specs.Growths.{is_unique}
 use Rattle.tilebench.specs.Inputs.{FailsBatch, IsBatch, IsReadableBatch}
 use Rattle.tilebench.specs.Rows.{RoomRow, refuses_none}
 
--- each verdict is a yes
-abbrev pub are_unique : List Outcome → Bool
-are_unique outcomes = list_all (λ outcome. is_unique outcome.verdict) outcomes
-
--- The input is the text of a batch, and this that of what answers its jobs: under the number of each job what its own system grew into.
+-- The input is the text of a batch, and this that of what answers its jobs: under the number of each job what its own system grew into. It is a yes where each verdict is.
 pub record IsBatchAnswer (input : List ℕ) (is_yes : Bool) (text : List ℕ) : Type 0 where
   pub jobs : List Job
   pub read : IsBatch input jobs
   pub outcomes : List Outcome
   pub answered : AnswerEach jobs outcomes
   pub printed : text ≡ batch_text jobs outcomes
-  pub answer : is_yes ≡ are_unique outcomes
+  pub answer : is_yes ≡ list_all (λ outcome. is_unique outcome.verdict) outcomes
 
 abbrev pub batch_row : RoomRow
 batch_row = record {

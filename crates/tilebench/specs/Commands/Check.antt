@@ -10,8 +10,8 @@ use Rattle.seq_text.specs.GrowthText.{sequence_format}
 use Rattle.seq_text.specs.LegalityLines.{legality_line}
 use Rattle.seq_text.specs.VerdictLines.{verdict_line}
 use Rattle.tilebench.specs.Growing.{TellsNoGrowth}
-use Rattle.tilebench.specs.Growths.{is_unique}
-use Rattle.tilebench.specs.Inputs.{FailsWithin, IsReadable, IsSystemThenSequence}
+use Rattle.job_board.specs.AnswerText.{is_unique}
+use Rattle.tilebench.specs.Inputs.{IsSystemThenSequence}
 use Rattle.tilebench.specs.Rows.{RoomRow, refuses_none}
 
 -- the text of the judgement on a sequence
@@ -33,12 +33,3 @@ pub record IsCheckAnswer (input : List ℕ) (is_yes : Bool) (text : List ℕ) : 
   pub judged : IsJudged sys sequence judgement
   pub printed : text ≡ judgement_text sys judgement
   pub answer : is_yes ≡ is_judged_unique judgement
-
-abbrev pub check_row : RoomRow
-check_row = record {
-  reads = true;
-  answers = TellsNoGrowth IsCheckAnswer;
-  takes = IsReadable sequence_format;
-  fails = FailsWithin sequence_format;
-  refuses = refuses_none;
-}

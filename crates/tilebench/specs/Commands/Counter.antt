@@ -2,7 +2,7 @@
 use Rattle.std.specs.Prelude.{◌≡◌, ℕ, Bool, true, false, List, Option, Some, None}
 use Rattle.site_table.specs.Seats.{GrownValue}
 use Rattle.counter_compile.specs.Counters.{counter_refusal, counter_system}
-use Rattle.tilebench.specs.Rows.{RoomRow}
+use Rattle.tilebench.specs.Rows.{RoomRow, making}
 use Rattle.tilebench.specs.Spelled.{SpellsSystem}
 
 -- the counter is not refused, and this is the one spelling of its system, of which the laws of `counter_compile` hold; no growth is handed out
@@ -13,10 +13,5 @@ pub record IsCounterAnswer (bits start : ℕ) (grown : Option GrownValue) (is_ye
   pub answer : is_yes ≡ true
 
 abbrev pub counter_row : ℕ → ℕ → RoomRow
-counter_row bits start = record {
-  reads = false;
-  answers = λ grown input. IsCounterAnswer bits start grown;
-  takes = λ input. Unit {0};
-  fails = λ input fault. ⊥;
-  refuses = λ stop. counter_refusal bits start ≡ Some stop;
-}
+counter_row bits start =
+    making (IsCounterAnswer bits start) (λ stop. counter_refusal bits start ≡ Some stop)

@@ -13,7 +13,7 @@ use Rattle.seq_text.specs.GrowthLines.{closed_line}
 use Rattle.seq_text.specs.VerdictLines.{verdict_line}
 use Rattle.unique_law.specs.Outcomes.{Outcome}
 use Rattle.tilebench.specs.Growths.{IsGrowth}
-use Rattle.tilebench.specs.Rows.{RoomRow, refuses_none}
+use Rattle.tilebench.specs.Rows.{RoomRow, making, refuses_none}
 
 -- The counter of a load: 2 to 32 bits, and at most 512 numbers from its start to the last one of so many bits.
 abbrev pub load_bits : ℕ → ℕ
@@ -62,10 +62,4 @@ pub record IsLoadAnswer (number : ℕ) (grown : Option GrownValue) (is_yes : Boo
   pub answer : is_yes ≡ true
 
 abbrev pub load_row : ℕ → RoomRow
-load_row number = record {
-  reads = false;
-  answers = λ grown input. IsLoadAnswer number grown;
-  takes = λ input. Unit {0};
-  fails = λ input fault. ⊥;
-  refuses = refuses_none;
-}
+load_row number = making (IsLoadAnswer number) refuses_none

@@ -5,7 +5,7 @@ use Rattle.atam.specs.TileSystem.{TileSystem}
 use Rattle.picture.specs.Pictures.{picture_text}
 use Rattle.seq_text.specs.GrowthText.{grid_format}
 use Rattle.tilebench.specs.Growing.{TellsNoGrowth}
-use Rattle.tilebench.specs.Inputs.{FailsWithin, IsAssemblyOf, IsReadable, IsSystemThenPlacements}
+use Rattle.tilebench.specs.Inputs.{IsAssemblyOf, IsSystemThenPlacements}
 use Rattle.tilebench.specs.Rows.{RoomRow, refuses_none}
 
 -- the input is the text of a system and then of placements, and this the picture of their assembly in the system's box
@@ -17,12 +17,3 @@ pub record IsPictureAnswer (input : List ℕ) (is_yes : Bool) (text : List ℕ) 
   pub assembly : IsAssemblyOf places tiles
   pub printed : text ≡ picture_text sys (record { area = sys.area; tiles = tiles })
   pub answer : is_yes ≡ true
-
-abbrev pub picture_row : RoomRow
-picture_row = record {
-  reads = true;
-  answers = TellsNoGrowth IsPictureAnswer;
-  takes = IsReadable grid_format;
-  fails = FailsWithin grid_format;
-  refuses = refuses_none;
-}

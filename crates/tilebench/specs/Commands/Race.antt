@@ -1,4 +1,5 @@
 -- `race`: how many tiles each worker won.
+use Rattle.tile_text.specs.SystemText.{ReadsAny, FaultAny}
 use Rattle.std.specs.Prelude.{◌≡◌, ◌++◌, ℕ, Bool, true, List, [], ◌∷◌, codes, decimal, flat_map, sum_by}
 use Rattle.atam.specs.TileSystem.{TileSystem}
 use Rattle.atam.specs.Growth.{IsFullGrowth}
@@ -6,19 +7,16 @@ use Rattle.tile_io.specs.Lines.{line_of}
 use Rattle.site_table.specs.Seats.{GrownValue}
 use Rattle.tilebench.specs.declared.wins.Win.{Win}
 use Rattle.tilebench.specs.Growing.{TellsGrowth}
-use Rattle.tilebench.specs.Inputs.{FailsWithin, IsReadable, alone}
-use Rattle.tilebench.specs.Rows.{RoomRow, refuses_none}
+use Rattle.tilebench.specs.Inputs.{alone}
+use Rattle.tilebench.specs.Rows.{RoomRow, refuses_none, reading}
 use Rattle.tilebench.specs.Wins.{AreShares}
 
 abbrev pub win_line : Win → List ℕ
 win_line win = line_of (codes "won" ∷ decimal win.worker ∷ decimal win.count ∷ [])
 
-abbrev pub total_line : ℕ → List ℕ
-total_line total = line_of (codes "total" ∷ decimal total ∷ [])
-
 -- a line for each worker, and one for all
 abbrev pub race_text : List Win → ℕ → List ℕ
-race_text wins total = flat_map win_line wins ++ total_line total
+race_text wins total = flat_map win_line wins ++ line_of (codes "total" ∷ decimal total ∷ [])
 
 -- this is the text of what each worker won
 pub record IsRaceText (workers : ℕ) (sys : TileSystem) (table : GrownValue) (is_yes : Bool) (text : List ℕ) : Type 0 where
@@ -31,10 +29,4 @@ pub record IsRaceText (workers : ℕ) (sys : TileSystem) (table : GrownValue) (i
   pub answer : is_yes ≡ true
 
 abbrev pub race_row : ℕ → RoomRow
-race_row workers = record {
-  reads = true;
-  answers = TellsGrowth (IsRaceText workers) workers;
-  takes = IsReadable alone;
-  fails = FailsWithin alone;
-  refuses = refuses_none;
-}
+race_row workers = reading ReadsAny FaultAny alone (TellsGrowth (IsRaceText workers) workers)

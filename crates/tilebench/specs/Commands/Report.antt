@@ -1,4 +1,5 @@
 -- `report`: what is to be told of a growth, as one line of JSON.
+use Rattle.tile_text.specs.SystemText.{ReadsAny, FaultAny}
 use Rattle.std.specs.Prelude.{◌≡◌, ℕ, Bool, true, List, [], ◌∷◌, length, map, is_some}
 use Rattle.atam.specs.TileSystem.{TileSystem}
 use Rattle.tile_io.specs.Lines.{line_of}
@@ -7,9 +8,10 @@ use Rattle.report.specs.Reports.{report_line}
 use Rattle.unique_law.specs.Outcomes.{Outcome}
 use Rattle.tilebench.specs.declared.wins.Win.{Win}
 use Rattle.tilebench.specs.Growing.{TellsGrowth}
-use Rattle.tilebench.specs.Growths.{IsGrowth, is_unique}
-use Rattle.tilebench.specs.Inputs.{FailsWithin, IsReadable, alone}
-use Rattle.tilebench.specs.Rows.{RoomRow, refuses_none}
+use Rattle.job_board.specs.AnswerText.{is_unique}
+use Rattle.tilebench.specs.Growths.{IsGrowth}
+use Rattle.tilebench.specs.Inputs.{alone}
+use Rattle.tilebench.specs.Rows.{RoomRow, refuses_none, reading}
 use Rattle.tilebench.specs.Wins.{AreShares}
 
 -- the line that reports so many tiles with this outcome, and what each worker won
@@ -26,10 +28,4 @@ pub record IsReportText (workers : ℕ) (sys : TileSystem) (table : GrownValue) 
   pub answer : is_yes ≡ is_unique outcome.verdict
 
 abbrev pub report_row : ℕ → RoomRow
-report_row workers = record {
-  reads = true;
-  answers = TellsGrowth (IsReportText workers) workers;
-  takes = IsReadable alone;
-  fails = FailsWithin alone;
-  refuses = refuses_none;
-}
+report_row workers = reading ReadsAny FaultAny alone (TellsGrowth (IsReportText workers) workers)

@@ -1,4 +1,5 @@
 -- `schedule`: steps of several scouts, run on a growth core.
+use Rattle.tile_text.specs.SystemText.{ReadsAny}
 use Rattle.std.specs.Prelude.{◌≡◌, ◌++◌, ℕ, Bool, true, List, map, All, Result, is_ok}
 use Rattle.std.specs.List.{list_all}
 use Rattle.atam.specs.declared.place.Place.{Place}
@@ -13,7 +14,7 @@ use Rattle.seq_text.specs.GrowthLines.{place_lines}
 use Rattle.seq_text.specs.ScheduleText.{ReadsEvents, schedule_format}
 use Rattle.seq_text.specs.SeenLines.{seen_lines, HasLine}
 use Rattle.tilebench.specs.Growing.{TellsNoGrowth}
-use Rattle.tilebench.specs.Inputs.{FailsWithin, IsReadable, IsSystemThen}
+use Rattle.tilebench.specs.Inputs.{IsTextThen}
 use Rattle.tilebench.specs.Rows.{RoomRow, refuses_none}
 
 -- the events one after another on the growth core, each with its reply
@@ -47,7 +48,7 @@ are_answered replies = list_all is_ok replies
 
 -- the input is the text of a system and then of these events
 abbrev pub IsSystemThenEvents : List ℕ → TileSystem → List Event → Type 0
-IsSystemThenEvents input sys events = IsSystemThen (λ s end. ReadsEvents s input end events) input sys
+IsSystemThenEvents input sys events = IsTextThen ReadsAny (λ s end. ReadsEvents s input end events) input sys
 
 -- and this is the text of the replies to them
 pub record IsScheduleAnswer (input : List ℕ) (is_yes : Bool) (text : List ℕ) : Type 0 where
@@ -58,12 +59,3 @@ pub record IsScheduleAnswer (input : List ℕ) (is_yes : Bool) (text : List ℕ)
   pub replied : AreReplies sys events schedule
   pub printed : text ≡ schedule_text sys schedule
   pub answer : is_yes ≡ are_answered schedule.replies
-
-abbrev pub schedule_row : RoomRow
-schedule_row = record {
-  reads = true;
-  answers = TellsNoGrowth IsScheduleAnswer;
-  takes = IsReadable schedule_format;
-  fails = FailsWithin schedule_format;
-  refuses = refuses_none;
-}

@@ -10,7 +10,7 @@ use Rattle.cert_check.specs.Laws.{IsCertified}
 use Rattle.cert_text.specs.CertificateLines.{verified_line}
 use Rattle.cert_text.specs.CertificateText.{certificate_format}
 use Rattle.tilebench.specs.Growing.{TellsNoGrowth}
-use Rattle.tilebench.specs.Inputs.{FailsWithin, IsReadable, IsSystemThenCertificate}
+use Rattle.tilebench.specs.Inputs.{IsSystemThenCertificate}
 use Rattle.tilebench.specs.Rows.{RoomRow, refuses_none}
 
 -- it is a yes where no check fails
@@ -29,12 +29,3 @@ pub record IsVerifyAnswer (input : List ℕ) (is_yes : Bool) (text : List ℕ) :
   pub answer : is_yes ≡ is_verified verdict
   -- a yes exactly where some locally deterministic sequence has exactly the entries' places, their sides as its input sides, and ranks that rise
   pub certified : is_yes ≡ true ↔ ((s : List Place) × IsCertified sys entries s)
-
-abbrev pub verify_row : RoomRow
-verify_row = record {
-  reads = true;
-  answers = TellsNoGrowth IsVerifyAnswer;
-  takes = IsReadable certificate_format;
-  fails = FailsWithin certificate_format;
-  refuses = refuses_none;
-}

@@ -1,4 +1,5 @@
 -- The system that an input begins with, in what was read of the input so far.
+use Rattle.tile_io.specs.Lines.{first_mark}
 use Rattle.std.specs.Prelude.{◌≡◌, ◌≤◌, ℕ, true, List, [], length, Option}
 use Rattle.std.specs.Io.KnownBytes.{IsAtEnd}
 use Rattle.tile_io.specs.declared.fault.TextFault.{TextFault}
@@ -6,7 +7,7 @@ use Rattle.tile_io.specs.declared.limits.TheConstants.{MOST_INPUT}
 use Rattle.tile_io.specs.Blocks.{TakesOn}
 use Rattle.tile_text.specs.SystemText.{FaultAny, ReadsAny}
 use Rattle.tilebench.specs.declared.input.SystemFront.{SystemFront}
-use Rattle.tilebench.specs.Inputs.{first_mark}
+
 
 -- what was read is short, begins with the text of the system, and is all where it is said so
 pub record IsFront (left left_after : Option (List ℕ)) (front : SystemFront) : Type 0 where

@@ -12,7 +12,8 @@ use Rattle.machine_text.specs.Machines.{TuringMachine}
 use Rattle.machine_text.specs.MachineText.{ReadsMachine, machine_format, machine_of}
 use Rattle.quadrant_compile.specs.Weaves.{Weave}
 use Rattle.quadrant_compile.specs.WeaveText.{ReadsQuadrant, quadrant_format, weave_of}
-use Rattle.tilebench.specs.Inputs.{FailsWithin, FailsWithinAs, FailsWithinMachine, FailsWithinQuadrant, IsReadable, IsReadableAs, IsReadableMachine, IsReadableQuadrant, first_mark}
+use Rattle.tile_io.specs.Lines.{first_mark}
+use Rattle.tilebench.specs.Inputs.{FailsWithin, IsReadable}
 
 -- where a text of some kind has no fault, and is that of one value
 module _ {Value : Type 0} (IsText : List ℕ → Mark → Value → Mark → Type 0) (IsFault : List ℕ → Mark → ℕ → Cause → Type 0)
@@ -20,7 +21,7 @@ module _ {Value : Type 0} (IsText : List ℕ → Mark → Value → Mark → Typ
     (one : (text : List ℕ) (from to end : Mark) (value other : Value) → IsText text from value to → IsText text from other end → (value ≡ other) × (to ≡ end)) where
   module _ {Item : Type 0} (format : Value → Format Item) (input : List ℕ) (fault : TextFault) where
     -- an input that reads as such a text and then one of the format has no fault
-    taken_or_faulty_as : IsReadableAs IsText IsFault format input → FailsWithinAs IsText IsFault format input fault → ⊥
+    taken_or_faulty_as : IsReadable IsText format input → FailsWithin IsText IsFault format input fault → ⊥
     taken_or_faulty_as (value, whole) (inl fails) = faultless input first_mark whole.end value fault.line fault.cause whole.reads fails
     taken_or_faulty_as (value, whole) (inr (other, behind)) =
         let same = one input first_mark whole.end behind.end value other whole.reads behind.reads in
@@ -45,13 +46,13 @@ one_quadrant text from to end w v reads other =
     (reads.weave ∙ ap weave_of same.0 ∙ sym other.weave, same.1)
 
 -- of the text of a system
-pub taken_or_faulty : {Item : Type 0} (format : TileSystem → Format Item) (input : List ℕ) (fault : TextFault) → IsReadable format input → FailsWithin format input fault → ⊥
+pub taken_or_faulty : {Item : Type 0} (format : TileSystem → Format Item) (input : List ℕ) (fault : TextFault) → IsReadable ReadsAny format input → FailsWithin ReadsAny FaultAny format input fault → ⊥
 taken_or_faulty format input fault taken fails = taken_or_faulty_as ReadsAny FaultAny any_not_both any_one_system format input fault taken fails
 
 -- of the text of a machine
-pub taken_or_faulty_machine : {Item : Type 0} (format : TuringMachine → Format Item) (input : List ℕ) (fault : TextFault) → IsReadableMachine format input → FailsWithinMachine format input fault → ⊥
+pub taken_or_faulty_machine : {Item : Type 0} (format : TuringMachine → Format Item) (input : List ℕ) (fault : TextFault) → IsReadable ReadsMachine format input → FailsWithin ReadsMachine (Fault machine_format) format input fault → ⊥
 taken_or_faulty_machine format input fault taken fails = taken_or_faulty_as ReadsMachine (Fault machine_format) machine_faultless one_machine format input fault taken fails
 
 -- of the text of a two-input rule
-pub taken_or_faulty_quadrant : {Item : Type 0} (format : Weave → Format Item) (input : List ℕ) (fault : TextFault) → IsReadableQuadrant format input → FailsWithinQuadrant format input fault → ⊥
+pub taken_or_faulty_quadrant : {Item : Type 0} (format : Weave → Format Item) (input : List ℕ) (fault : TextFault) → IsReadable ReadsQuadrant format input → FailsWithin ReadsQuadrant (Fault quadrant_format) format input fault → ⊥
 taken_or_faulty_quadrant format input fault taken fails = taken_or_faulty_as ReadsQuadrant (Fault quadrant_format) quadrant_faultless one_quadrant format input fault taken fails

@@ -22,7 +22,8 @@ use Rattle.tilebench.specs.declared.commands.schedule.Scheduled.{Scheduled}
 use Rattle.tile_io.specs.Lines.{line_of}
 use Rattle.tilebench.specs.declared.wins.Win.{Win}
 use Rattle.tilebench.specs.declared.commands.reports.Reported.{Reported}
-use Rattle.tilebench.specs.Growths.{IsGrowth, is_unique}
+use Rattle.job_board.specs.AnswerText.{is_unique}
+use Rattle.tilebench.specs.Growths.{IsGrowth}
 use Rattle.tilebench.specs.Commands.Report.{report_of}
 use Rattle.tilebench.specs.Commands.Schedule.{AreReplies, ScheduleOutcome}
 

@@ -1,9 +1,10 @@
 // `batch`: what many systems grow into, each within its own box.
 ghost use Rattle.std.specs.Prelude.{◌≡◌, ◌≤◌, length};
+ghost use Rattle.std.specs.List.{list_all};
 ghost use Rattle.tile_io.specs.declared.limits.TheConstants.{MOST_INPUT};
-ghost use Rattle.job_board.specs.AnswerText.{batch_text};
+ghost use Rattle.job_board.specs.AnswerText.{batch_text, is_unique};
 ghost use Rattle.job_board.specs.Answers.{AnswerEach};
-ghost use Rattle.tilebench.specs.Commands.Batch.{are_unique, batch_row};
+ghost use Rattle.tilebench.specs.Commands.Batch.{batch_row};
 ghost use Rattle.tilebench.specs.Inner.BatchReadings.{taken_or_faulty_batch};
 ghost use Rattle.std.specs.Thread.{IsSync};
 ghost use Rattle.tilebench.specs.Inner.Gives.{GivesAnswer};
@@ -100,7 +101,7 @@ impl Drop for Batched {
 impl Reply for Batched {
     ghost text = { λ batched. batch_text batched.jobs.items batched.outcomes.items };
 
-    ghost yes = { λ batched. are_unique batched.outcomes.items };
+    ghost yes = { λ batched. list_all (λ outcome. is_unique outcome.verdict) batched.outcomes.items };
 
     ghost printable = { λ batched. AnswerEach batched.jobs.items batched.outcomes.items };
 

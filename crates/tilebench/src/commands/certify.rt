@@ -4,7 +4,8 @@ ghost use Rattle.atam.specs.Assembly.{Fits};
 ghost use Rattle.replay_order.specs.ReplayAnswers.{IsWholeOrder};
 ghost use Rattle.local_check.specs.SideSets.{AreSidesOf};
 ghost use Rattle.seq_text.specs.GrowthText.{grid_format};
-ghost use Rattle.tilebench.specs.Commands.Certify.{IsCertification, certification_text, certify_row, is_given};
+ghost use Rattle.tilebench.specs.Inner.Certifications.{IsCertification, certification_text, is_given};
+ghost use Rattle.tilebench.specs.Inner.CommandRows.{certify_row};
 ghost use Rattle.tilebench.specs.Inner.Rooms.{CertifiesTypes};
 ghost use Rattle.tilebench.specs.Inner.Readings.{taken_or_faulty};
 

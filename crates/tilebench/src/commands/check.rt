@@ -5,7 +5,8 @@ ghost use Rattle.local_check.specs.Judged.{IsJudged};
 ghost use Rattle.tile_io.specs.Prints.{Prints};
 ghost use Rattle.seq_text.specs.GrowthText.{sequence_format};
 ghost use Rattle.atam.specs.Verdicts.{NamesTypes};
-ghost use Rattle.tilebench.specs.Commands.Check.{check_row, is_judged_unique, judgement_text};
+ghost use Rattle.tilebench.specs.Commands.Check.{is_judged_unique, judgement_text};
+ghost use Rattle.tilebench.specs.Inner.CommandRows.{check_row};
 ghost use Rattle.tilebench.specs.Inner.Rooms.{NamesItsTypes};
 ghost use Rattle.tilebench.specs.Inner.Readings.{taken_or_faulty};
 

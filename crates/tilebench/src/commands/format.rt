@@ -1,6 +1,6 @@
 // `format`: the one spelling of a system.
 ghost use Rattle.tilebench.specs.Inputs.{alone};
-ghost use Rattle.tilebench.specs.Commands.Format.{format_row};
+ghost use Rattle.tilebench.specs.Inner.CommandRows.{format_row};
 ghost use Rattle.tilebench.specs.Inner.Readings.{taken_or_faulty};
 
 use crate::input::read_alone;

@@ -8,7 +8,7 @@ ghost use Rattle.counter_compile.specs.Counters.{counter_refusal, counter_system
 ghost use Rattle.seq_text.specs.GrowthLines.{closed_line};
 ghost use Rattle.seq_text.specs.VerdictLines.{verdict_line};
 ghost use Rattle.tilebench.specs.Commands.Load.{counter_line, load_bits, load_row, load_start, numbers_after_start, summary, tiles_line};
-ghost use Rattle.tilebench.specs.Growths.{is_unique};
+ghost use Rattle.job_board.specs.AnswerText.{is_unique};
 ghost use Rattle.tilebench.specs.Inner.Rooms.{HasTypes, outcome_of};
 
 use crate::growth::{Growth, growth_of};

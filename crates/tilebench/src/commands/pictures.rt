@@ -3,7 +3,7 @@ ghost use Rattle.std.specs.Prelude.{◌≡◌, true, refl, All};
 ghost use Rattle.atam.specs.TileSystem.{IsType};
 ghost use Rattle.seq_text.specs.GrowthText.{grid_format};
 ghost use Rattle.picture.specs.Pictures.{picture_text};
-ghost use Rattle.tilebench.specs.Commands.Picture.{picture_row};
+ghost use Rattle.tilebench.specs.Inner.CommandRows.{picture_row};
 ghost use Rattle.tilebench.specs.Inner.Readings.{taken_or_faulty};
 
 use crate::input::system_and_grid;

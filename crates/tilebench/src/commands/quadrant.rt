@@ -1,6 +1,6 @@
 // `quadrant`: the system of a two-input rule.
 ghost use Rattle.tilebench.specs.Inputs.{alone};
-ghost use Rattle.tilebench.specs.Commands.Quadrant.{quadrant_row};
+ghost use Rattle.tilebench.specs.Inner.CommandRows.{quadrant_row};
 ghost use Rattle.tilebench.specs.Inner.Readings.{taken_or_faulty_quadrant};
 
 use crate::input::read_quadrant_alone;

@@ -1,7 +1,8 @@
 // `replay`: an assembly in canonical order.
 ghost use Rattle.std.specs.Prelude.{refl};
 ghost use Rattle.seq_text.specs.GrowthText.{grid_format};
-ghost use Rattle.tilebench.specs.Commands.Replay.{is_whole, reordering_text, replay_row};
+ghost use Rattle.tilebench.specs.Inner.Reorderings.{is_whole, reordering_text};
+ghost use Rattle.tilebench.specs.Inner.CommandRows.{replay_row};
 ghost use Rattle.tilebench.specs.Inner.Rooms.{OrdersTypes};
 ghost use Rattle.tilebench.specs.Inner.Readings.{taken_or_faulty};
 

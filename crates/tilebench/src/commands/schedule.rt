@@ -1,4 +1,5 @@
 // `schedule`: steps of several scouts, run on a growth core.
+ghost use Rattle.tile_text.specs.SystemText.{ReadsAny, FaultAny};
 ghost use Rattle.std.specs.Prelude.{◌≡◌, ◌≤◌, length, IfOk, All};
 ghost use Rattle.tile_io.specs.declared.limits.TheConstants.{MOST_INPUT};
 ghost use Rattle.grow_core.specs.Core.{CoreInvariant};
@@ -7,7 +8,8 @@ ghost use Rattle.seq_text.specs.ScheduleText.{schedule_format};
 ghost use Rattle.seq_text.specs.SeenLines.{HasLine};
 ghost use Rattle.tilebench.specs.Inner.Gives.{Gives};
 ghost use Rattle.tilebench.specs.Inputs.{FailsWithin};
-ghost use Rattle.tilebench.specs.Commands.Schedule.{IsRunOf, IsSystemThenEvents, are_answered, schedule_row, schedule_text};
+ghost use Rattle.tilebench.specs.Commands.Schedule.{IsRunOf, IsSystemThenEvents, are_answered, schedule_text};
+ghost use Rattle.tilebench.specs.Inner.CommandRows.{schedule_row};
 ghost use Rattle.tilebench.specs.Inner.Rooms.{HasLines, Schedules, replies_of};
 ghost use Rattle.tilebench.specs.Inner.Readings.{taken_or_faulty};
 
@@ -92,7 +94,7 @@ impl Reply for Scheduled {
 fn system_and_events(alloc: Global, input: &[u8]) -> Result<(System, Vec<Event>), Stop>
     requires { length input.now ≤ MOST_INPUT }
     ensures { Gives (λ found. IsSystemThenEvents input.now found.0 found.1.items)
-        (FailsWithin schedule_format input.now) result }
+        (FailsWithin ReadsAny FaultAny schedule_format input.now) result }
 {
     let (sys, end) = read_front(alloc, input)?;
     let events = read_events(alloc, &sys, input, end)?;

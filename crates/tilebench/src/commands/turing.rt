@@ -1,6 +1,6 @@
 // `turing`: the system of a machine.
 ghost use Rattle.tilebench.specs.Inputs.{alone};
-ghost use Rattle.tilebench.specs.Commands.Turing.{turing_row};
+ghost use Rattle.tilebench.specs.Inner.CommandRows.{turing_row};
 ghost use Rattle.tilebench.specs.Inner.Readings.{taken_or_faulty_machine};
 
 use crate::input::read_machine_alone;

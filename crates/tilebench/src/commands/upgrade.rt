@@ -2,7 +2,7 @@
 ghost use Rattle.std.specs.Prelude.{◌≡◌, true};
 ghost use Rattle.tile_text.specs.Spelling.{newest_spelling};
 ghost use Rattle.tilebench.specs.Inputs.{alone};
-ghost use Rattle.tilebench.specs.Commands.Upgrade.{upgrade_row};
+ghost use Rattle.tilebench.specs.Inner.CommandRows.{upgrade_row};
 ghost use Rattle.tilebench.specs.Inner.Readings.{taken_or_faulty};
 
 use crate::input::read_alone;

@@ -6,7 +6,7 @@ ghost use Rattle.tile_io.specs.declared.limits.TheConstants.{MOST_INPUT};
 ghost use Rattle.watch_frames.specs.FrameText.{frames_text};
 ghost use Rattle.watch_frames.specs.Watched.{IsWatchedGrowth};
 ghost use Rattle.tilebench.specs.Commands.Watch.{watch_row};
-ghost use Rattle.tilebench.specs.Growths.{growth_text, is_unique};
+ghost use Rattle.job_board.specs.AnswerText.{growth_text, is_unique};
 ghost use Rattle.std.specs.Thread.{IsSync};
 ghost use Rattle.tilebench.specs.Inner.Gives.{GivesAnswer};
 ghost use Rattle.tilebench.specs.Inner.Runs.{EndsCommand};

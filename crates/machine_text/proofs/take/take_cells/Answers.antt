@@ -1,11 +1,10 @@
 use Rattle.std.proofs.Common.{ap, refl, sym, ◌∙◌}
 use Rattle.tile_io.specs.Checks.{count_in}
-use Rattle.machine_text.specs.MachineText.{cells_fields}
+use Rattle.machine_text.specs.MachineText.{cells_row}
 use Rattle.machine_text.specs.MachineText.MachineItem.{CellsLine}
 use Rattle.machine_text.proofs.take.take_cells.Goals as goal
 
 pub returns : goal.returns
-unfolding cells_fields
 returns c =
     let read = ap (count_in 1 512) (sym c.word.ensures) ∙ sym c.in_ok-parts.ensures.value in
     (CellsLine c.in_ok-parts.field-0, refl, rw read refl, refl)

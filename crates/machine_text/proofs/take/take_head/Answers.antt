@@ -1,11 +1,10 @@
 use Rattle.std.proofs.Common.{ap, refl, sym, ◌∙◌}
 use Rattle.tile_io.specs.Checks.{count_in, field}
-use Rattle.machine_text.specs.MachineText.{head_fields}
+use Rattle.machine_text.specs.MachineText.{head_row}
 use Rattle.machine_text.specs.MachineText.MachineItem.{HeadLine}
 use Rattle.machine_text.proofs.take.take_head.Goals as goal
 
 pub returns : goal.returns
-unfolding head_fields
 returns c =
     let last = c.saturating_sub-last in
     let at = ap (λ n. count_in 0 n (field c.args.words.now 1)) (sym last.ensures) in

@@ -1,13 +1,12 @@
 use Rattle.std.proofs.Common.{◌≡◌, List, ℕ, Ok, ap, refl, sym, ◌∙◌}
 use Rattle.tile_io.specs.Checks.{declared, field}
 use Rattle.machine_text.specs.Machines.{is_short_name}
-use Rattle.machine_text.specs.MachineText.{state_fields}
+use Rattle.machine_text.specs.MachineText.{state_row}
 use Rattle.machine_text.specs.MachineText.MachineItem.{StateLine}
 use Rattle.machine_text.specs.Inner.SoFar.{machine_in}
 use Rattle.machine_text.proofs.take.take_state.Goals as goal
 
 pub returns-in-Ok : goal.returns-in-Ok
-unfolding state_fields
 returns-in-Ok c =
     let name = c.word-name.result.now in
     let parts = c.args.parts.now in

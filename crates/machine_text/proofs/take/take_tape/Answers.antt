@@ -1,12 +1,11 @@
 use Rattle.std.proofs.Common.{List, ℕ, ap, refl, ◌∙◌, ◌++◌}
-use Rattle.machine_text.specs.MachineText.{tape_fields}
+use Rattle.machine_text.specs.MachineText.{tape_row}
 use Rattle.machine_text.specs.MachineText.MachineItem.{TapeLine}
 use Rattle.machine_text.specs.Machines.{TuringMachine}
 use Rattle.machine_text.specs.Inner.SoFar.{machine_in}
 use Rattle.machine_text.proofs.take.take_tape.Goals as goal
 
 pub returns-in-Ok : goal.returns-in-Ok
-unfolding tape_fields
 returns-in-Ok c =
     let M : TuringMachine = machine_in c.args.parts.now in
     let tape = c.in-Ok.ensures.items ∙ ap (λ (l : List ℕ). c.args.parts.now.tape.items ++ l) c.as_slice.ensures.value in

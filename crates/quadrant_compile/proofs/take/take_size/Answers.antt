@@ -1,11 +1,10 @@
 use Rattle.std.proofs.Common.{ap, refl, sym, ◌∙◌}
 use Rattle.tile_io.specs.Checks.{count_in}
-use Rattle.quadrant_compile.specs.WeaveText.{size_fields}
+use Rattle.quadrant_compile.specs.WeaveText.{size_row}
 use Rattle.quadrant_compile.specs.WeaveText.WeaveItem.{SizeLine}
 use Rattle.quadrant_compile.proofs.take.take_size.Goals as goal
 
 pub returns : goal.returns
-unfolding size_fields
 returns c =
     let width = ap (count_in 1 1023) (sym c.word.ensures) ∙ sym c.in_ok-width.ensures.value in
     let height = ap (count_in 1 1023) (sym c.word-2.ensures) ∙ sym c.in_ok-height.ensures.value in

@@ -1,13 +1,12 @@
 use Rattle.std.proofs.Common.{◌≡◌, List, ℕ, Ok, ap, refl, sym, ◌∙◌}
 use Rattle.tile_io.specs.Checks.{declared, field}
 use Rattle.machine_text.specs.Machines.{is_short_name}
-use Rattle.quadrant_compile.specs.WeaveText.{symbol_fields}
+use Rattle.quadrant_compile.specs.WeaveText.{symbol_row}
 use Rattle.quadrant_compile.specs.WeaveText.WeaveItem.{SymbolLine}
 use Rattle.quadrant_compile.specs.Inner.SoFar.{weave_in}
 use Rattle.quadrant_compile.proofs.take.take_symbol.Goals as goal
 
 pub returns-in-Ok : goal.returns-in-Ok
-unfolding symbol_fields
 returns-in-Ok c =
     let name = c.word-name.result.now in
     let parts = c.args.parts.now in

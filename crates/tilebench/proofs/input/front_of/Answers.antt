@@ -1,3 +1,4 @@
+use Rattle.tile_io.specs.Lines.{first_mark}
 use Rattle.std.proofs.Common.{ℕ, List, [], Err, subst}
 use Rattle.std.proofs.lemmas.Result.{err_from_is_err_and}
 use Rattle.tile_io.specs.declared.mark.Mark.{Mark}
@@ -6,7 +7,7 @@ use Rattle.tile_io.proofs.Inputs.{all_there}
 use Rattle.tile_io.proofs.TakenOn.{takes_none}
 use Rattle.atam.specs.TileSystem.{TileSystem}
 use Rattle.tile_text.specs.SystemText.{ReadsAny}
-use Rattle.tilebench.specs.Inputs.{first_mark}
+
 use Rattle.tilebench.specs.Inner.Fronts.{IsFront, FailsAtFront}
 use Rattle.tilebench.specs.Inner.Gives.{Gives}
 use Rattle.tilebench.proofs.Fronts.{front_faulty, from_before, unread_behind, whole_input}

@@ -1,19 +1,17 @@
 use Rattle.std.proofs.Common.{◌≡◌, true, false, Ok, Err, refl, sym, ap, ◌∙◌, rules}
 use Rattle.tile_text.specs.SystemText.{is_in_box}
 use Rattle.tile_text.proofs.Boxes.{holds_is}
-use Rattle.cert_text.specs.CertificateText.{entry_fields, mark_fields}
+use Rattle.cert_text.specs.CertificateText.{entry_fields, mark_row}
 use Rattle.cert_text.proofs.reader.CertificateReader.next_entry.Goals as goal
 
 pub returns-in_err-entry-clause-entry : goal.returns-in_err-entry-clause-entry
-unfolding mark_fields
 returns-in_err-entry-clause-entry c =
     let r = c.args.self.now in
     let read : entry_fields r.system.now c.args.words.now ≡ Err c.in_err-entry.field-0.0 = sym c.in_err-entry.ensures.entry in
-    let bad : Err c.in_err-entry.field-0.0 ≡ mark_fields r.system.now r.entries.items c.args.words.now = rw read refl in
+    let bad : Err c.in_err-entry.field-0.0 ≡ (mark_row r.system.now).fields r.entries.items c.args.words.now = rw read refl in
     search (rules, bad)
 
 pub returns-then-not-holds-clause-entry : goal.returns-then-not-holds-clause-entry
-unfolding mark_fields
 returns-then-not-holds-clause-entry c =
     let sys = c.args.self.now.system.now in
     let site = c.in_ok-entry.entry.place.site in
@@ -22,7 +20,6 @@ returns-then-not-holds-clause-entry c =
     rw (read, outside) refl
 
 pub returns-then-not-is_free-clause-entry : goal.returns-then-not-is_free-clause-entry
-unfolding mark_fields
 returns-then-not-is_free-clause-entry c =
     let sys = c.args.self.now.system.now in
     let site = c.in_ok-entry.entry.place.site in
@@ -31,7 +28,6 @@ returns-then-not-is_free-clause-entry c =
     rw (read, inside, sym c.is_free.ensures.entries ∙ c.if-not-is_free.true) refl
 
 pub returns-clause-entry : goal.returns-clause-entry
-unfolding mark_fields
 returns-clause-entry c =
     let sys = c.args.self.now.system.now in
     let site = c.in_ok-entry.entry.place.site in

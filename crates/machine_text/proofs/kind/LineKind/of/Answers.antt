@@ -4,7 +4,7 @@ use Rattle.tile_io.specs.Checks.{Keyword, Table}
 use Rattle.machine_text.specs.MachineText.{MachineItem, machine_table}
 use Rattle.machine_text.proofs.kind.LineKind.of.Goals as goal
 
-abbrev found : Table MachineItem → List ℕ → Option (Keyword MachineItem)
+abbrev found : Table MachineItem → List ℕ → Option (Keyword (List MachineItem) MachineItem)
 found table word = find (λ row. bytes_eq word row.word) table.keywords
 
 pub returns-in-symbol : goal.returns-in-symbol

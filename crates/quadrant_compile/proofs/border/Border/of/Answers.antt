@@ -8,7 +8,7 @@ use Rattle.quadrant_compile.proofs.Borders.{keyword_at}
 use Rattle.quadrant_compile.proofs.border.Border.of.Goals as goal
 
 -- the keyword that a word is
-abbrev named : List ℕ → Option (Keyword WeaveItem)
+abbrev named : List ℕ → Option (Keyword (List WeaveItem) WeaveItem)
 named word = find (λ row. bytes_eq word row.word) quadrant_table.keywords
 
 pub returns-in-Bottom : goal.returns-in-Bottom

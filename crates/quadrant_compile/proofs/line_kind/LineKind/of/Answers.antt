@@ -4,7 +4,7 @@ use Rattle.tile_io.specs.Checks.{Keyword, Table}
 use Rattle.quadrant_compile.specs.WeaveText.{WeaveItem, quadrant_table}
 use Rattle.quadrant_compile.proofs.line_kind.LineKind.of.Goals as goal
 
-abbrev found : Table WeaveItem → List ℕ → Option (Keyword WeaveItem)
+abbrev found : Table WeaveItem → List ℕ → Option (Keyword (List WeaveItem) WeaveItem)
 found table word = find (λ row. bytes_eq word row.word) table.keywords
 
 pub returns-in-symbol : goal.returns-in-symbol

@@ -1,21 +1,19 @@
 use Rattle.std.proofs.Common.{◌≡◌, Err, refl, sym, ap, ◌∙◌, rules}
 use Rattle.std.specs.Prelude.{is_some}
-use Rattle.seq_text.specs.GrowthText.{place_fields, place_in}
+use Rattle.seq_text.specs.GrowthText.{place_row, place_in}
 use Rattle.seq_text.specs.GrowthText.GrowthItem.{PlaceLine}
 use Rattle.seq_text.proofs.Growths.{holds_place}
 use Rattle.seq_text.proofs.reader.GrowthReader.take_place.Goals as goal
 
 pub returns-in_err-place-clause-taken : goal.returns-in_err-place-clause-taken
-unfolding place_fields
 returns-in_err-place-clause-taken c = λ items held.
     let r = c.args.self.now in
     let words = c.args.words.now in
     let read = ap (λ l. place_in (is_some r.scratch) r.system.now l words) (sym held.places_are) ∙ sym c.in_err-place.ensures.place in
-    let bad : place_fields (is_some r.scratch) r.system.now items words ≡ Err c.in_err-place.field-0.0 = rw read refl in
+    let bad : (place_row (is_some r.scratch) r.system.now).fields items words ≡ Err c.in_err-place.field-0.0 = rw read refl in
     search (rules, bad, held)
 
 pub returns-in-Ok-clause-taken : goal.returns-in-Ok-clause-taken
-unfolding place_fields
 returns-in-Ok-clause-taken c = λ items held.
     let r = c.args.self.now in
     let p = c.in_ok-place.place in

@@ -4,7 +4,7 @@ use Rattle.atam.specs.TileSystem.{TileSystem}
 use Rattle.tile_io.proofs.Printing.{PassesOn-both, PassesOn-fails, PassesOn-text, Prints-flushed, Prints-lost, Prints-text}
 use Rattle.seq_text.specs.GrowthLines.{place_lines, closed_line}
 use Rattle.seq_text.specs.VerdictLines.{verdict_line}
-use Rattle.tilebench.specs.Growths.{growth_text}
+use Rattle.job_board.specs.AnswerText.{growth_text}
 use Rattle.tilebench.specs.Inner.Rooms.{outcome_of}
 use Rattle.tilebench.proofs.growth.GrowthReply.print.Goals as goal
 

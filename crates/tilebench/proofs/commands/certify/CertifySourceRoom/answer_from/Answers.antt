@@ -5,7 +5,8 @@ use Rattle.atam.specs.TileSystem.{TileSystem}
 use Rattle.assembly.specs.Grids.{TileGrid}
 use Rattle.tilebench.specs.Inputs.{IsAssemblyOf, IsSystemThenPlacements}
 use Rattle.tilebench.specs.declared.commands.certify.Certified.{Certified}
-use Rattle.tilebench.specs.Commands.Certify.{certification_text, certify_row, is_given}
+use Rattle.tilebench.specs.Inner.Certifications.{certification_text, is_given}
+use Rattle.tilebench.specs.Inner.CommandRows.{certify_row}
 use Rattle.tilebench.specs.Inner.Rooms.{CertifiesTypes}
 use Rattle.tilebench.proofs.Certificates.{certify_answer}
 use Rattle.tilebench.specs.Inner.Gives.{HoldsWhole}

@@ -4,7 +4,8 @@ use Rattle.atam.specs.declared.place.Place.{Place}
 use Rattle.atam.specs.TileSystem.{TileSystem}
 use Rattle.tilebench.specs.Inputs.{IsSystemThenSequence}
 use Rattle.tilebench.specs.declared.commands.check.Checked.{Checked}
-use Rattle.tilebench.specs.Commands.Check.{check_row, is_judged_unique, judgement_text}
+use Rattle.tilebench.specs.Commands.Check.{is_judged_unique, judgement_text}
+use Rattle.tilebench.specs.Inner.CommandRows.{check_row}
 use Rattle.tilebench.specs.Inner.Rooms.{NamesItsTypes}
 use Rattle.tilebench.specs.Inner.Gives.{HoldsWhole}
 use Rattle.tilebench.proofs.Fronts.{input_of, reading_stop}

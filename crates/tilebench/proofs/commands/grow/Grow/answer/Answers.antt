@@ -1,6 +1,7 @@
+use Rattle.tile_text.specs.SystemText.{ReadsAny}
 use Rattle.std.proofs.Common.{ℕ, List, refl, subst}
 use Rattle.assembly.specs.Grids.{TileGrid}
-use Rattle.tilebench.specs.Inputs.{IsSystemAlone}
+use Rattle.tilebench.specs.Inputs.{IsAlone}
 use Rattle.tilebench.specs.Inner.Rooms.{GrowsTo}
 use Rattle.tilebench.proofs.Growths.{growth_told}
 use Rattle.tilebench.proofs.commands.grow.Grow.answer.Goals as goal
@@ -11,7 +12,7 @@ returns g c =
     let table = c.in_ok-grown.grown in
     let growth = c.growth_of-growth.result in
     let into = subst (λ (grid : TileGrid). GrowsTo sys grid.tiles growth) c.grid.ensures c.growth_of-growth.ensures in
-    let Alone : List ℕ → Type 0 = λ input. IsSystemAlone input sys in
+    let Alone : List ℕ → Type 0 = λ input. IsAlone ReadsAny input sys in
     record {
       answer = record {
         sys = sys;

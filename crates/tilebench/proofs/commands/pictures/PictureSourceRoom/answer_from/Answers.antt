@@ -9,7 +9,7 @@ use Rattle.atam.specs.TileSystem.{IsType}
 use Rattle.atam.specs.declared.area.BoxArea.{BoxArea}
 use Rattle.picture.specs.Pictures.{picture_text}
 use Rattle.tilebench.specs.declared.commands.pictures.Pictured.{Pictured}
-use Rattle.tilebench.specs.Commands.Picture.{picture_row}
+use Rattle.tilebench.specs.Inner.CommandRows.{picture_row}
 use Rattle.tilebench.specs.Inner.Gives.{HoldsWhole}
 use Rattle.tilebench.proofs.Fronts.{input_of, reading_stop}
 use Rattle.tilebench.proofs.commands.pictures.PictureSourceRoom.answer_from.Goals as goal

@@ -1,5 +1,6 @@
+use Rattle.quadrant_compile.specs.WeaveText.{ReadsQuadrant}
 use Rattle.std.proofs.Common.{ℕ, List, refl, subst, sym}
-use Rattle.tilebench.specs.Inputs.{IsQuadrantAlone}
+use Rattle.tilebench.specs.Inputs.{IsAlone}
 use Rattle.atam.specs.TileSystem.{TileSystem}
 use Rattle.tile_text.specs.Spelling.{spelling}
 use Rattle.quadrant_compile.specs.Woven.{woven}
@@ -12,7 +13,7 @@ pub returns : goal.returns
 returns g c =
     let weave = c.in_ok-quadrant.quadrant in
     let valid = c.in_ok-quadrant.ensures.valid in
-    let Alone : List ℕ → Type 0 = λ input. IsQuadrantAlone input weave in
+    let Alone : List ℕ → Type 0 = λ input. IsAlone ReadsQuadrant input weave in
     let Spells : TileSystem → Type 0 = λ sys. SpellsSystem (woven weave) (spelling sys) in
     record {
       answer = record {

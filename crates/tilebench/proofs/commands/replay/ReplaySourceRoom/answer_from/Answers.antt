@@ -5,7 +5,8 @@ use Rattle.atam.specs.TileSystem.{TileSystem}
 use Rattle.assembly.specs.Grids.{TileGrid}
 use Rattle.tilebench.specs.Inputs.{IsAssemblyOf, IsSystemThenPlacements}
 use Rattle.tilebench.specs.declared.commands.replay.Replayed.{Replayed}
-use Rattle.tilebench.specs.Commands.Replay.{is_whole, reordering_text, replay_row}
+use Rattle.tilebench.specs.Inner.Reorderings.{is_whole, reordering_text}
+use Rattle.tilebench.specs.Inner.CommandRows.{replay_row}
 use Rattle.tilebench.specs.Inner.Rooms.{OrdersTypes}
 use Rattle.tilebench.proofs.Orders.{replay_answer}
 use Rattle.tilebench.specs.Inner.Gives.{HoldsWhole}

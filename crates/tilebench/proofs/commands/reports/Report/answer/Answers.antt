@@ -1,8 +1,9 @@
+use Rattle.tile_text.specs.SystemText.{ReadsAny}
 use Rattle.std.proofs.Common.{◌≡◌, ◌∙◌, ℕ, List, ap, length, refl, subst}
 use Rattle.std.proofs.lemmas.Result.{err_from_is_err_and}
 use Rattle.assembly.specs.Grids.{TileGrid}
 use Rattle.tilebench.specs.declared.wins.Win.{Win}
-use Rattle.tilebench.specs.Inputs.{IsSystemAlone}
+use Rattle.tilebench.specs.Inputs.{IsAlone}
 use Rattle.tilebench.specs.Inner.Rooms.{GrowsTo, Reports}
 use Rattle.tilebench.proofs.Races.{report_told}
 use Rattle.tilebench.proofs.commands.reports.Report.answer.Goals as goal
@@ -17,7 +18,7 @@ returns g c =
     let grows = subst (λ (grid : TileGrid). GrowsTo sys grid.tiles growth) c.grid.ensures c.growth_of-growth.ensures in
     let count : c.count.result ≡ length table.grid.tiles = c.count.ensures ∙ ap (λ (grid : TileGrid). length grid.tiles) c.grid-2.ensures in
     let told = subst (λ (wins : List Win). Reports growth c.count.result wins reported) c.deref-2.ensures.value c.in_ok-reported.ensures in
-    let Alone : List ℕ → Type 0 = λ input. IsSystemAlone input sys in
+    let Alone : List ℕ → Type 0 = λ input. IsAlone ReadsAny input sys in
     record {
       answer = record {
         sys = sys;

@@ -1,5 +1,6 @@
+use Rattle.machine_text.specs.MachineText.{ReadsMachine}
 use Rattle.std.proofs.Common.{ℕ, List, refl, subst, sym}
-use Rattle.tilebench.specs.Inputs.{IsMachineAlone}
+use Rattle.tilebench.specs.Inputs.{IsAlone}
 use Rattle.atam.specs.TileSystem.{TileSystem}
 use Rattle.tile_text.specs.Spelling.{spelling}
 use Rattle.turing_compile.specs.Compiled.{compiled}
@@ -12,7 +13,7 @@ pub returns : goal.returns
 returns g c =
     let machine = c.in_ok-machine.machine in
     let valid = c.in_ok-machine.ensures.valid in
-    let Alone : List ℕ → Type 0 = λ input. IsMachineAlone input machine in
+    let Alone : List ℕ → Type 0 = λ input. IsAlone ReadsMachine input machine in
     let Spells : TileSystem → Type 0 = λ sys. SpellsSystem (compiled machine) (spelling sys) in
     record {
       answer = record {

@@ -1,5 +1,6 @@
+use Rattle.tile_text.specs.SystemText.{ReadsAny}
 use Rattle.std.proofs.Common.{ℕ, List, refl, subst}
-use Rattle.tilebench.specs.Inputs.{IsSystemAlone}
+use Rattle.tilebench.specs.Inputs.{IsAlone}
 use Rattle.tile_text.proofs.Eithers.{any_valid}
 use Rattle.tilebench.proofs.Spelling.{spelled_newest}
 use Rattle.tilebench.proofs.commands.upgrade.UpgradePlainRoom.answer.Goals as goal
@@ -7,7 +8,7 @@ use Rattle.tilebench.proofs.commands.upgrade.UpgradePlainRoom.answer.Goals as go
 pub returns : goal.returns
 returns g c =
     let sys = c.in_ok-sys.sys in
-    let Alone : List ℕ → Type 0 = λ input. IsSystemAlone input sys in
+    let Alone : List ℕ → Type 0 = λ input. IsAlone ReadsAny input sys in
     let read = subst Alone c.deref.ensures.value c.in_ok-sys.ensures in
     record {
       answer = record { none = refl; told = record { sys = sys; read = read; spelled = spelled_newest sys (any_valid c.args.input.items _ read.end sys read.reads); answer = refl } };

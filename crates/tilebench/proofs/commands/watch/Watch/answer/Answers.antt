@@ -1,6 +1,7 @@
+use Rattle.tile_text.specs.SystemText.{ReadsAny}
 use Rattle.std.proofs.Common.{ℕ, List, refl, subst}
 use Rattle.assembly.specs.Grids.{TileGrid}
-use Rattle.tilebench.specs.Inputs.{IsSystemAlone}
+use Rattle.tilebench.specs.Inputs.{IsAlone}
 use Rattle.tilebench.specs.Inner.Rooms.{GrowsTo}
 use Rattle.tilebench.proofs.Watches.{frame_types, watched_told}
 use Rattle.tilebench.proofs.commands.watch.Watch.answer.Goals as goal
@@ -13,7 +14,7 @@ returns g c =
     let growth = c.growth_of-growth.result in
     let watched = c.in_ok-frames.ensures.watched in
     let into = subst (λ (grid : TileGrid). GrowsTo sys grid.tiles growth) c.grid.ensures c.growth_of-growth.ensures in
-    let Alone : List ℕ → Type 0 = λ input. IsSystemAlone input sys in
+    let Alone : List ℕ → Type 0 = λ input. IsAlone ReadsAny input sys in
     record {
       answer = record {
         sys = sys;

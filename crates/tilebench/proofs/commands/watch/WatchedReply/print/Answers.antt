@@ -1,6 +1,6 @@
 use Rattle.std.proofs.lemmas.Result.{err_from_is_err_and}
 use Rattle.tile_io.proofs.Printing.{Prints-then, Prints-stopped}
-use Rattle.tilebench.specs.Growths.{growth_text}
+use Rattle.job_board.specs.AnswerText.{growth_text}
 use Rattle.tilebench.specs.Inner.Rooms.{outcome_of}
 use Rattle.tilebench.proofs.commands.watch.WatchedReply.print.Goals as goal
 
