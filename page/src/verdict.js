@@ -40,7 +40,8 @@ function noVerdict(shown, unique, closed) {
     return { tone: "within", head: "Unique within the box", text, site };
   }
   if (code === "3") {
-    return { tone: "within", head: "Not finished", text: `${name} still attaches at ${where(site)}.`, site };
+    const text = `Each tile could attach when its turn came; ${name} still attaches at ${where(site)}.`;
+    return { tone: "within", head: "Not finished", text, site };
   }
   const stands = shown.growth.nameAt(site.x, site.y);
   const text = code === "1"
