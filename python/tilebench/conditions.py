@@ -6,11 +6,12 @@ enough, and that no type takes.
 """
 from __future__ import annotations
 
+from array import array
 from collections import Counter
 from collections.abc import Iterator
 from dataclasses import dataclass, field
 
-from tilebench.grid import Signature
+from tilebench.grid import Grid, Signature
 from tilebench.growth import Growth
 from tilebench.system import SIDES, Sides, Site, System
 
@@ -18,14 +19,29 @@ from tilebench.system import SIDES, Sides, Site, System
 @dataclass
 class Break:
     """Sites at which one condition fails for one pair of types: the `name` of the tile there (None at an empty site), the
-    `other` type that attaches there (None at condition 1), the sum of the bonds, and these in words, at the first site."""
+    `other` type that attaches there (None at condition 1), the sum of the bonds, and these in words, at the first site. `count`
+    is how many sites there are; `cells` has their numbers in the `grid`."""
 
     condition: int
     name: str | None
     other: str | None
     pull: int
     bonds: str
-    sites: list[Site] = field(default_factory=list)
+    grid: Grid = field(repr=False)
+    cells: array[int] = field(default_factory=lambda: array("i"), repr=False)
+
+    @property
+    def count(self) -> int:
+        return len(self.cells)
+
+    @property
+    def sites(self) -> list[Site]:
+        """All sites, by y, then x."""
+        return [self.grid.site(it) for it in self.cells]
+
+    def first_sites(self, most: int) -> list[Site]:
+        """The first of them."""
+        return [self.grid.site(it) for it in self.cells[:most]]
 
 
 @dataclass
@@ -77,38 +93,39 @@ def facing_alone(growth: Growth, site: Site) -> Sides:
     return facing_without(growth, site, {side for side in later_sides(growth, site) if bonds[side]})
 
 
-def broken_by(system: System, signature: Signature) -> list[Break]:
+def broken_by(grid: Grid, signature: Signature) -> list[Break]:
     """What a tile breaks of the first two conditions, by the types around it and which of these came earlier."""
+    system = grid.system
     kind, around, earlier = signature[0], signature[1:5], signature[5:]
     name, facing = system.names[kind], system.facing_of(around)
     bonds, found = system.bonds(name, facing), []
     before = [it if is_earlier else None for it, is_earlier in zip(facing, earlier)]
     pull = sum(it for it, is_earlier in zip(bonds, earlier) if is_earlier)
     if pull != system.tau:
-        found.append(Break(1, name, None, pull, bonds_told(system, name, (before[0], before[1], before[2], before[3]))))
+        found.append(Break(1, name, None, pull, bonds_told(system, name, (before[0], before[1], before[2], before[3])), grid))
     left = [it if is_earlier or not bond else None for it, is_earlier, bond in zip(facing, earlier, bonds)]
     alone = left[0], left[1], left[2], left[3]
     for other in system.held_by(alone):
         if other != name:
-            found.append(Break(2, name, other, sum(system.bonds(other, alone)), bonds_told(system, other, alone)))
+            found.append(Break(2, name, other, sum(system.bonds(other, alone)), bonds_told(system, other, alone), grid))
     return found
 
 
 def breaks_of_tiles(growth: Growth) -> list[Break]:
     """All tiles that break one of the first two conditions: what stands at most sites first."""
-    system, grid = growth.system, growth.grid
+    grid = growth.grid
     found: dict[tuple[int, str | None, str | None], Break] = {}
     known: dict[Signature, list[Break]] = {}
-    seeds = {grid.number(site) for site, _ in system.seeds}
+    seeds = {grid.number(site) for site, _ in grid.system.seeds}
     for signature in Counter(grid.signatures(growth.order)):
-        broken = broken_by(system, signature) if signature[0] >= 0 else []
+        broken = broken_by(grid, signature) if signature[0] >= 0 else []
         if broken:
             known[signature] = broken
     for at, signature in enumerate(grid.signatures(growth.order), grid.wide) if known else ():
         if signature in known and at not in seeds:
             for it in known[signature]:
-                found.setdefault((it.condition, it.name, it.other), it).sites.append(grid.site(at))
-    return sorted(found.values(), key=lambda it: (it.condition, -len(it.sites)))
+                found.setdefault((it.condition, it.name, it.other), it).cells.append(at)
+    return sorted(found.values(), key=lambda it: (it.condition, -it.count))
 
 
 def attaching_sites(growth: Growth) -> Iterator[Site]:
@@ -123,9 +140,9 @@ def breaks_of_sites(growth: Growth) -> list[Break]:
         around = growth.grid.around(site)
         for kind in system.attaching(around):
             facing, other = system.facing_of(around), system.names[kind]
-            it = Break(3, None, other, sum(system.bonds(other, facing)), bonds_told(system, other, facing))
-            found.setdefault(other, it).sites.append(site)
-    return sorted(found.values(), key=lambda it: -len(it.sites))
+            it = Break(3, None, other, sum(system.bonds(other, facing)), bonds_told(system, other, facing), growth.grid)
+            found.setdefault(other, it).cells.append(growth.grid.number(site))
+    return sorted(found.values(), key=lambda it: -it.count)
 
 
 def breaks(growth: Growth) -> list[Break]:

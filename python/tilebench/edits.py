@@ -17,8 +17,10 @@ from tilebench.growth import Growth
 from tilebench.system import SIDES, System
 from tilebench.wider import cut_sides, missing_room, widened
 
-# up to how many sites the boxes of one kind of change may have together, and up to how many changes are told
-MOST_TRIED, MOST_TOLD = 1 << 23, 3
+# up to how many sites a box may have for changes to be tried, those of one kind have together, and how many changes are told
+MOST_AREA, MOST_TRIED, MOST_TOLD = 1 << 16, 1 << 22, 3
+# how a change begins, in words, that takes a type away
+LESS = "without "
 
 
 class Edit(NamedTuple):
@@ -99,9 +101,20 @@ def exchanged_sides(system: System, text: Lines, growth: Growth) -> Iterator[Edi
 
 
 def larger_box(system: System, text: Lines, growth: Growth) -> Iterator[Edit]:
+    """A larger box where this one cuts the growth off; or another type as a seed, which has the growth begin elsewhere."""
     larger = widened(system, cut_sides(growth)) if growth.closed is not None and growth.closed.site is not None else None
-    if larger is not None:
-        yield Edit("with a larger box", "box", text.with_line(text.first("box"), "box {} {} {} {}".format(*larger.box)))
+    if larger is None:
+        return
+    yield Edit("with a larger box", "box", text.with_line(text.first("box"), "box {} {} {} {}".format(*larger.box)))
+    yield from other_types_of_seeds(system, text, growth)
+
+
+def other_types_of_seeds(system: System, text: Lines, growth: Growth) -> Iterator[Edit]:
+    for (x, y), own in system.seeds:
+        for name in system.types:
+            if name != own:
+                line = f"seed {x} {y} {name}"
+                yield Edit(f"with {name} in place of {own} as the seed at {x, y}", name, text.with_line(text.at("seed", (x, y)), line))
 
 
 def further_pairs(system: System, text: Lines, growth: Growth) -> Iterator[Edit]:
@@ -115,17 +128,14 @@ def further_pairs(system: System, text: Lines, growth: Growth) -> Iterator[Edit]
 
 
 def other_seeds(system: System, text: Lines, growth: Growth) -> Iterator[Edit]:
-    for (x, y), own in system.seeds:
-        for name in system.types:
-            if name != own:
-                line = f"seed {x} {y} {name}"
-                yield Edit(f"with {name} in place of {own} as the seed at {x, y}", name, text.with_line(text.at("seed", (x, y)), line))
+    """Another type as a seed, and one more seed of a type that is missing."""
+    yield from other_types_of_seeds(system, text, growth)
     x0, y0, x1, y1 = system.box
     lines = ["tiles 2" if line.split() == ["tiles", "1"] else line for line in text.lines]
     last = text.at("seed", system.seeds[-1][0]) + 1
     for x, y in ((x, y) for y in range(y0, y1 + 1) for x in range(x0, x1 + 1) if (x, y) not in dict(system.seeds)):
         for name in growth.unplaced:
-            told = f"with one more seed, {name} at {x, y},"
+            told = f"with one more seed, {name} at {x, y}"
             yield Edit(told, name, "\n".join([*lines[:last], f"seed {x} {y} {name}", *lines[last:]]))
 
 
@@ -136,7 +146,7 @@ def one_type_less(system: System, text: Lines, growth: Growth) -> Iterator[Edit]
     names = {name for it in breaks_of_tiles(growth) if it.condition == 2 for name in (it.name, it.other)} if is_rival else set()
     for name in system.types:
         if name in names - seeds:
-            yield Edit(f"without {name}", name, text.with_line(text.at("tile", name), ""))
+            yield Edit(f"{LESS}{name}", name, text.with_line(text.at("tile", name), ""))
 
 
 def other_sides(system: System, text: Lines, growth: Growth) -> Iterator[Edit]:
@@ -157,7 +167,7 @@ def kinds(growth: Growth) -> list[Kind]:
     """The kinds of changes in the order in which they are tried. Where an input is offered that no type takes, sides come before
     strengths: what is too weak offers too little."""
     two: list[Kind] = [exchanged_sides, other_strengths] if untaken(growth) else [other_strengths, exchanged_sides]
-    return [other_temperatures, other_orders, *two, larger_box, further_pairs, one_type_less, other_sides, other_seeds]
+    return [*two, other_temperatures, other_orders, larger_box, further_pairs, one_type_less, other_sides, other_seeds]
 
 
 # ---- tried by the program
@@ -172,34 +182,41 @@ def answers(texts: list[str], area: int) -> Iterator[bytes]:
         yield from (it.partition(b"\n")[2] for it in out.split(b"job ")[1:])
 
 
-def is_good(edit: Edit, answer: bytes) -> Growth | None:
-    """The growth, where nothing else can grow, no type is missing, and no input that several sides offer is left open."""
+def is_good(edit: Edit, answer: bytes, names: set[bytes]) -> Growth | None:
+    """The growth, where nothing else can grow, no type is missing, and no input that several sides offer is left open. `names` are
+    those of the system, of which most answers lack some."""
     if b"\nunique yes\n" not in answer[-200:] and b"\nunique no 3" not in answer[-200:]:
+        return None
+    away = {edit.subject.encode()} if edit.told.startswith(LESS) else set()
+    if not names - away <= {*answer.split()}:
         return None
     growth = Growth.read(System.read(edit.text), answer.partition(b"\ndone ")[0] + b"\n")
     is_whole = not growth.unplaced and not any(it.count > 1 for it in untaken(growth))
     return growth if is_whole else None
 
 
-def told_of(edit: Edit, growth: Growth, box: tuple[int, int, int, int]) -> str:
-    """What the program said of a change."""
-    told = edit.told
-    if edit.subject == "box":
-        told = f"with the box larger {missing_room(box, growth)}"
-    types = "all other types" if told.startswith("without ") else "all types"
-    said = "the verdict is a yes" if growth.verdict else "within the box nothing else can grow"
-    return f"{told} {types} are placed, and {said}"
+def changes(before: Growth, after: Growth) -> int:
+    """How many tiles of a growth another one, in the same box, has not."""
+    return sum(it >= 0 and it != other for it, other in zip(before.grid.cells, after.grid.cells))
+
+
+def least(growth: Growth, found: list[tuple[Edit, Growth]]) -> list[tuple[Edit, Growth]]:
+    """The changes after which most of what had grown grows again: what grew before a slip is mostly as it is meant."""
+    boxed = [it for it in found if it[1].system.box == growth.system.box and len(it[1].system.types) == len(growth.system.types)]
+    many = {edit: changes(growth, after) for edit, after in boxed}
+    return [it for it in found if it[0] not in many or many[it[0]] == min(many.values())]
 
 
 def good_edits(growth: Growth) -> list[str]:
-    """The changes of the simplest kind that mend the growth, in words; none where there are more than a few.
+    """The changes of the simplest kind that mend the growth, in words, where they are few.
 
-    A growth that its box cuts off is mended by what ends it, where there is such a change, and else by what places all types."""
+    Of those with which the verdict is a yes it is those that change least of what grew. A growth that its box cuts off is mended by
+    what ends it, where there is such a change, and else by what places all types."""
     system = growth.system.copy()
     text, (x0, y0, x1, y1) = Lines(system), system.box
-    area = (x1 - x0 + 1) * (y1 - y0 + 1)
+    names, area = {it.encode() for it in system.types}, (x1 - x0 + 1) * (y1 - y0 + 1)
     within: list[tuple[Edit, Growth]] = []
-    for kind in kinds(growth):
+    for kind in kinds(growth) if area <= MOST_AREA else ():
         edits = list(kind(system, text, growth))
         size = 4 * area if kind is larger_box else area
         if len(edits) * size > MOST_TRIED:
@@ -208,16 +225,19 @@ def good_edits(growth: Growth) -> list[str]:
             came = list(answers([it.text for it in edits], size))
         except TilebenchError:
             continue
-        tried = [(edit, grown) for edit, it in zip(edits, came) if (grown := is_good(edit, it)) is not None]
+        tried = [(edit, grown) for edit, it in zip(edits, came) if (grown := is_good(edit, it, names)) is not None]
         found = [it for it in tried if it[1].verdict]
         if found:
-            return few(found, system)
+            return few(least(growth, found), system)
         within = within or [it for it in tried if growth.closed is not None and growth.closed.site is not None]
     return few(within, system)
 
 
 def few(found: list[tuple[Edit, Growth]], system: System) -> list[str]:
-    """The changes in words where they are few; where many concern one name, the first ones."""
-    if len(found) > MOST_TOLD and len({edit.subject for edit, _ in found}) > 1:
+    """The changes in words where they are few: as one line, the ones or the others."""
+    if not found or len(found) > MOST_TOLD:
         return []
-    return [told_of(edit, grown, system.box) for edit, grown in found[:MOST_TOLD]]
+    told = [f"with the box larger {missing_room(system.box, grown)}" if edit.subject == "box" else edit.told for edit, grown in found]
+    types = "all other types" if all(it.startswith(LESS) for it in told) else "all types"
+    said = "the verdict is a yes" if found[0][1].verdict else "within the box nothing else can grow"
+    return [f"{', or '.join(told)}: {types} are placed then, and {said}"]

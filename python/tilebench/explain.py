@@ -7,17 +7,17 @@ from tilebench import answers, calls, conditions, lines, refusals, wider
 from tilebench.faults import TilebenchError
 from tilebench.growth import Certificate, Growth, Verdict
 from tilebench.lint import is_compiled
-from tilebench.system import Site, System
+from tilebench.system import System
 
 # how many pairs of types and offers are named, and how many sites of each
 MOST_NAMED, MOST_SITES = 10, 3
 TOLD = ("closed", "unique", "legal", "stuck", "verified", "refused")
 
 
-def sites_told(sites: list[Site]) -> str:
-    """The first sites of a list, and how many more there are."""
-    more = f" and {len(sites) - MOST_SITES} more" if len(sites) > MOST_SITES else ""
-    return ", ".join(str(it) for it in sites[:MOST_SITES]) + more
+def sites_told(broken: conditions.Break) -> str:
+    """The first sites of a break, and how many more there are."""
+    more = f" and {broken.count - MOST_SITES} more" if broken.count > MOST_SITES else ""
+    return ", ".join(map(str, broken.first_sites(MOST_SITES))) + more
 
 
 def named(told: list[str], what: str) -> Iterator[str]:
@@ -33,13 +33,13 @@ def breaks_told(growth: Growth) -> Iterator[str]:
     if verdict is None or verdict.is_yes:
         return
     found = conditions.breaks_of_sites(growth) if verdict.condition == 3 else conditions.breaks_of_tiles(growth)
-    if sum(len(it.sites) for it in found) < 2:
+    if sum(it.count for it in found) < 2:
         return
     told = []
     for it in found:
-        many = f"at {len(it.sites)} sites: " if len(it.sites) > 1 else "at "
+        many = f"at {it.count} sites: " if it.count > 1 else "at "
         what = {1: f"{it.name} is held by more than it needs", 2: f"{it.other} for {it.name}", 3: f"{it.other} attaches"}[it.condition]
-        told.append(f"{what} {many}{sites_told(it.sites)} ({it.bonds})")
+        told.append(f"{what} {many}{sites_told(it)} ({it.bonds})")
     yield "in all:"
     yield from (f"  {it}" for it in named(told, "pairs of types"))
 

@@ -14,6 +14,8 @@ from tilebench.system import SIDES, Site, System, by_rows, neighbour, opposite
 
 # how many lines of a kind are told, and how many other strengths of glues are tried
 SHOWN, TRIES = 12, 32
+# how many pairs of types that take one input are told
+MOST_PAIRS = 3
 # the names that the compilers give to types: of a machine, of a two-input rule, of a counter
 COMPILED = [re.compile(it) for it in (r"(?:t:\d+|[aRL]:\w+:\w+|[rl]:\w+)", r"(?:o|[ab]:\d+|q:\w+:\w+)", r"(?:t:\d+|(?:ie|cw|cm|ce):[01]|(?:im|iw):[01]{2})")]
 
@@ -184,12 +186,15 @@ def missing_told(growths: list[Growth], names: list[str], mended: list[str]) -> 
 # ---- rivals, and tiles that are held by too much
 
 
-def rivals_told(growth: Growth) -> Iterator[str]:
-    """Two types for one input, by name, with the input."""
-    for it in [it for it in breaks_of_tiles(growth) if it.condition == 2][:SHOWN]:
-        x, y = it.sites[0]
-        more = f" and at {len(it.sites) - 1} sites more" if len(it.sites) > 1 else ""
+def rivals_told(growth: Growth, most: int = SHOWN) -> Iterator[str]:
+    """Two types for one input, by name, with the input: up to so many pairs, and how many more there are."""
+    found = [it for it in breaks_of_tiles(growth) if it.condition == 2]
+    for it in found[:most]:
+        x, y = it.first_sites(1)[0]
+        more = {1: "", 2: " and at 1 site more"}.get(it.count, f" and at {it.count - 1} sites more")
         yield f"{it.name} and {it.other} take one input: {it.bonds} at {x} {y}{more}"
+    if len(found) > most > 1:
+        yield f"and so do {len(found) - most} more pairs of types"
 
 
 def with_strength(text: str, names: tuple[str, ...], strength: int) -> str:
@@ -227,8 +232,9 @@ def weaker(system: System, name: str, bonds: list[int], glue: str | None) -> str
     return f"with strength {rest // len(own)} of glue {glue} it would be held by just enough" if own and rest >= 0 and rest % len(own) == 0 else None
 
 
-def overbound_told(growths: list[Growth]) -> Iterator[str]:
-    """The tile that a verdict calls held by more than the temperature, with the glues that hold it."""
+def overbound_told(growths: list[Growth], is_mended: bool = False) -> Iterator[str]:
+    """The tile that a verdict calls held by more than the temperature, with the glues that hold it; and where nothing is known that
+    mends it, weaker glues that do."""
     for growth in growths:
         verdict, system = growth.verdict, growth.system
         if verdict is None or verdict.condition != 1 or verdict.site is None:
@@ -237,7 +243,8 @@ def overbound_told(growths: list[Growth]) -> Iterator[str]:
         facing = facing_before(growth, verdict.site)
         bonds = system.bonds(name, facing)
         told = f"{name} at {x} {y} is held by more than the temperature {system.tau}: {bonds_told(system, name, facing)}"
-        exact = list(weakened(growth, verdict.site)) or sorted({hint for hint in (weaker(system, name, bonds, it) for it in system.types[name]) if hint})
+        hints = {hint for hint in (weaker(system, name, bonds, it) for it in system.types[name]) if hint}
+        exact = [] if is_mended else list(weakened(growth, verdict.site)) or sorted(hints)
         yield told + (f"; {', or '.join(exact)}" if exact else "")
         return
 
@@ -247,20 +254,23 @@ def slips(growths: list[Growth], is_ends: bool = False) -> list[str]:
     first = growths[0]
     system, verdict = first.system, first.verdict
     is_yes = any(it.verdict for it in growths) and not is_ends
+    is_one = verdict is not None and verdict.is_one_within
+    if is_compiled(system):
+        return [] if is_one else [*rivals_told(first, MOST_PAIRS), *overbound_told(growths)]
     placed = {name for growth in growths for name in growth.placed}
     names = [it for it in system.names if it not in placed]
-    is_rival = verdict is not None and verdict.condition == 2
-    told: list[str] = []
-    if not is_compiled(system):
-        mended = edits.good_edits(first) if names or is_rival else []
-        told += [*glues_told(system, is_yes), *types_told(system)]
-        if names:
-            told += missing_told(growths, names, mended)
-            mended = []
-        else:
-            told += [untaken_told(it) for it in untaken(first) if it.count > 1 or is_ends][:SHOWN]
+    mended = edits.good_edits(first) if names or not is_one else []
+    told = [*glues_told(system, is_yes), *types_told(system)]
+    if names:
+        told += missing_told(growths, names, mended)
     else:
-        mended = []
-    if verdict is not None and not verdict.is_one_within:
-        told += rivals_told(first)
-    return [*told, *mended, *overbound_told(growths)]
+        told += [untaken_told(it) for it in untaken(first) if it.count > 1 or is_ends][:SHOWN]
+    if is_one:
+        return told
+    is_rival = verdict is not None and verdict.condition == 2
+    if is_rival:
+        told += rivals_told(first, 1 if mended else MOST_PAIRS)
+    told += overbound_told(growths, bool(mended))
+    if not mended and not is_rival:
+        told += rivals_told(first, MOST_PAIRS)
+    return told + (mended if not names else [])

@@ -108,8 +108,8 @@ class Search:
         return order, stands
 
     def rivals(self) -> list[tuple[Site, list[int]]]:
-        """Each site, but for the seeds', at which all its neighbours would hold another type too, with these types. First comes the
-        site that the verdict names, then those at which the input sides alone hold one."""
+        """Each site, but for the seeds', at which all its neighbours would hold another type too, with these types. First come those
+        at which the input sides alone hold one."""
         cells, found = self.grid.cells, []
         at_seeds, others = {*self.seeds}, {}
         signatures = self.grid.signatures(array("i", [-1]) * len(cells))
@@ -119,10 +119,18 @@ class Search:
                 others[key] = [it for it in self.system.attaching(key[1:]) if it != key[0]] if key[0] >= 0 else []
             if others[key] and at not in at_seeds:
                 found.append((self.grid.site(at), others[key]))
-        named = self.growth.verdict.site if self.growth.verdict is not None else None
         # (of very many the order is not worth its time)
         far = {site: not self.is_held_by_inputs(site, kinds) for site, kinds in found} if len(found) < 20000 else {}
-        return sorted(found, key=lambda it: (it[0] != named, far.get(it[0], False)))
+        return sorted(found, key=lambda it: far.get(it[0], False))
+
+    def named(self) -> list[tuple[Site, list[int]]]:
+        """The site that the verdict names, with the types that its neighbours would hold too."""
+        verdict = self.growth.verdict
+        if verdict is None or verdict.site is None:
+            return []
+        own = self.grid.at(verdict.site)
+        kinds = [it for it in self.system.attaching(self.grid.around(verdict.site)) if it != own]
+        return [(verdict.site, kinds)] if kinds else []
 
     def is_held_by_inputs(self, site: Site, kinds: list[int]) -> bool:
         """Whether what came before the tile holds another type."""
@@ -184,22 +192,31 @@ def search(system: System, *, seconds: float = 60, most_choices: int = 16, is_to
         if found.growth.verdict is not None and found.growth.verdict.is_one_within:
             found.is_one = True
             return found
-        progress.stage = "looks for sites at which another type could be held"
         looking = Search(found.growth)
-        rivals = looking.rivals()
-        for at, (site, kinds) in enumerate(rivals):
-            if progress.seconds() > seconds:
-                found.left = len(rivals) - at
-                choices(found.growth, most_choices, found, progress)
-                return found
-            progress.stage = f"{at} of {len(rivals)} sites searched at which another type could be held"
-            other = looking.first_at(site, kinds)
-            found.searched = at + 1
-            if other is not None:
-                found.is_one, found.other, found.site, found.name = False, other, site, other[site] or ""
-                return found
-        found.is_one = True
+        progress.stage = "searches the site that the verdict names"
+        if not is_found(found, looking, looking.named(), progress, seconds):
+            progress.stage = "looks for sites at which another type could be held"
+            rivals = looking.rivals()
+            if not is_found(found, looking, rivals, progress, seconds):
+                found.left = len(rivals) - found.searched
+                found.is_one = True if not found.left else None
+        if found.left:
+            choices(found.growth, most_choices, found, progress)
         return found
+
+
+def is_found(found: Found, looking: Search, rivals: list[tuple[Site, list[int]]], progress: Progress, seconds: float) -> bool:
+    """Searches sites one after the other while there is time. Whether a second outcome was found."""
+    for at, (site, kinds) in enumerate(rivals, 1):
+        if progress.seconds() > seconds:
+            return False
+        other = looking.first_at(site, kinds)
+        found.searched = at
+        progress.stage = f"{at} of {len(rivals)} sites searched at which another type could be held"
+        if other is not None:
+            found.is_one, found.other, found.site, found.name = False, other, site, other[site] or ""
+            return True
+    return False
 
 
 def sequences(found: Found) -> Iterator[Growth]:

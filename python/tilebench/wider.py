@@ -54,8 +54,8 @@ def wider_told(growth: Growth) -> str:
         return f"Widen the box to the {beyond(system, closed.site)} or more, or add tiles that end the growth there"
     further = calls.grow(larger)
     if further.closed is None or further.closed.site is None:
-        verdict = further.verdict.words if further.verdict is not None else ""
-        return f"Widen the box {missing_room(system.box, further)}: then nothing is cut off, and the verdict is {verdict}"
+        said = "a yes" if further.verdict else f"a no: {further.verdict.words if further.verdict is not None else ''}"
+        return f"Widen the box {missing_room(system.box, further)}: then nothing is cut off, and the verdict is {said}"
     told = f"A box twice as large to the {' and '.join(SIDES[it] for it in sorted(sides))}"
     again = [site for site in attaching_sites(further) if any(SIDES[it] in beyond(larger, site) for it in sides)]
     if not again:
