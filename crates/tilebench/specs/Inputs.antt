@@ -61,7 +61,7 @@ module _ {Value Item : Type 0} (IsText : List ℕ → Mark → Value → Mark �
   abbrev pub FailsWithin : (List ℕ → Mark → ℕ → Cause → Type 0) → (Value → Format Item) → List ℕ → TextFault → Type 0
   FailsWithin IsFault format input fault = IsFault input first_mark fault.line fault.cause
       ⊎ ((value : Value)
-        × IsTextThen IsText (λ value end. Fault (format value) input end fault.line fault.cause) input value)
+      × IsTextThen IsText (λ value end. Fault (format value) input end fault.line fault.cause) input value)
 
 -- the input is the text of a batch of these jobs, which goes on to its end
 abbrev pub IsBatch : List ℕ → List Job → Type 0

@@ -8,7 +8,6 @@ use Rattle.tile_io.specs.Blocks.{TakesOn}
 use Rattle.tile_text.specs.SystemText.{FaultAny, ReadsAny}
 use Rattle.tilebench.specs.declared.input.SystemFront.{SystemFront}
 
-
 -- what was read is short, begins with the text of the system, and is all where it is said so
 pub record IsFront (left left_after : Option (List ℕ)) (front : SystemFront) : Type 0 where
   pub taken : TakesOn left left_after [] front.begun.text.items

@@ -7,7 +7,6 @@ use Rattle.tile_io.proofs.Inputs.{all_there}
 use Rattle.tile_io.proofs.TakenOn.{takes_none}
 use Rattle.atam.specs.TileSystem.{TileSystem}
 use Rattle.tile_text.specs.SystemText.{ReadsAny}
-
 use Rattle.tilebench.specs.Inner.Fronts.{IsFront, FailsAtFront}
 use Rattle.tilebench.specs.Inner.Gives.{Gives}
 use Rattle.tilebench.proofs.Fronts.{front_faulty, from_before, unread_behind, whole_input}

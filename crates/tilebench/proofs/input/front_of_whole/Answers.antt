@@ -4,7 +4,6 @@ use Rattle.std.proofs.lemmas.Result.{err_from_is_err_and}
 use Rattle.tile_io.specs.declared.mark.Mark.{Mark}
 use Rattle.atam.specs.TileSystem.{TileSystem}
 use Rattle.tile_text.specs.SystemText.{ReadsAny}
-
 use Rattle.tilebench.specs.Inner.Fronts.{IsFront, FailsAtFront}
 use Rattle.tilebench.specs.Inner.Gives.{Gives}
 use Rattle.tilebench.proofs.Fronts.{front_faulty, taken_behind, unread_behind, whole_input}
