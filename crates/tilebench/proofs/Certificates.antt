@@ -1,10 +1,18 @@
 -- What `certify` and `verify` answer to a text.
-use Rattle.std.proofs.Common.{◌≡◌, ◌≢◌, ◌↔◌, ℕ, true, false, List, All, inl, inr, refl, sym, ap, subst}
+use Rattle.std.proofs.Common.{◌≡◌, ◌≢◌, ◌↔◌, ◌≤◌, ◌++◌, ℕ, true, false, List, All, get_or, length, inl, inr, refl, sym, ap, subst, arith}
+use Rattle.std.proofs.Math.Nat.{le_trans}
+use Rattle.std.proofs.lemmas.List.{length-map}
+use Rattle.std.proofs.lemmas.Option.{slice_get-get_or}
 use Rattle.atam.specs.declared.place.Place.{Place}
 use Rattle.atam.specs.Assembly.{Fits}
 use Rattle.atam.specs.Placements.{HasDistinctSites}
 use Rattle.atam.specs.TileSystem.{TileSystem, IsType, IsValid}
 use Rattle.atam.specs.Determinism.{IsLocallyDeterministic}
+use Rattle.atam.proofs.Count.{count_in_box}
+use Rattle.assembly.proofs.Cells.{cell_count-most}
+use Rattle.tile_text.specs.Spelling.{spelling, end_of_print, version_of}
+use Rattle.tile_text.proofs.PrintLemmas.{has_version}
+use Rattle.tile_io.specs.Lines.{first_mark}
 use Rattle.replay_order.specs.ReplayAnswers.{IsWholeOrder}
 use Rattle.atam.specs.declared.verdict.Verdict.{Verdict}
 use Rattle.atam.specs.declared.verdict.Verdict.TheVariants as verdicts
@@ -12,12 +20,14 @@ use Rattle.local_check.specs.Judgement as judging
 use Rattle.cert_check.specs.declared.entry.Entry.{Entry}
 use Rattle.cert_check.specs.declared.verdict.CertVerdict.{CertVerdict}
 use Rattle.cert_check.specs.declared.verdict.CertVerdict.TheVariants.{Yes, NoSeed, SeedSides, BadInput, NotExact, LooseBond, Rival, NotTerminal}
-use Rattle.cert_check.specs.Certificates.{IsCertificateOf, IsGood, places_of}
+use Rattle.cert_check.specs.Certificates.{AreEntries, IsCertificateOf, IsGood, places_of}
 use Rattle.cert_check.specs.Judgement.{IsVerdict}
 use Rattle.cert_check.specs.Laws.{IsCertified}
 use Rattle.cert_check.proofs.Certified.{good_where_certified}
 use Rattle.cert_check.proofs.Verdicts.{verdict_yes}
-use Rattle.cert_text.specs.CertificateLines.{NamesKnownType, verified_line}
+use Rattle.cert_text.specs.CertificateLines.{NamesKnownType, mark_lines, verified_line}
+use Rattle.cert_text.specs.PrintedCertificates.{MayBePrinted}
+use Rattle.cert_text.proofs.Printed.{reads_back}
 use Rattle.tilebench.specs.declared.commands.certify.Certification.{Certification}
 use Rattle.tilebench.specs.declared.reordering.Reordering.{Reordering}
 use Rattle.tilebench.specs.declared.reordering.Reordering.TheVariants.{Whole, SeedMissing, Stuck}
@@ -49,17 +59,37 @@ pub certify_answer : (input : List ℕ) (sys : TileSystem) (places tiles : List 
 certify_answer input sys places tiles certification read assembly certified =
     record { sys = sys; places = places; read = read; tiles = tiles; assembly = assembly; told = certificate_told sys tiles certification certified }
 
+-- behind the spelling of the system the lines of a certificate read as its entries
+certificate_back : (sys : TileSystem) (order : List Place) (entries : List Entry) → IsValid sys → Fits sys order → IsCertificateOf sys order entries → AreEntries entries →
+    IsSystemThenCertificate (spelling sys ++ mark_lines sys entries) sys entries
+certificate_back sys order entries valid fits certificate known =
+    let own_fits : Fits sys (places_of entries) = subst (Fits sys) (sym certificate.places) fits in
+    let few : length (places_of entries) ≤ 1048576 =
+    le_trans (count_in_box sys.area (places_of entries) known.distinct own_fits.sites) (cell_count-most sys.area valid.box)
+    in
+    let many : length (places_of entries) ≡ length entries = length-map entries (λ (e : Entry). e.place) in
+    let may : MayBePrinted sys entries = record {
+      fits = own_fits;
+      known = known;
+      ranks = λ k d within. let is = certificate.ranks k (get_or entries k d) (slice_get-get_or entries k d within) in omega (arith, is, few, many, within);
+    }
+    in
+    let back = reads_back sys valid (version_of sys) (has_version sys) entries may in
+    record { end = end_of_print (version_of sys) sys first_mark; reads = back.system; rest = back.entries }
+
 -- the certificate of an order that the verdict says yes to
-pub certificate_given : (sys : TileSystem) (tiles order : List Place) (verdict : Verdict) (entries : List Entry) → IsWholeOrder sys tiles order → judging.IsVerdict sys order verdict → verdict ≡ verdicts.Yes →
-    IsCertificateOf sys order entries → (IsLocallyDeterministic sys order → IsGood sys entries) → IsCertificateOfTiles sys tiles entries
-certificate_given sys tiles order verdict entries ordered judged yes_it_is certificate good =
+pub certificate_given : (sys : TileSystem) (tiles order : List Place) (verdict : Verdict) (entries : List Entry) → IsValid sys → IsWholeOrder sys tiles order → judging.IsVerdict sys order verdict →
+    verdict ≡ verdicts.Yes → IsCertificateOf sys order entries → AreEntries entries → (IsLocallyDeterministic sys order → IsGood sys entries) → IsCertificateOfTiles sys tiles entries
+certificate_given sys tiles order verdict entries valid ordered judged yes_it_is certificate known good =
     let deterministic : IsLocallyDeterministic sys order = subst (judging.IsVerdict sys order) yes_it_is judged in
     record {
       order = order;
       ordered = ordered;
       deterministic = deterministic;
       certificate = certificate;
+      known = known;
       good = good deterministic;
+      reads_back = certificate_back sys order entries valid ordered.fits certificate known;
     }
 
 -- its types are those of the system

@@ -1,26 +1,30 @@
 -- `certify`: the certificate of an assembly's canonical order.
-use Rattle.std.specs.Prelude.{◌≡◌, ◌⊎◌, ℕ, Bool, true, false, List}
+use Rattle.std.specs.Prelude.{◌≡◌, ◌⊎◌, ◌++◌, ℕ, Bool, true, false, List}
 use Rattle.atam.specs.declared.place.Place.{Place}
 use Rattle.atam.specs.TileSystem.{TileSystem}
 use Rattle.atam.specs.Determinism.{IsLocallyDeterministic}
 use Rattle.replay_order.specs.ReplayAnswers.{IsWholeOrder}
 use Rattle.atam.specs.declared.verdict.Verdict.{Verdict}
 use Rattle.local_check.specs.Judgement.{IsVerdict}
+use Rattle.tile_text.specs.Spelling.{spelling}
 use Rattle.seq_text.specs.VerdictLines.{verdict_line}
 use Rattle.cert_check.specs.declared.entry.Entry.{Entry}
-use Rattle.cert_check.specs.Certificates.{IsCertificateOf, IsGood}
+use Rattle.cert_check.specs.Certificates.{AreEntries, IsCertificateOf, IsGood}
 use Rattle.cert_text.specs.CertificateLines.{mark_lines}
 use Rattle.tilebench.specs.Commands.Replay.{TellsNoOrder}
 use Rattle.job_board.specs.AnswerText.{is_unique}
-use Rattle.tilebench.specs.Inputs.{IsAssemblyOf, IsSystemThenPlacements}
+use Rattle.tilebench.specs.Inputs.{IsAssemblyOf, IsSystemThenCertificate, IsSystemThenPlacements}
 
--- the canonical order of the tiles is locally deterministic, and these entries are its certificate, which is good
+-- The canonical order of the tiles is locally deterministic, and these entries are its certificate: at distinct sites, with no sides but the four. It is good, and behind the spelling of the system
+-- its lines read as these entries.
 pub record IsCertificateOfTiles (sys : TileSystem) (tiles : List Place) (entries : List Entry) : Type 0 where
   pub order : List Place
   pub ordered : IsWholeOrder sys tiles order
   pub deterministic : IsLocallyDeterministic sys order
   pub certificate : IsCertificateOf sys order entries
+  pub known : AreEntries entries
   pub good : IsGood sys entries
+  pub reads_back : IsSystemThenCertificate (spelling sys ++ mark_lines sys entries) sys entries
 
 -- the verdict on it is this one, and a no
 pub record IsRefutedBy (sys : TileSystem) (tiles : List Place) (verdict : Verdict) : Type 0 where

@@ -15,7 +15,7 @@ use crate::room::{Reply, Room, SourceRoom};
 use crate::stop::Stop;
 use assembly::{Grid, Sequence};
 use atam::Verdict;
-use cert_check::{OrderedCertificate, certificate_in_order};
+use cert_check::{EntryList, OrderedCertificate, certificate_in_order};
 use cert_text::print_entries;
 use local_check::{SideSets, inputs_of_grid, judge};
 use seq_text::print_verdict;
@@ -147,6 +147,8 @@ fn certification_with(
     match judge(sys, &order, sides) {
         Verdict::Yes => {
             let certificate = certificate_in_order(alloc, sys, order, sides)?;
+            sys.recall_valid();
+            certificate.recall_entries();
             Ok(Certification::Given(certificate))
         }
         refuted => Ok(Certification::Refuted(refuted)),
