@@ -1,5 +1,6 @@
 pub mod Winning
 pub mod Numbering
+pub mod Splitting
 pub mod Ordering
 pub mod Joined
 pub mod Whole

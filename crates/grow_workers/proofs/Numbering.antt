@@ -101,11 +101,15 @@ pairs_below (suc n) (suc i) (suc j) d before within = pairs_below n i j d (omega
 distinct_below : (n : ℕ) → AllPairs (λ a b. a ≢ b) (below n)
 distinct_below n = λ i j d before within. pairs_below n i j d before within
 
--- who owns all numbers owns at least 64
-pub owns_many : (count : ℕ) → count ≤ 64 → OwnsAtLeast count (2 ^ 64 - 1)
-owns_many count few = record {
+-- who owns the least numbers, so many of them, owns at least so many
+pub owns_least : (bits count : ℕ) → count ≤ bits → OwnsAtLeast count (2 ^ bits - 1)
+owns_least bits count few = record {
   numbers = below count;
   many = let e = length_below count in omega (arith, e);
   distinct = distinct_below count;
-  all_owned = λ k d l. let b = is_below count k d l in bit_at_ones 64 (get_or (below count) k d) (omega (arith, b, few));
+  all_owned = λ k d l. let b = is_below count k d l in bit_at_ones bits (get_or (below count) k d) (omega (arith, b, few));
 }
+
+-- and who owns all numbers owns at least 64
+pub owns_many : (count : ℕ) → count ≤ 64 → OwnsAtLeast count (2 ^ 64 - 1)
+owns_many count few = owns_least 64 count few

@@ -295,7 +295,7 @@ ones-greatest k within =
     (λ l. let none = bit_at_ones_above (suc k) g (omega (arith, l)) in absurd (omega (arith, own, none)))
     (λ h. omega (arith, f, h)))
 
-ones-least : (k : ℕ) → suc k ≤ 64 → least (2 ^ suc k - 1) ≡ 0
+pub ones-least : (k : ℕ) → suc k ≤ 64 → least (2 ^ suc k - 1) ≡ 0
 ones-least k within = least-is (2 ^ suc k - 1) 0 (ones-small k within) (bit_at_ones (suc k) 0 (omega arith)) (λ j below. let never : ⊥ = omega (arith, below) in absurd never)
 
 ones-rest : (k : ℕ) → suc k ≤ 64 → 2 ^ suc k - 1 - 2 ^ greatest (2 ^ suc k - 1) ≡ 2 ^ k - 1
@@ -314,7 +314,7 @@ ones-numbers (suc (suc n)) (suc k) few within = (
 )
 
 -- the numbers of workers on a whole seat
-ones-worker : (w k : ℕ) → w < suc k → suc k ≤ 64 → greatest_but w (2 ^ suc k - 1) + w ≡ k
+pub ones-worker : (w k : ℕ) → w < suc k → suc k ≤ 64 → greatest_but w (2 ^ suc k - 1) + w ≡ k
 ones-worker zero k below within = omega (arith, ones-greatest k within)
 ones-worker (suc w) zero below within = let never : ⊥ = omega (arith, below) in absurd never
 ones-worker (suc w) (suc k) below within =
@@ -421,6 +421,7 @@ whole_growth sys workers start old new grid wins grown valid all none grew count
     record {
       area = closes.area;
       distinct = closes.distinct;
+      inside = closes.inside;
       producible = closes.producible;
       closed = closed_same sys grown.grid.tiles new.scout.seen closes.distinct closes.scout.distinct same seen_closed;
       numbers = closes.numbers;

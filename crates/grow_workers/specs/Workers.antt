@@ -1,5 +1,6 @@
 -- Workers, their numbers and what they win.
 use Rattle.std.specs.Prelude.{◌≡◌, ◌≢◌, ℕ, zero, suc, ◌-◌, ◌^◌, ◌<◌, ◌+◌, ◌≤◌, true, List, ◌++◌, All, AllPairs, length, slice_index, sum}
+use Rattle.atam.specs.Sites.{InBox}
 use Rattle.atam.specs.TileSystem.{TileSystem}
 use Rattle.atam.specs.Placements.{SamePlacements, HasDistinctSites, IsPartOf}
 use Rattle.atam.specs.declared.place.Place.{Place}
@@ -59,10 +60,12 @@ pub record IsSeenOrder (sys : TileSystem) (tiles : List Place) (seen : SeenOrder
   pub canonical : IsCanonical sys tiles seen.order
   pub clean : seen.clean ≡ true → CameExact sys seen.order
 
--- What `grow` leaves: a producible assembly of the box, closed in it. Only the workers' numbers have placed tiles, and these are all tiles but the seeds.
+-- What `grow` leaves: a producible assembly in the box, closed in it. Only the workers' numbers have
+-- placed tiles, and these are all tiles but the seeds.
 pub record IsGrownBy (sys : TileSystem) (workers : ℕ) (grown : GrownValue) : Type 0 where
   pub area : grown.grid.area ≡ sys.area
   pub distinct : HasDistinctSites grown.grid.tiles
+  pub inside : All (λ p. InBox sys.area p.site) grown.grid.tiles
   pub producible : IsProducible sys grown.grid.tiles
   pub closed : IsClosedInBox sys grown.grid.tiles
   pub numbers : length grown.won ≡ 64

@@ -1,7 +1,8 @@
 -- What the laws of confluence say of growth answers.
 use Rattle.tile_text.specs.SystemText.{ReadsAny}
-use Rattle.std.proofs.Common.{◌≡◌, ◌∙◌, ◌+◌, ℕ, Bool, true, true≢false, Some, List, [], ◌∷◌, Option, refl, sym, ap, subst}
+use Rattle.std.proofs.Common.{◌≡◌, ◌∙◌, ◌+◌, ℕ, Bool, true, true≢false, All, Some, List, [], ◌∷◌, Option, refl, sym, ap, subst}
 use Rattle.std.specs.List.{AllZip}
+use Rattle.std.proofs.lemmas.List.Elements.{All-head, All-tail}
 use Rattle.atam.specs.declared.place.Place.{Place}
 use Rattle.atam.specs.Placements.{HasDistinctSites, SamePlacements}
 use Rattle.atam.specs.TileSystem.{TileSystem, IsValid}
@@ -10,7 +11,7 @@ use Rattle.atam.specs.Growth.{IsProducible}
 use Rattle.atam.specs.Determinism.{IsDeterministicInBox}
 use Rattle.atam.proofs.Sequences.{IsLegal-distinct}
 use Rattle.atam.proofs.Open.{least_open_same}
-use Rattle.atam.proofs.Tiles.{SamePlacements-trans, SameTiles-from}
+use Rattle.atam.proofs.Tiles.{SamePlacements-trans, SameTiles-from, same_back}
 use Rattle.tile_text.proofs.Eithers.{any_valid}
 use Rattle.atam.specs.declared.verdict.Verdict.{Verdict}
 use Rattle.atam.specs.declared.verdict.Verdict.TheVariants.{Yes, NotExact, Rival, NotTerminal}
@@ -19,12 +20,13 @@ use Rattle.unique_law.specs.Outcomes.{Outcome, IsOutcome}
 use Rattle.atam.proofs.Canon.{canonical_too, producible_types}
 use Rattle.unique_law.proofs.OneOutcome.{one_full_growth, yes_in_some_order, grows_into_outcome}
 use Rattle.unique_law.specs.Within.{IsYesWithin}
-use Rattle.unique_law.proofs.Within.{one_outcome_within}
+use Rattle.unique_law.proofs.Within.{one_outcome_within, grows_into_outcome_within, names_site_outside, within_in_its_order}
 use Rattle.site_table.specs.Seats.{GrownValue}
 use Rattle.tile_text.specs.Spelling.{spelling}
 use Rattle.job_board.specs.declared.job.Job.{Job}
 use Rattle.tile_io.specs.declared.mark.Mark.{Mark}
 use Rattle.job_board.specs.Answers.{Answers}
+use Rattle.job_board.specs.AnswerText.{batch_text}
 use Rattle.job_board.specs.BatchText.{ReadsJobs}
 use Rattle.tilebench.specs.Growing.{TellsGrowth}
 use Rattle.tilebench.specs.Commands.Batch.{IsBatchAnswer}
@@ -44,10 +46,6 @@ unique_yes Yes positive = refl
 unique_yes (NotExact m sum) positive = absurd (true≢false (sym positive))
 unique_yes (Rival m t) positive = absurd (true≢false (sym positive))
 unique_yes (NotTerminal m t) positive = absurd (true≢false (sym positive))
-
--- and then a yes within the box
-pub yes_within : (verdict : Verdict) → is_unique verdict ≡ true → IsYesWithin verdict
-yes_within verdict positive = subst IsYesWithin (sym (unique_yes verdict positive)) tt
 
 -- an outcome is that of each locally deterministic list in the box
 pub growth_of_deterministic : (sys : TileSystem) → HasDistinctSites sys.seeds → (tiles : List Place) (outcome : Outcome) → IsGrowth sys tiles outcome → (s : List Place) →
@@ -110,10 +108,17 @@ growth_headline input sys table is_yes text read told =
           (growth_may sys valid tiles outcome.order outcome.outside outcome.verdict is.full.inside told.grown.ordered.fits is.least is.judged) told.printed;
       closed = is.full.closed;
       outside = is.least;
+      status = told.answer;
       yes = (λ positive. tells.0 (yes_it_is positive), λ deterministic. told.answer ∙ ap is_unique (tells.1 deterministic));
       some_order = (λ positive. tells_some.0 (yes_it_is positive), λ order. told.answer ∙ ap is_unique (tells_some.1 order));
       only = λ positive b legal. grows_into_outcome sys seeds tiles b outcome is (yes_it_is positive) legal;
+      within = within_in_its_order sys seeds tiles outcome is;
+      only_within = λ holds b. grows_into_outcome_within sys seeds tiles outcome is b holds;
+      one_outcome = λ holds others other others_grown.
+          let one = one_outcome_within sys seeds tiles others outcome other is holds others_grown in
+          (same_back tiles others one.0, sym one.1);
       same_bytes = one_text sys table is_yes text seeds told;
+      named_outside = names_site_outside sys seeds tiles outcome is;
       determined = growth_of_deterministic sys seeds tiles outcome told.grown;
     }
 
@@ -122,10 +127,10 @@ pub headline : (workers : ℕ) (grown : Option GrownValue) (input : List ℕ) (i
 headline workers grown input is_yes text answer = growth_headline input answer.sys answer.table is_yes text answer.read answer.told
 
 -- of an answer of `watch`, behind its frames
-pub watched_headline : (frames : ℕ) (grown : Option GrownValue) (input : List ℕ) (is_yes : Bool) (text : List ℕ) → TellsWatchedGrowth frames grown input is_yes text →
+pub watched_headline : (workers frames : ℕ) (grown : Option GrownValue) (input : List ℕ) (is_yes : Bool) (text : List ℕ) → TellsWatchedGrowth workers frames grown input is_yes text →
     IsWatchedHeadline frames input is_yes text
 unfolding growth_headline
-watched_headline frames grown input is_yes text answer =
+watched_headline workers frames grown input is_yes text answer =
     let told = answer.told in
     record {
       growth = told.growth;
@@ -172,13 +177,33 @@ job_headlines text from to before (job ∷ jobs) [] reads answers = absurd answe
 job_headlines text from to before (job ∷ jobs) (outcome ∷ outcomes) (next, first, rest) answers =
     (job_headline job outcome (any_valid text first.behind next job.sys first.system) answers.0, job_headlines text next to (before + 1) jobs outcomes rest answers.1)
 
+-- where each verdict is a yes within the box, jobs have one list of answers
+one_answer_each : (jobs : List Job) (outcomes others : List Outcome) → AllZip IsJobHeadline jobs outcomes → All (λ outcome. IsYesWithin outcome.verdict) outcomes →
+    AllZip (λ job outcome. Answers job.sys outcome) jobs others → others ≡ outcomes
+one_answer_each [] [] [] headlines hold answers = refl
+one_answer_each [] [] (other ∷ others) headlines hold answers = absurd answers
+one_answer_each [] (outcome ∷ outcomes) others headlines hold answers = absurd headlines
+one_answer_each (job ∷ jobs) [] others headlines hold answers = absurd headlines
+one_answer_each (job ∷ jobs) (outcome ∷ outcomes) [] headlines hold answers = absurd answers
+one_answer_each (job ∷ jobs) (outcome ∷ outcomes) (other ∷ others) (first, rest) hold answers =
+    let holds : IsYesWithin first.headline.outcome.verdict =
+    subst (λ (o : Outcome). IsYesWithin o.verdict) (sym first.its_outcome) (All-head (λ (o : Outcome). IsYesWithin o.verdict) outcome outcomes hold)
+    in
+    let told : IsOutcome first.headline.sys answers.0.tiles other = subst (λ (s : TileSystem). IsOutcome s answers.0.tiles other) (sym first.of_job) answers.0.told in
+    let same : other ≡ outcome = (first.headline.one_outcome holds answers.0.tiles other told).1 ∙ first.its_outcome in
+    let same_rest = one_answer_each jobs outcomes others rest (All-tail (λ (o : Outcome). IsYesWithin o.verdict) outcome outcomes hold) answers.1 in
+    λ i. same i ∷ same_rest i
+
 -- of an answer of `batch`
 pub batch_headline : (input : List ℕ) (is_yes : Bool) (text : List ℕ) → IsBatchAnswer input is_yes text → IsBatchHeadline input is_yes text
-batch_headline input is_yes text answer = record {
-  jobs = answer.jobs;
-  read = answer.read;
-  outcomes = answer.outcomes;
-  each = job_headlines input answer.read.begins.start answer.read.last 0 answer.jobs answer.outcomes answer.read.begins.each answer.answered;
-  printed = answer.printed;
-  answer = answer.answer;
-}
+batch_headline input is_yes text answer =
+    let each = job_headlines input answer.read.begins.start answer.read.last 0 answer.jobs answer.outcomes answer.read.begins.each answer.answered in
+    record {
+      jobs = answer.jobs;
+      read = answer.read;
+      outcomes = answer.outcomes;
+      each = each;
+      printed = answer.printed;
+      answer = answer.answer;
+      same_bytes = λ hold others answered. ap (batch_text answer.jobs) (one_answer_each answer.jobs answer.outcomes others each hold answered) ∙ sym answer.printed;
+    }

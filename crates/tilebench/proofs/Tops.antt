@@ -37,10 +37,10 @@ headline_of workers grown left left_after is_yes text answer =
     record { input = answer.input; whole = answer.read.whole refl; answer = headline workers grown answer.input is_yes text answer.answer }
 
 -- and that of a watched growth
-watched_headline_of : (frames : ℕ) (grown : Option GrownValue) (left left_after : Option (List ℕ)) (is_yes : Bool) (text : List ℕ) →
-    AnswersLeft (watch_row frames) grown left left_after is_yes text → AnswersInput (IsWatchedHeadline frames) left left_after is_yes text
-watched_headline_of frames grown left left_after is_yes text answer =
-    record { input = answer.input; whole = answer.read.whole refl; answer = watched_headline frames grown answer.input is_yes text answer.answer }
+watched_headline_of : (workers frames : ℕ) (grown : Option GrownValue) (left left_after : Option (List ℕ)) (is_yes : Bool) (text : List ℕ) →
+    AnswersLeft (watch_row workers frames) grown left left_after is_yes text → AnswersInput (IsWatchedHeadline frames) left left_after is_yes text
+watched_headline_of workers frames grown left left_after is_yes text answer =
+    record { input = answer.input; whole = answer.read.whole refl; answer = watched_headline workers frames grown answer.input is_yes text answer.answer }
 
 -- and that of a batch
 batch_headline_of : (grown : Option GrownValue) (left left_after : Option (List ℕ)) (is_yes : Bool) (text : List ℕ) →
@@ -95,7 +95,7 @@ module _ {S K E : Type 0} (left : S → Option (List ℕ)) (read_faults : S → 
     pub call_watched : (workers : WorkerCount) (choice : ℕ) (frames : FrameCount) (is_yes : Bool) → IsCallOf words (Watch workers choice frames) → ran.status ≡ answer_status is_yes →
         Gains written out_faults (AnswersInput (IsWatchedHeadline frames.count) (left source) (left after) is_yes) out out_after
     call_watched workers choice frames is_yes =
-        call_said (Watch workers choice frames) (AnswersInput (IsWatchedHeadline frames.count) (left source) (left after)) (watched_headline_of frames.count ran.grown (left source) (left after)) is_yes
+        call_said (Watch workers choice frames) (AnswersInput (IsWatchedHeadline frames.count) (left source) (left after)) (watched_headline_of workers.count frames.count ran.grown (left source) (left after)) is_yes
 
     pub call_batched : (workers : WorkerCount) (is_yes : Bool) → IsCallOf words (Batch workers) → ran.status ≡ answer_status is_yes →
         Gains written out_faults (AnswersInput IsBatchHeadline (left source) (left after) is_yes) out out_after

@@ -23,7 +23,8 @@ use Rattle.tilebench.specs.Inputs.{IsAlone}
 use Rattle.tilebench.specs.Inner.Rooms.{GrowsTo, outcome_of}
 use Rattle.tilebench.specs.Laws.{HasFramesBefore, WatchAnswersAsGrow, WatchPrintsAsGrow}
 use Rattle.tilebench.proofs.Growths.{growth_told}
-use Rattle.tilebench.proofs.Headlines.{yes_within, one_text}
+use Rattle.unique_law.specs.Within.{IsYesWithin}
+use Rattle.tilebench.proofs.Headlines.{one_text}
 
 -- a watched growth is told by the text of its frames and that of what grew
 pub watched_told : (sys : TileSystem) (frames : FrameList) (many : ℕ) (table : GrownValue) (growth : Growth) → IsWatched sys many frames.places frames.counts table.grid.tiles →
@@ -72,11 +73,12 @@ zeros_sum (suc n) = let rest = zeros_sum n in let first = sum_by-cons (λ (x : �
 as_one_worker : GrownValue → GrownValue
 as_one_worker table = record { grid = table.grid; won = sum table.won ∷ zeros 63 }
 
-grown_as_one_worker : (sys : TileSystem) (workers : ℕ) (table : GrownValue) → 1 ≤ workers → GrewBesideWatcher sys table → IsFullGrowth sys table.grid.tiles → IsGrownBy sys workers (as_one_worker table)
+grown_as_one_worker : (sys : TileSystem) (watching workers : ℕ) (table : GrownValue) → 1 ≤ workers → GrewBesideWatcher sys watching table → IsFullGrowth sys table.grid.tiles → IsGrownBy sys workers (as_one_worker table)
 unfolding as_one_worker
-grown_as_one_worker sys workers table some grew full = record {
+grown_as_one_worker sys watching workers table some grew full = record {
   area = grew.area;
   distinct = full.distinct;
+  inside = full.inside;
   producible = full.producible;
   closed = full.closed;
   numbers = ap suc (zeros_many 63);
@@ -89,9 +91,9 @@ grown_as_one_worker sys workers table some grew full = record {
     idle (suc n) below none = zeros_none 63 n
 
 -- what stands before the text of the growth
-frames_before : (frames : ℕ) (input growth text : List ℕ) (grown : Option GrownValue) (is_yes : Bool) (answer : TellsWatchedGrowth frames grown input is_yes text) → growth ≡ answer.told.growth →
+frames_before : (watching frames : ℕ) (input growth text : List ℕ) (grown : Option GrownValue) (is_yes : Bool) (answer : TellsWatchedGrowth watching frames grown input is_yes text) → growth ≡ answer.told.growth →
     HasFramesBefore frames input growth text
-frames_before frames input growth text grown is_yes answer same = record {
+frames_before watching frames input growth text grown is_yes answer same = record {
   sys = answer.sys;
   read = answer.read;
   places = answer.told.places;
@@ -103,10 +105,10 @@ frames_before frames input growth text grown is_yes answer same = record {
 
 pub answers_as_grow : WatchAnswersAsGrow
 unfolding as_one_worker
-answers_as_grow frames workers table input is_yes text some answer =
+answers_as_grow watching frames workers table input is_yes text some answer =
     let own : answer.table ≡ table = ap (λ (o : Option GrownValue). unwrap_or o table) (sym answer.handed_out) in (
       answer.told.growth,
-      frames_before frames input answer.told.growth text (Some table) is_yes answer refl,
+      frames_before watching frames input answer.told.growth text (Some table) is_yes answer refl,
       record {
         grown = as_one_worker answer.table;
         same = ap (λ (t : GrownValue). t.grid) own;
@@ -115,27 +117,30 @@ answers_as_grow frames workers table input is_yes text some answer =
           read = answer.read;
           table = as_one_worker answer.table;
           handed_out = refl;
-          grew = grown_as_one_worker answer.sys workers answer.table some answer.grew answer.told.watched.full;
+          grew = grown_as_one_worker answer.sys watching workers answer.table some answer.grew answer.told.watched.full;
           told = record { outcome = answer.told.grown.outcome; grown = answer.told.grown.grown; printed = answer.told.grown.printed; answer = answer.told.grown.answer };
         };
       },
     )
 
--- two texts of what one system grew into, of which one is a yes
-prints_once : (sys : TileSystem) (input : List ℕ) (table table_too : GrownValue) (is_yes is_yes_too : Bool) (text text_too : List ℕ) → IsAlone ReadsAny input sys → IsGrowthText sys table is_yes text →
-    IsGrowthText sys table_too is_yes_too text_too → is_yes ≡ true → text_too ≡ text
-prints_once sys input table table_too is_yes is_yes_too text text_too read told other positive =
+-- two texts of what one system grew into, of which one has a verdict that is a yes within the box
+prints_once : (sys : TileSystem) (input : List ℕ) (table table_too : GrownValue) (is_yes is_yes_too : Bool) (text text_too : List ℕ) → IsAlone ReadsAny input sys →
+    (told : IsGrowthText sys table is_yes text) → IsGrowthText sys table_too is_yes_too text_too → IsYesWithin told.outcome.verdict → text_too ≡ text
+prints_once sys input table table_too is_yes is_yes_too text text_too read told other holds =
     let valid = any_valid input _ read.end sys read.reads in
-    let holds = yes_within told.outcome.verdict (sym told.answer ∙ positive) in
     other.printed ∙ one_text sys table is_yes text valid.distinct_seeds told holds table_too.grid.tiles other.outcome other.grown.outcome_is
 
 pub prints_as_grow : WatchPrintsAsGrow
-prints_as_grow frames workers watched grown input is_yes is_yes_too text growth watch grow positive =
-    let Told : TileSystem → Type 0 = λ s. IsGrowthText s grow.table is_yes_too growth in
+prints_as_grow watching frames workers watched grown input is_yes is_yes_too text growth watch grow either =
+    let GrowTold : TileSystem → Type 0 = λ s. IsGrowthText s grow.table is_yes_too growth in
+    let WatchTold : TileSystem → Type 0 = λ s. IsGrowthText s watch.table is_yes watch.told.growth in
     let one = any_one_system input _ grow.read.end watch.read.end grow.sys watch.sys grow.read.reads watch.read.reads in
-    let told : IsGrowthText watch.sys grow.table is_yes_too growth = subst Told one.0 grow.told in
-    let same : growth ≡ watch.told.growth = elim positive [
-      | inl watch_yes ↦ prints_once watch.sys input watch.table grow.table is_yes is_yes_too watch.told.growth growth watch.read watch.told.grown told watch_yes
-      | inr grow_yes ↦ sym (prints_once watch.sys input grow.table watch.table is_yes_too is_yes growth watch.told.growth watch.read told watch.told.grown grow_yes)
+    let same : growth ≡ watch.told.growth = elim either [
+      | inl holds ↦
+          let grow_told : IsGrowthText watch.sys grow.table is_yes_too growth = subst GrowTold one.0 grow.told in
+          prints_once watch.sys input watch.table grow.table is_yes is_yes_too watch.told.growth growth watch.read watch.told.grown grow_told holds
+      | inr holds ↦
+          let watch_told : IsGrowthText grow.sys watch.table is_yes watch.told.growth = subst WatchTold (sym one.0) watch.told.grown in
+          sym (prints_once grow.sys input grow.table watch.table is_yes_too is_yes growth watch.told.growth grow.read grow.told watch_told holds)
     ] in
-    frames_before frames input growth text watched is_yes watch same
+    frames_before watching frames input growth text watched is_yes watch same

@@ -50,7 +50,7 @@ abbrev pub room_of : Command → RoomRow
 room_of (command.Grow workers choice) = grow_row workers.count
 room_of (command.Race workers choice) = race_row workers.count
 room_of (command.Report workers choice) = report_row workers.count
-room_of (command.Watch workers choice frames) = watch_row frames.count
+room_of (command.Watch workers choice frames) = watch_row workers.count frames.count
 room_of (command.Batch workers) = batch_row
 room_of command.Check = reading ReadsAny FaultAny sequence_format (TellsNoGrowth IsCheckAnswer)
 room_of command.Replay = reading ReadsAny FaultAny grid_format (TellsNoGrowth IsReplayAnswer)

@@ -1,12 +1,14 @@
 -- What the top call promises.
-use Rattle.std.specs.Prelude.{◌≡◌, ◌↔◌, ◌⊎◌, ◌++◌, ℕ, Bool, true, false, List, Option, None}
+use Rattle.std.specs.Prelude.{◌≡◌, ◌↔◌, ◌⊎◌, ◌++◌, ℕ, Bool, true, false, List, All, Option, None, Some}
 use Rattle.std.specs.List.{AllZip, list_all}
+use Rattle.atam.specs.declared.verdict.Verdict.TheVariants.{NotTerminal}
 use Rattle.tilebench.specs.declared.status.Status.TheVariants.{Done, No, Words, Text, ReadFault, WriteFault, NoMemory}
 use Rattle.tilebench.specs.Terms.{Command, CommandName, CounterStop, WordsStop, IsCallOf, IsTaken, IsRefusedAs, refused_counter, refused_words, room_of}
 use Rattle.tilebench.specs.Terms.{Status, TextFault, Rose, Gains, GainsFront, AnswersLeft, FailsLeft, IsReadyFor, refused_text}
 use Rattle.tilebench.specs.Terms.{GrownValue, Outcome, IsOutcome, IsSystemThenSequence, spelling, Place, TileSystem, ReadsAny, IsAlone, IsGrowth, IsLegal, SamePlacements, growth_text}
-use Rattle.tilebench.specs.Terms.{IsClosedInBox, IsLeastOpenOutside, IsLocallyDeterministic, IsDeterministicInBox, IsDeterministicInSomeOrder, IsYesWithin, GrowsInto, IsWatchAnswer}
-use Rattle.tilebench.specs.Terms.{Job, IsBatch, batch_text, is_unique}
+use Rattle.tilebench.specs.Terms.{IsClosedInBox, IsLeastOpenOutside, IsLocallyDeterministic, IsDeterministicInBox, IsDeterministicInSomeOrder, GrowsInto, IsWatchAnswer}
+use Rattle.tilebench.specs.Terms.{InBox, IsDeterministicWithin, IsYesWithin, LiesInBox, Site, TypeId}
+use Rattle.tilebench.specs.Terms.{AnswerEach, Job, IsBatch, batch_text, is_unique}
 
 -- An answer: the words call for a command, as clap reads them, and this is what it answers to what was left of the source, with the growth that it hands out.
 pub record IsAnswer (words : List (List ℕ)) (left left_after : Option (List ℕ)) (grown : Option GrownValue) (is_yes : Bool) (text : List ℕ) : Type 0 where
@@ -81,13 +83,22 @@ pub record IsHeadline (input : List ℕ) (is_yes : Bool) (text : List ℕ) : Typ
   -- nothing extends the assembly in the box, nor outside it unless a site is named
   pub closed : IsClosedInBox sys tiles
   pub outside : IsLeastOpenOutside sys tiles outcome.outside
-  -- it says `unique yes` exactly where the three conditions of local determinism hold of the sequence, and so of some order of its places
+  -- the status is a yes exactly where the last line is `unique yes`
+  pub status : is_yes ≡ is_unique outcome.verdict
+  -- that comes exactly where the three conditions of local determinism hold of the sequence, and so of some order of its places
   pub yes : (is_yes ≡ true) ↔ IsLocallyDeterministic sys outcome.order
   pub some_order : (is_yes ≡ true) ↔ IsDeterministicInSomeOrder sys tiles
   -- then every legal sequence extends to the assembly
   pub only : is_yes ≡ true → (b : List Place) → IsLegal sys b → GrowsInto sys b tiles
-  -- and then, and at `unique no 3` too, every growth of the system prints the same bytes
+  -- the last line is `unique yes` or `unique no 3` exactly where the first two conditions hold of the sequence, since it lies in the box and is closed there
+  pub within : IsYesWithin outcome.verdict ↔ IsDeterministicWithin sys outcome.order
+  -- then every legal sequence that lies in the box extends to the assembly
+  pub only_within : IsYesWithin outcome.verdict → (b : List Place) → IsLegal sys b → LiesInBox sys b → GrowsInto sys b tiles
+  -- and every growth of the system has this outcome, with the same placements, and prints the same bytes
+  pub one_outcome : IsYesWithin outcome.verdict → (others : List Place) (other : Outcome) → IsOutcome sys others other → SamePlacements others tiles × (other ≡ outcome)
   pub same_bytes : IsYesWithin outcome.verdict → (others : List Place) (other : Outcome) → IsOutcome sys others other → growth_text sys other ≡ text
+  -- the site that `unique no 3` names lies outside the box, and is the one that is told of there
+  pub named_outside : (m : Site) (t : TypeId) → outcome.verdict ≡ NotTerminal m t → ¬ InBox sys.area m × (outcome.outside ≡ Some (m, t))
   -- and where any sequence in the box is locally deterministic, this is the growth of its placements
   pub determined : (s : List Place) → IsDeterministicInBox sys s → IsGrowth sys s outcome
 
@@ -111,3 +122,5 @@ pub record IsBatchHeadline (input : List ℕ) (is_yes : Bool) (text : List ℕ) 
   pub each : AllZip IsJobHeadline jobs outcomes
   pub printed : text ≡ batch_text jobs outcomes
   pub answer : is_yes ≡ list_all (λ outcome. is_unique outcome.verdict) outcomes
+  -- where each verdict is yes or names the third condition, whatever answers these jobs has the same bytes
+  pub same_bytes : All (λ outcome. IsYesWithin outcome.verdict) outcomes → (others : List Outcome) → AnswerEach jobs others → batch_text jobs others ≡ text

@@ -1,11 +1,12 @@
 -- Laws of what commands answer.
 use Rattle.tile_text.specs.SystemText.{ReadsAny}
-use Rattle.std.specs.Prelude.{◌≡◌, ◌⊎◌, ◌≤◌, ◌++◌, ℕ, Bool, true, List, length, Option, Some}
+use Rattle.std.specs.Prelude.{◌≡◌, ◌⊎◌, ◌≤◌, ◌++◌, ℕ, Bool, List, length, Option, Some}
 use Rattle.atam.specs.declared.place.Place.{Place}
 use Rattle.atam.specs.TileSystem.{TileSystem}
 use Rattle.site_table.specs.Seats.{GrownValue}
 use Rattle.watch_frames.specs.Frames.{AreFrames}
 use Rattle.watch_frames.specs.FrameText.{frames_text}
+use Rattle.unique_law.specs.Within.{IsYesWithin}
 use Rattle.tilebench.specs.Commands.Grow.{grow_row}
 use Rattle.tilebench.specs.Commands.Watch.{watch_row}
 use Rattle.tilebench.specs.Inputs.{IsAlone}
@@ -26,14 +27,15 @@ pub record IsGrowAnswerOf (workers : ℕ) (table : GrownValue) (input : List ℕ
   pub same : grown.grid ≡ table.grid
   pub answer : (grow_row workers).answers (Some grown) input is_yes growth
 
--- without its frames and the line `grown`, an answer of `watch` is one that `grow` gives of the same tiles, by any workers
+-- without its frames and the line `grown`, an answer of `watch` by whatever workers is one that `grow` gives of the same tiles, by any workers
 abbrev pub WatchAnswersAsGrow : Type 0
-WatchAnswersAsGrow = (frames workers : ℕ) (table : GrownValue) (input : List ℕ) (is_yes : Bool) (text : List ℕ) → 1 ≤ workers →
-    (watch_row frames).answers (Some table) input is_yes text →
+WatchAnswersAsGrow = (watching frames workers : ℕ) (table : GrownValue) (input : List ℕ) (is_yes : Bool) (text : List ℕ) → 1 ≤ workers →
+    (watch_row watching frames).answers (Some table) input is_yes text →
     (growth : List ℕ) × HasFramesBefore frames input growth text × IsGrowAnswerOf workers table input is_yes growth
 
--- wherever one of their verdicts is a yes, it has the bytes of every answer of `grow`
+-- wherever one of their verdicts is yes or names the third condition, it has the bytes of every answer of `grow`
 abbrev pub WatchPrintsAsGrow : Type 0
-WatchPrintsAsGrow = (frames workers : ℕ) (watched grown : Option GrownValue) (input : List ℕ) (is_yes is_yes_too : Bool) (text growth : List ℕ) →
-    (watch_row frames).answers watched input is_yes text → (grow_row workers).answers grown input is_yes_too growth → (is_yes ≡ true) ⊎ (is_yes_too ≡ true) →
+WatchPrintsAsGrow = (watching frames workers : ℕ) (watched grown : Option GrownValue) (input : List ℕ) (is_yes is_yes_too : Bool) (text growth : List ℕ) →
+    (watch : (watch_row watching frames).answers watched input is_yes text) → (grow : (grow_row workers).answers grown input is_yes_too growth) →
+    IsYesWithin watch.told.grown.outcome.verdict ⊎ IsYesWithin grow.told.outcome.verdict →
     HasFramesBefore frames input growth text

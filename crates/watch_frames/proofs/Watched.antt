@@ -1,7 +1,8 @@
 -- What is left of a growth that was watched.
-use Rattle.std.proofs.Common.{◌≡◌, ◌≢◌, ◌<◌, ◌≤◌, ◌+◌, ◌-◌, ◌^◌, ℕ, zero, suc, List, [], ◌∷◌, ◌++◌, append-nil, length, get_or, sum, bit_or, Contains, AllPairs, lit<, lit≤, refl, sym, ◌∙◌, ap, subst, arith}
+use Rattle.std.proofs.Common.{◌≡◌, ◌≢◌, ◌<◌, ◌≤◌, ◌+◌, ◌-◌, ◌^◌, ℕ, zero, suc, List, [], ◌∷◌, ◌++◌, append-nil, length, get_or, sum, bit_or, Contains, AllPairs, lit<, lit≤, refl, sym, ◌∙◌, ap, subst, arith, inl, inr}
 use Rattle.std.specs.Int.{bit_at}
 use lib.Count.{count_leading_zeros}
+use Rattle.std.proofs.lemmas.Bool.{cases_lt}
 use Rattle.std.proofs.lemmas.Nat.Bits.{bit_at_above, bit_at_ones}
 use Rattle.std.proofs.lemmas.List.Elements.{All-contains, Contains-append_left, Contains-append_right}
 use Rattle.atam.specs.declared.place.Place.{Place}
@@ -20,14 +21,11 @@ use Rattle.grow_core.proofs.Numbers.{by_none}
 use Rattle.site_table.specs.Seats.{SeatValue, GrownValue, Closes}
 use Rattle.site_table.specs.Rule.{IsPossible}
 use Rattle.frontier_seat.proofs.Looked.{closed_same}
-use Rattle.grow_workers.specs.Workers.{GrewOn, OwnsAtLeast}
-use Rattle.grow_workers.proofs.Winning.{all_won, rejoined-owned}
+use Rattle.grow_workers.specs.Workers.{GrewOn, WorkersWin, owned_number}
+use Rattle.grow_workers.proofs.Splitting.{rest_is, rest_small}
+use Rattle.grow_workers.proofs.Winning.{all_won, ones-least, ones-worker, rejoined-owned}
 use Rattle.watch_frames.specs.Frames.{AreFrames}
-use Rattle.watch_frames.specs.Watched.{IsWatched}
-
--- a part of the first seat has seen just the seeds
-pub seeds_seen : (seeds first part tiles : List Place) → SamePlacements seeds first → SamePlacements first part → SamePlacements seeds tiles → SamePlacements part tiles
-seeds_seen seeds first part tiles one two put = SamePlacements-trans part first tiles (same_back first part two) (SamePlacements-trans first seeds tiles (same_back seeds first one) put)
+use Rattle.watch_frames.specs.Watched.{IsWatched, number_beside}
 
 -- what the growth has seen is all that stands, and the frames are a part of it
 pub is_watched : (sys : TileSystem) (many : ℕ) (places : List Place) (counts : List ℕ) (old kept given joined : SeatValue) (start grid : TileGrid) (wins : List ℕ) (out : GrownValue) →
@@ -60,11 +58,6 @@ joined_owned kept given joined rest top union =
     union.owned ∙ ap (λ (n : ℕ). bit_or n given.owned) rest ∙ ap (λ (n : ℕ). bit_or (2 ^ 64 - 1 - 2 ^ greatest (2 ^ 64 - 1)) n) top
     ∙ rejoined-owned (2 ^ 64 - 1) (lit< tt) (lit< tt)
 
--- the other seat has not the greatest number
-rest_small : 2 ^ 64 - 1 - 2 ^ greatest (2 ^ 64 - 1) < 2 ^ 63
-unfolding count_leading_zeros
-rest_small = lit< tt
-
 no_tile : (sys : TileSystem) (kept : ScoutState) → IsPossible sys kept → kept.owned ≡ 2 ^ 64 - 1 - 2 ^ greatest (2 ^ 64 - 1) → placed_by 63 kept.mine ≡ []
 no_tile sys kept possible rest = by_none 63 kept.mine (λ t in_mine placer.
     let own : Owns kept.owned t.placer = possible.scout.mine_owned t in_mine in
@@ -72,6 +65,11 @@ no_tile sys kept possible rest = by_none 63 kept.mine (λ t in_mine placer.
     let none : bit_at kept.owned 63 ≡ 0 = bit_at_above kept.owned 63 63 small (lit≤ tt) in
     let own63 : Owns kept.owned 63 = subst (Owns kept.owned) placer own in
     omega (arith, own63, none))
+
+-- which numbers the workers have on the other seat
+number_is : (w : ℕ) → w < 16 → owned_number w (2 ^ 63 - 1) ≡ number_beside w
+number_is zero few = ones-least 62 (lit≤ tt)
+number_is (suc w) few = let is = ones-worker w 62 (omega (arith, few)) (lit≤ tt) in omega (arith, is)
 
 -- the watcher has placed nothing, and the seats have placed all tiles but the seeds
 module _ (sys : TileSystem) (kept given joined : ScoutState) (out : GrownValue) (rest : kept.owned ≡ 2 ^ 64 - 1 - 2 ^ greatest (2 ^ 64 - 1)) (top : given.owned ≡ 2 ^ greatest (2 ^ 64 - 1))
@@ -85,38 +83,21 @@ module _ (sys : TileSystem) (kept given joined : ScoutState) (out : GrownValue) 
       let mine : joined.mine ≡ kept.mine = union.mine ∙ ap (λ (l : List PlacedTile). kept.mine ++ l) none ∙ append-nil kept.mine in
       closes.own_counts 63 owns ∙ ap (λ (l : List PlacedTile). length (placed_by 63 l)) mine ∙ ap length (no_tile own kept possible rest)
 
--- the numbers below a number
-abbrev below : ℕ → List ℕ
-below zero = []
-below (suc n) = n ∷ below n
-
-length_below : (n : ℕ) → length (below n) ≡ n
-length_below zero = refl
-length_below (suc n) = ap suc (length_below n)
-
-is_below : (n k d : ℕ) → k < length (below n) → get_or (below n) k d < n
-is_below zero k d within = let never : ⊥ = omega (arith, within) in absurd never
-is_below (suc n) zero d within = omega arith
-is_below (suc n) (suc k) d within = let l = is_below n k d (omega (arith, within)) in omega (arith, l)
-
-pairs_below : (n i j d : ℕ) → i < j → j < length (below n) → get_or (below n) i d ≢ get_or (below n) j d
-pairs_below zero i j d before within = let never : ⊥ = omega (arith, within) in absurd never
-pairs_below (suc n) i zero d before within = let never : ⊥ = omega (arith, before) in absurd never
-pairs_below (suc n) zero (suc j) d before within = let l = is_below n j d (omega (arith, within)) in λ e. omega (arith, e, l)
-pairs_below (suc n) (suc i) (suc j) d before within = pairs_below n i j d (omega (arith, before)) (omega (arith, within))
-
-distinct_below : (n : ℕ) → AllPairs (λ a b. a ≢ b) (below n)
-distinct_below n = λ i j d before within. pairs_below n i j d before within
-
--- who owns all numbers and gives one away keeps at least 63
-pub rest_owns : (count : ℕ) → count ≤ 63 → OwnsAtLeast count (2 ^ 64 - 1 - 2 ^ greatest (2 ^ 64 - 1))
-unfolding count_leading_zeros
-rest_owns count few =
-    let rest : 2 ^ 63 - 1 ≡ 2 ^ 64 - 1 - 2 ^ greatest (2 ^ 64 - 1) = refl in
-    let owns : OwnsAtLeast count (2 ^ 63 - 1) = record {
-      numbers = below count;
-      many = let e = length_below count in omega (arith, e);
-      distinct = distinct_below count;
-      all_owned = λ k d l. let b = is_below count k d l in bit_at_ones 63 (get_or (below count) k d) (omega (arith, b, few));
-    } in
-    subst (OwnsAtLeast count) rest owns
+  -- nor has a number that no worker has
+  pub idle_won : (own : TileSystem) → IsPossible own kept → given.mine ≡ [] → (old : ScoutState) → old.owned ≡ kept.owned → old.mine ≡ [] →
+      (wins : List ℕ) → WorkersWin old.mine kept.mine old.owned wins → (workers : ℕ) → length wins ≡ workers → workers ≤ 16 →
+      (n : ℕ) → n < 64 → ((w : ℕ) → w < workers → n ≢ number_beside w) → get_or out.won n 0 ≡ 0
+  idle_won own possible none old same_owned none_old wins win workers count few n within none_has = elim (cases_lt n 63) [
+    | inl less ↦
+        let all : old.owned ≡ 2 ^ 63 - 1 = same_owned ∙ rest ∙ rest_is in
+        let owns_old : Owns old.owned n = subst (λ (o : ℕ). Owns o n) (sym all) (bit_at_ones 63 n less) in
+        let rests : placed_by n kept.mine ≡ placed_by n old.mine = win.others n owns_old
+        (λ w below. let worker : w < workers = subst (λ (m : ℕ). w < m) count below in
+        λ e. none_has w worker (e ∙ ap (owned_number w) all ∙ number_is w (omega (arith, worker, few)))) in
+        let owns : Owns joined.owned n = subst (λ (o : ℕ). Owns o n) (sym (joined_owned kept given joined rest top union)) (bit_at_ones 64 n within) in
+        let mine : joined.mine ≡ kept.mine = union.mine ∙ ap (λ (l : List PlacedTile). kept.mine ++ l) none ∙ append-nil kept.mine in
+        closes.own_counts n owns ∙ ap (λ (l : List PlacedTile). length (placed_by n l)) mine ∙ ap length (rests ∙ ap (placed_by n) none_old)
+    | inr more ↦
+        let greatest_is : n ≡ 63 = omega (arith, more, within) in
+        subst (λ (m : ℕ). get_or out.won m 0 ≡ 0) (sym greatest_is) (watcher_won own possible none)
+  ]

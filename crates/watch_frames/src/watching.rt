@@ -1,5 +1,5 @@
 // A growth that is watched.
-ghost use Rattle.std.specs.Prelude.{◌≡◌, ◌≤◌, [], IfOk};
+ghost use Rattle.std.specs.Prelude.{◌≡◌, ◌≤◌, [], IfOk, length};
 ghost use Rattle.std.specs.Thread.{IsSync};
 ghost use Rattle.atam.specs.Placements.{SamePlacements};
 ghost use Rattle.site_table.specs.Seats.{IsSeatOf};
@@ -32,7 +32,7 @@ pub fn watch<R: Threads + Sync, G: Gate>(
     requires few { workers ≤ 16 }
     requires some_frame { 1 ≤ frames }
     requires few_frames { frames ≤ 1000 }
-    ensures { IfOk result (λ r. IsWatchedGrowth sys.now frames r.0 r.1) }
+    ensures { IfOk result (λ r. IsWatchedGrowth sys.now workers frames r.0 r.1) }
 {
     sys.recall_valid();
     let seen = grid_of_seeds(alloc, sys)?;
@@ -78,6 +78,7 @@ fn grow_watched<R: Threads + Sync, G: Gate>(
     requires seen { SamePlacements seat.scout.seen seen.tiles }
     ensures watched { HasWatched watcher result.0 }
     ensures grew { IfOk result.1 (λ r. GrewOn sys.now seat seen r.0 r.1 r.2.items) }
+    ensures count { IfOk result.1 (λ r. length r.2.items ≡ workers) }
 {
     thread::join(
         rt,
@@ -91,7 +92,8 @@ fn grow_watched<R: Threads + Sync, G: Gate>(
                 × OwnsAtLeast workers seat.scout.owned
                 × IsSeatOf table.now seat × (table.now.sys ≡ sys.now)
                 × (seen.area ≡ sys.now.area) × SamePlacements seat.scout.seen seen.tiles }
-            ensures { IfOk result (λ r. GrewOn sys.entry.now seat seen r.0 r.1 r.2.items) }
+            ensures { IfOk result (λ r. GrewOn sys.entry.now seat seen r.0 r.1 r.2.items
+                × (length r.2.items ≡ workers)) }
         { grow_on(rt, alloc, sys, table, seat, seen, workers, choice, gate) },
     )
 }

@@ -9,14 +9,15 @@ use Rattle.tilebench.specs.Commands.Grow.{IsGrowthText}
 use Rattle.tilebench.specs.Inputs.{IsAlone, alone}
 use Rattle.tilebench.specs.Rows.{RoomRow, refuses_none, reading}
 
--- The input is the text of one system, which grew beside a watcher. What it grew into is handed out; the text is that of so many frames of it, and behind the line `grown` that of the growth.
-pub record TellsWatchedGrowth (frames : ℕ) (grown : Option GrownValue) (input : List ℕ) (is_yes : Bool) (text : List ℕ) : Type 0 where
+-- The input is the text of one system, which so many workers grew beside a watcher. What it grew into is handed out; the text is that of so many frames of it, and behind the line `grown` that of the
+-- growth.
+pub record TellsWatchedGrowth (workers frames : ℕ) (grown : Option GrownValue) (input : List ℕ) (is_yes : Bool) (text : List ℕ) : Type 0 where
   pub sys : TileSystem
   pub read : IsAlone ReadsAny input sys
   pub table : GrownValue
   pub handed_out : grown ≡ Some table
-  pub grew : GrewBesideWatcher sys table
+  pub grew : GrewBesideWatcher sys workers table
   pub told : IsWatchAnswer (IsGrowthText sys table is_yes) sys frames table.grid.tiles text
 
-abbrev pub watch_row : ℕ → RoomRow
-watch_row frames = reading ReadsAny FaultAny alone (TellsWatchedGrowth frames)
+abbrev pub watch_row : ℕ → ℕ → RoomRow
+watch_row workers frames = reading ReadsAny FaultAny alone (TellsWatchedGrowth workers frames)

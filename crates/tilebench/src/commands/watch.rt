@@ -41,7 +41,7 @@ pub struct Watch {
 impl Room for Watch {
     type Answer = Watched;
 
-    ghost room_row = { λ room. watch_row room.frames.count };
+    ghost room_row = { λ room. watch_row room.crew.workers.count room.frames.count };
 
     fn reads_input(&self) -> bool {
         true
@@ -59,7 +59,7 @@ impl Watch {
         out: &mut K,
         err: &mut E,
     ) -> Ran
-        ensures { EndsCommand S.left S.faults K.written K.faults E.written E.faults (watch_row self.now.frames.count)
+        ensures { EndsCommand S.left S.faults K.written K.faults E.written E.faults (watch_row self.now.crew.workers.count self.now.frames.count)
             source.old source.new out.old out.new err.old err.new result }
     {
         let answer = |input: Vec<u8>|
@@ -76,7 +76,7 @@ impl Watch {
     ) -> Result<(Watched, Option<Grown>), Stop>
         requires { length input.items ≤ MOST_INPUT }
         ensures { GivesAnswer ⟦<Watched as Reply>⟧.yes ⟦<Watched as Reply>⟧.text ⟦<Watched as Reply>⟧.printable
-            (watch_row self.now.frames.count) input.items result }
+            (watch_row self.now.crew.workers.count self.now.frames.count) input.items result }
     {
         let sys = read_alone(resources.alloc, &input)?;
         let (frames, grown) = grow_watched(resources, &sys, self.crew, self.frames)?;
@@ -93,7 +93,7 @@ fn grow_watched<R: Threads + Sync, G: Gate>(
     crew: Crew,
     frames: FrameCount,
 ) -> Result<(Frames, Grown), NoMemory>
-    ensures { IfOk result (λ r. IsWatchedGrowth sys.now frames.count r.0 r.1) }
+    ensures { IfOk result (λ r. IsWatchedGrowth sys.now crew.workers.count frames.count r.0 r.1) }
 {
     let Crew { workers, choice } = crew;
     watch(

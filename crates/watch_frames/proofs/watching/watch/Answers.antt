@@ -3,11 +3,13 @@ use Rattle.atam.specs.Placements.{SamePlacements}
 use Rattle.atam.specs.TileSystem.{TileSystem}
 use Rattle.assembly.specs.Grids.{TileGrid}
 use Rattle.grow_core.specs.Core.{greatest, placed_by, OwnsTwoOrMore}
+use Rattle.grow_core.specs.Steps.{kept_tiles}
 use Rattle.grow_core.proofs.Numbers.{two-all}
 use Rattle.site_table.specs.Seats.{SeatValue, Closes}
 use Rattle.grow_workers.specs.Workers.{GrewOn, OwnsAtLeast}
 use Rattle.watch_frames.specs.Frames.{FrameList, AreFrames}
-use Rattle.watch_frames.proofs.Watched.{rest_owns, seeds_seen, is_watched, total, watcher_won}
+use Rattle.grow_workers.proofs.Splitting.{rest_owns, seeds_seen}
+use Rattle.watch_frames.proofs.Watched.{is_watched, total, watcher_won, idle_won}
 use Rattle.watch_frames.proofs.watching.watch.Goals as goal
 
 pub split-kept-requires-clause-two : goal.split-kept-requires-clause-two
@@ -57,6 +59,11 @@ returns g c =
     ap (λ (s : SeatValue). s.scout.mine) ended ∙ done.mine ∙ ap (λ (s : SeatValue). s.scout.mine) was_given ∙ c.split-kept.ensures.given.mine
     ∙ ap (placed_by (greatest first.owned)) c.in_ok-table.ensures.scout.mine
     in
+    let none_old : c.split-kept.result.0.scout.mine ≡ [] =
+    c.split-kept.ensures.kept.mine ∙ ap (kept_tiles (greatest first.owned)) c.in_ok-table.ensures.scout.mine
+    in
+    let few = c.requires.few in
+    let count : length c.in_ok-kept._wins.items ≡ c.args.workers = search rules in
     record {
       watched = is_watched sys c.args.frames frames.places frames.counts c.split-kept.result.0 kept given joined c.in_ok-seen.seen c.in_ok-kept.grid c.in_ok-kept._wins.items c.close.result
           c.recall_valid.ensures.valid are taken c.end-given.ensures.part c.join-seat.ensures.union c.in_ok-seen.ensures.seeds grew c.recall_sites.ensures.distinct closes;
@@ -64,6 +71,8 @@ returns g c =
         area = closes.area;
         numbers = closes.numbers;
         watcher = watcher_won sys kept.scout given.scout joined.scout c.close.result rest top c.join-seat.ensures.union closes kept.sys c.recall_possible.ensures.possible none;
+        idle = idle_won sys kept.scout given.scout joined.scout c.close.result rest top c.join-seat.ensures.union closes kept.sys c.recall_possible.ensures.possible none
+            c.split-kept.result.0.scout (sym grew.seat.owned) none_old c.in_ok-kept._wins.items grew.workers_win c.args.workers count few;
         total = total sys kept.scout given.scout joined.scout c.close.result rest top c.join-seat.ensures.union closes c.recall_valid.ensures.valid;
       };
     }
