@@ -1,5 +1,5 @@
 // Growths whose text is made by rule, and what is read of a growth.
-use program_runs::{answered, behind};
+use program_runs::{Change, answered, behind, first_unlike_change};
 use std::alloc::{AllocError, Global};
 use std::sync::Wait;
 use std::test::Fail;
@@ -80,20 +80,21 @@ fn sierpinski_places(alloc: Global) -> Result<String, AllocError> {
     Ok(text)
 }
 
-// The number of the first of these by which the system does not grow into these places and a no in
-// these words.
-fn first_unlike_workers<R: Threads + Wait + Sync>(
+// The number of the first of these workers and choices by which the system does not grow into these
+// places and a no in these words.
+fn first_unlike_crew<R: Threads + Wait + Sync>(
     rt: &R,
     alloc: Global,
-    workers: &[&str],
+    crews: &[(&str, &str)],
     system: &str,
     places: &str,
     no: &str,
 ) -> Result<Option<usize>, AllocError> {
     let mut out = String::from_str(alloc, places)?;
     out.push_str(no)?;
-    for (number, workers) in workers.iter().enumerate() {
-        let ran = answered(rt, alloc, &["grow", "--workers", workers], system)?;
+    for (number, (workers, choice)) in crews.iter().enumerate() {
+        let words = ["grow", "--workers", workers, "--choice", choice];
+        let ran = answered(rt, alloc, &words, system)?;
         if !ran.is(Status::No, out.as_str(), "") {
             return Ok(Some(number));
         }
@@ -101,14 +102,58 @@ fn first_unlike_workers<R: Threads + Wait + Sync>(
     Ok(None)
 }
 
+// A no by the third condition has the same bytes by any number of workers, at every choice.
 #[test]
 fn grows_the_sierpinski_triangle(rt: HostRuntime) -> Result<(), Fail> {
     let alloc = rt.alloc();
     let places = sierpinski_places(alloc)?;
     let no = "closed clipped 8 0 B\nunique no 3 8 0 B\n";
-    let workers = ["1", "4", "16"];
-    let found = first_unlike_workers(&rt, alloc, &workers, SIERPINSKI, places.as_str(), no)?;
+    let crews = [
+        ("1", "0"),
+        ("4", "0"),
+        ("16", "0"),
+        ("1", "7"),
+        ("2", "18446744073709551615"),
+        ("16", "3"),
+    ];
+    let found = first_unlike_crew(&rt, alloc, &crews, SIERPINSKI, places.as_str(), no)?;
     assert_eq!(rt; found, None);
+    Ok(())
+}
+
+// Four tiles, each held by the one before it, that go round to the site beside the first.
+const ROUND: &str = "tiles 1\ntau 1\nglue a 1\nglue b 1\nglue c 1\ntile S a - - -\n\
+    tile N - b a -\ntile E - - c b\ntile B c - - -\nbox 0 0 1 1\nseed 0 0 S\nend\n";
+
+// The boxes that cut them off. Nothing else can grow within such a box, yet the way round it leads
+// to a site of the first one.
+const BOXES: [Change; 3] = [
+    Change {
+        number: 10,
+        line: "box 0 0 1 0",
+        status: Status::No,
+        out: "place 0 0 S\nclosed clipped 0 1 N\nunique no 3 0 1 N\n",
+        err: "",
+    },
+    Change {
+        number: 10,
+        line: "box 0 0 0 1",
+        status: Status::No,
+        out: "place 0 0 S\nplace 0 1 N\nclosed clipped 1 1 E\nunique no 3 1 1 E\n",
+        err: "",
+    },
+    Change {
+        number: 10,
+        line: "box 0 0 1 1",
+        status: Status::Done,
+        out: "place 0 0 S\nplace 0 1 N\nplace 1 1 E\nplace 1 0 B\nclosed terminal\nunique yes\n",
+        err: "",
+    },
+];
+
+#[test]
+fn a_verdict_on_a_cut_growth_is_of_its_box(rt: HostRuntime) -> Result<(), Fail> {
+    assert_eq!(rt; first_unlike_change(&rt, rt.alloc(), ROUND, &BOXES)?, None);
     Ok(())
 }
 
@@ -119,13 +164,13 @@ const VAST: &str = "tiles 1\ntau 1\nglue a 1\ntile T a a a a\nbox 0 0 256 256\ns
 fn fills_a_box(rt: HostRuntime) -> Result<(), Fail> {
     let alloc = rt.alloc();
     let no = "closed clipped 0 -1 T\nunique no 1 1 1 2\n";
-    for (system, side, workers) in [
-        (FULL, 64, &["1", "4", "16"][..]),
-        (WIDE, 128, &["2"]),
-        (VAST, 257, &["2"]),
+    for (system, side, crews) in [
+        (FULL, 64, &[("1", "0"), ("4", "0"), ("16", "0")][..]),
+        (WIDE, 128, &[("2", "0")]),
+        (VAST, 257, &[("2", "0")]),
     ] {
         let places = filled_box(alloc, side, "T")?;
-        let found = first_unlike_workers(&rt, alloc, workers, system, places.as_str(), no)?;
+        let found = first_unlike_crew(&rt, alloc, crews, system, places.as_str(), no)?;
         assert_eq!(rt; found, None);
     }
     Ok(())
@@ -154,8 +199,8 @@ fn grows_from_scattered_seeds(rt: HostRuntime) -> Result<(), Fail> {
     let system = scattered_seeds(alloc, 4096)?;
     let places = scattered_places(alloc)?;
     let no = "closed clipped 0 -1 T\nunique no 1 1 0 2\n";
-    let workers = ["1", "4", "16"];
-    let found = first_unlike_workers(&rt, alloc, &workers, system.as_str(), places.as_str(), no)?;
+    let crews = [("1", "0"), ("4", "0"), ("16", "0")];
+    let found = first_unlike_crew(&rt, alloc, &crews, system.as_str(), places.as_str(), no)?;
     assert_eq!(rt; found, None);
     Ok(())
 }
