@@ -690,8 +690,13 @@ def wanted_report(system, many, word, won):
     return b'{"closed":"%s","glues":%d,"height":%d,"tau":%d,"tiles":%d,"types":%d,"unique":"%s","width":%d,"won":[%s]}\n' % numbers
 
 
+def is_only_one(said):
+    """Whether a verdict says that within the box nothing else can grow: a yes, or a no by the third condition."""
+    return said == b"yes" or said.startswith(b"no 3 ")
+
+
 def check_growth(system):
-    """Judges what `grow` printed where its verdict is a no."""
+    """Judges what `grow` printed where several growths may be right."""
 
     def check(out):
         try:
@@ -706,8 +711,8 @@ def check_growth(system):
         if not is_closed_in_box(system, tiles):
             return "it is not closed in the box"
         text, said = growth_text(system, tiles)
-        if said == b"yes":
-            return "the verdict is a yes here, and by the judge's own growth a no: one of the two growths is wrong"
+        if is_only_one(said):
+            return f"the verdict {said!r} leaves one growth, and the judge's own has another verdict: one of the two is wrong"
         return None if out == text else f"it should say {text[-300:]!r} at its end, in canonical order"
 
     return check
@@ -735,8 +740,8 @@ def check_race(system, workers, tiles):
     return check
 
 
-def check_report(system, workers, tiles):
-    """Judges a report; `tiles` are those that stand, None where that is free."""
+def check_report(system, workers, tiles, word):
+    """Judges a report; `tiles` are those that stand, None where that is free; `word` is that of the verdict."""
 
     def check(out):
         found = re.fullmatch(rb'.*"tiles":([1-9][0-9]*),.*"won":\[((?:0|[1-9][0-9]*)(?:,(?:0|[1-9][0-9]*))*)\]}\n', out)
@@ -746,9 +751,9 @@ def check_report(system, workers, tiles):
         if len(won) != workers or sum(won) != int(found[1]) - len(system.seeds):
             return f"the counts {won} of {workers} workers are not those of {int(found[1])} tiles"
         if tiles is not None:
-            text = wanted_report(system, tiles, b"yes", found[2])
+            text = wanted_report(system, tiles, word, found[2])
             return None if out == text else f"wanted {text!r}"
-        texts = [wanted_report(system, {}, b"no", found[2]).replace(b'"tiles":0', b'"tiles":' + found[1])]
+        texts = [wanted_report(system, {}, word, found[2]).replace(b'"tiles":0', b'"tiles":' + found[1])]
         texts.append(texts[0].replace(b"terminal", b"clipped"))
         return None if out in texts else f"wanted {texts[0]!r}, or clipped"
 
@@ -783,15 +788,16 @@ class Judge:
     def grown(self, command, numbers, text):
         """`grow`, `race`, `report`, `watch`."""
         system, tiles, told, said = self.system_grown(text)
-        workers, is_yes = numbers[0], said == b"yes"
+        workers, is_one, status = numbers[0], is_only_one(said), 0 if said == b"yes" else 1
         if command == "race":
-            return Wanted(0, check=check_race(system, workers, len(tiles) if is_yes else None))
+            return Wanted(0, check=check_race(system, workers, len(tiles) if is_one else None))
         if command == "report":
-            return Wanted(0 if is_yes else 1, check=check_report(system, workers, tiles if is_yes else None))
+            word = b"no" if status else b"yes"
+            return Wanted(status, check=check_report(system, workers, tiles if is_one else None, word))
         if command == "watch":
-            check = (lambda out: None if out == told else "the growth is another one than grow prints") if is_yes else check_growth(system)
-            return Wanted(0 if is_yes else 1, check=judge_frames.check_watch(system, numbers[2], check))
-        return Wanted(0, told) if is_yes else Wanted(1, check=check_growth(system))
+            check = (lambda out: None if out == told else "the growth is another one than grow prints") if is_one else check_growth(system)
+            return Wanted(status, check=judge_frames.check_watch(system, numbers[2], check))
+        return Wanted(status, told) if is_one else Wanted(status, check=check_growth(system))
 
     def checked(self, system, lines):
         sequence = read_places(lines, system, False)
