@@ -39,7 +39,7 @@ export function draw(pen, theme) {
 
 function drawTiles(pen, theme, { firstColumn, lastColumn, firstRow, lastRow }) {
   const { system, growth, kinds, shown, chosen } = page, { scale, left, top } = view;
-  const isLit = page.found ?? (chosen >= 0 ? (kind) => kind === chosen : null);
+  const isLit = page.found ?? (chosen >= 0 && !page.isHint ? (kind) => kind === chosen : null);
   for (let row = firstRow; row <= lastRow; row++) {
     for (let column = firstColumn; column <= lastColumn; column++) {
       const n = growth.placeAt[row * system.wide + column];
@@ -50,11 +50,19 @@ function drawTiles(pen, theme, { firstColumn, lastColumn, firstRow, lastRow }) {
         pen.fillStyle = theme.veil;
         pen.fillRect(at[0], at[1], scale, scale);
       }
-      if (scale < 8) continue;
-      drawTile(pen, system, type, kinds.rgb[kind], at, isPale);
+      if (scale >= 8) drawTile(pen, system, type, kinds.rgb[kind], at, isPale);
+      if (page.isHint && kind === chosen) outline(pen, theme, at);
       if (growth.sides && scale >= 14) drawInputs(pen, growth.sides[n], at, theme);
     }
   }
+}
+
+// A tile of the type whose line the caret is on.
+function outline(pen, theme, [x, y, scale]) {
+  const inset = Math.max(0.5, scale * 0.07);
+  pen.beginPath();
+  pen.rect(x + inset, y + inset, scale - 2 * inset, scale - 2 * inset);
+  strokeTwice(pen, Math.max(1, scale / 16), theme.accent, scale >= 16 && theme.rim);
 }
 
 // The sites where a type attaches to what is shown: a dot, larger where one is to be clicked.

@@ -50,6 +50,15 @@ export function withColour(lines, name, colour) {
   return colour === null ? lines : put(lines, Math.max(0, firstOf(lines, "tile", name)), 0, remark);
 }
 
+// A box that is twice as large towards a site outside it, and has it; a side has at most 1024 sites.
+export function widened([x0, y0, x1, y1], { x, y }) {
+  const wide = Math.min(1024, 2 * (x1 - x0 + 1)), high = Math.min(1024, 2 * (y1 - y0 + 1));
+  const [left, right] = x < x0 ? [Math.min(x, x1 - wide + 1), x1] : x > x1 ? [x0, Math.max(x, x0 + wide - 1)]
+    : [x0, x1];
+  const [low, top] = y < y0 ? [Math.min(y, y1 - high + 1), y1] : y > y1 ? [y0, Math.max(y, y0 + high - 1)] : [y0, y1];
+  return right - left > 1023 || top - low > 1023 ? null : [left, low, right, top];
+}
+
 // A name that no type has yet.
 export function freeName(taken, from) {
   const bare = from.replace(/[0-9]+$/, "") || "t";

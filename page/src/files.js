@@ -12,7 +12,7 @@ import { hashOfText } from "./share.js";
 import { page, tell } from "./state.js";
 
 export function notice(text) {
-  $("notice").textContent = text;
+  $("notice-text").textContent = text;
   $("notice").hidden = !text;
 }
 
@@ -103,6 +103,6 @@ export function beginFiles() {
   $("share").addEventListener("click", share);
   $("link-copy").addEventListener("click", copy);
   $("link-close").addEventListener("click", () => $("share-form").close());
-  $("notice").addEventListener("click", () => notice(""));
+  $("notice-close").addEventListener("click", () => notice(""));
   beginDrop();
 }

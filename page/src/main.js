@@ -3,19 +3,18 @@ import { STATE } from "../generated.js";
 import { beginBoard, drawNow, redraw, showAll, showSite, zoomMiddle } from "./board.js";
 import { beginByHand } from "./by_hand.js";
 import { beginCertificate } from "./certificate.js";
-import { Kinds } from "./colours.js";
+import { beginChoosing } from "./choosing.js";
 import { beginCommand } from "./command.js";
 import { beginCounterForm } from "./counter_form.js";
 import { $, paused } from "./dom.js";
 import { beginDrawer, openDrawer } from "./drawer.js";
-import { beginEditor, goTo, lineAt, mark, put, text } from "./editor.js";
+import { beginEditor, mark, put, text } from "./editor.js";
 import { beginFiles, notice } from "./files.js";
 import { exampleText, FIRST } from "./gallery.js";
 import { beginLegend } from "./legend.js";
 import { beginLive, isLive } from "./live.js";
 import { growNow, grownLater, kindNamed, timings } from "./loading.js";
 import { beginMenus, closeMenus } from "./menus.js";
-import { beginPicture } from "./picture.js";
 import { beginPlayer, move, show, toggle } from "./player.js";
 import { beginPointer } from "./pointer.js";
 import { lack } from "./program.js";
@@ -27,7 +26,7 @@ import { keepText, keptText } from "./storage.js";
 import { beginTape, theTape } from "./tape_panel.js";
 import { beginTileForm } from "./tile_form.js";
 import { beginTiles } from "./tiles_tab.js";
-import { beginVerdict, lineOf } from "./verdict_card.js";
+import { beginVerdict } from "./verdict_card.js";
 import { view } from "./view.js";
 
 // ---- a text is opened, or typed on
@@ -56,70 +55,9 @@ function keepNow() {
   if (keeping.isDue()) keepText("text", text());
 }
 
-// ---- a tile and its line
-
-function choose(kind) {
-  page.chosen = kind === page.chosen ? -1 : kind;
-  const type = page.kinds.isType ? page.chosen : -1;
-  markLine(type, true);
-  tell("chosen");
-}
-
-function markLine(type, goes) {
-  const line = lineOf(type);
-  mark({ chosen: line });
-  if (line && goes) goTo(line, false);
-}
-
-// A click on a tile marks its type, and goes to its line.
-function clicked({ x, y }) {
-  if (page.mode === "hand") return;
-  const n = page.growth.numberAt(x, y);
-  if (n < 0 || n >= page.shown) {
-    page.chosen = -1;
-    mark({ chosen: 0 });
-  } else {
-    const type = page.growth.types[n], kind = page.kinds.of[type];
-    const isSame = kind === page.chosen;
-    page.chosen = isSame ? -1 : kind;
-    if (isSame) mark({ chosen: 0 });
-    else markLine(type, true);
-  }
-  tell("chosen");
-}
-
-// The caret on the line of a tile marks its type in the picture.
-function caret(line) {
-  if (!page.system || page.kind !== "system" || page.isStale) return;
-  const words = lineAt(line).split(" ").filter(Boolean),
-    type = words[0] === "tile" ? page.system.types.numberOf(words[1] ?? "") : -1;
-  const kind = type < 0 ? -1 : page.kinds.of[type];
-  mark({ chosen: type < 0 ? 0 : line });
-  if (kind === page.chosen) return;
-  page.chosen = kind;
-  tell("chosen");
-}
-
-// The mark stays on the line of the type that is chosen, wherever that line is now.
-function keepMark() {
-  const type = page.chosen >= 0 && page.kinds.isType ? page.chosen : -1;
-  mark({ chosen: lineOf(type) });
-}
-
-function recolour(by) {
-  page.by = by;
-  if (!page.system) return;
-  const { shown } = page;
-  page.kinds = new Kinds(page.system, by);
-  page.chosen = -1;
-  beginPicture();
-  show(shown);
-  tell("recoloured");
-}
-
 // ---- keys
 
-const FIELDS = ["TEXTAREA", "SELECT", "INPUT", "BUTTON", "CANVAS"];
+const FIELDS = ["TEXTAREA", "SELECT", "INPUT", "BUTTON"];
 
 function pressed(event) {
   if (event.ctrlKey || event.metaKey || event.altKey || FIELDS.includes(event.target.tagName)
@@ -171,17 +109,13 @@ async function hashChanged() {
   else if (linked) notice(linked.why);
 }
 
-for (const part of [beginEditor, beginBoard, beginPointer, beginPlayer, beginLegend, beginVerdict, beginDrawer,
+for (const part of [beginEditor, beginBoard, beginPointer, beginPlayer, beginLegend, beginVerdict, beginChoosing,
+  beginDrawer,
   beginTape, beginByHand, beginRivals,
   beginCertificate, beginCommand, beginTileForm, beginTiles, beginCounterForm, beginFiles, beginMenus, beginDialogs,
     beginLive]) part();
 on("opened", opened);
 on("typed", typed);
-on("choose", choose);
-on("clicked", clicked);
-on("caret", caret);
-on("recolour", recolour);
-on("loaded recoloured", keepMark);
 on("openTool", openDrawer);
 window.addEventListener("keydown", pressed);
 window.addEventListener("hashchange", hashChanged);

@@ -9,7 +9,8 @@ export const page = {
   meanings: [], verdict: null, answer: null,
   // the kind of colour that is marked, or -1; a test of what was searched, or null; whether the picture is an older
   // text's
-  chosen: -1, found: null, isStale: false,
+  // (one that the caret points at is outlined, and the others stay as they are)
+  chosen: -1, isHint: false, found: null, isStale: false,
   // a site to look at, the site of the keyboard's cursor, the row whose meaning is told; each null where there is none
   mark: null, cursor: null, row: null,
   // what tells tiles apart: "type", or the side of a glue; what a click on the picture does: "look", or "hand"

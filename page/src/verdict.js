@@ -59,7 +59,7 @@ function certificateVerdict(line, shown) {
   return { tone: "no", head: "Not verified", text: line.text, site: line.site };
 }
 
-function scheduleVerdict({ steps, growth }) {
+function scheduleVerdict({ steps, growth, events }) {
   const refused = steps.filter((it) => it[0] === "refused").length;
   const told = refused ? `${refused} of them refused` : "none refused";
   const text = `${many(steps.length, "step")} of scouts, ${told}; ${many(growth.count, "tile")} stand.`;

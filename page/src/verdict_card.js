@@ -2,7 +2,8 @@
 import { $, announce, button, make, many } from "./dom.js";
 import { showSite } from "./board.js";
 import { leadOf } from "./leads.js";
-import { goTo, lineAt, takeReturnsAway } from "./editor.js";
+import { goTo, lineAt, replaceLines, takeReturnsAway } from "./editor.js";
+import { widened } from "./edits.js";
 import { nowhereOf } from "./verdict.js";
 import { on, page, tell } from "./state.js";
 import { theTape } from "./tape_panel.js";
@@ -19,6 +20,7 @@ function buttonsOf(verdict) {
   const list = [];
   if (verdict.site) list.push(button(`Show (${verdict.site.x}, ${verdict.site.y})`, () => showSite(verdict.site)));
   if (verdict.line) list.push(button(`Go to line ${verdict.line}`, () => goTo(verdict.line)));
+  if (verdict.site && page.kind === "system" && !page.isStale) list.push(...widening(verdict.site));
   if (verdict.shown?.endsWith("\\r")) list.push(button("Take all carriage returns away", takeReturnsAway));
   for (const it of gluesOf()) {
     list.push(button(`Glue ${it.name}, line ${it.line}`, () => goTo(it.line),
@@ -29,6 +31,15 @@ function buttonsOf(verdict) {
   }
   if (page.kind === "batch") list.push(...jobButtons());
   return list;
+}
+
+// Where the box cuts the growth off, a larger one.
+function widening(site) {
+  const { system } = page, box = system.isInside(site.x, site.y) ? null : widened(system.box, site);
+  if (!box || page.mode === "hand") return [];
+  const wide = box[2] - box[0] + 1, high = box[3] - box[1] + 1;
+  return [button(`Box of ${wide} by ${high}`, () => replaceLines(system.boxLine, 1, [`box ${box.join(" ")}`]),
+    { title: "Widen the box towards that site" })];
 }
 
 // The glues to look at: those that hold the site of a no, strongest first.
