@@ -63,8 +63,9 @@ function scheduleVerdict({ steps, growth, events }) {
   const refused = steps.filter((it) => it[0] === "refused").length;
   const told = refused ? `${refused} of them refused` : "none refused";
   const text = `${many(steps.length, "step")} of scouts, ${told}; ${many(growth.count, "tile")} stand.`;
-  return { tone: refused ? "no" : "plain", head: refused ? "A step was refused" : "All steps were taken", text,
-    site: null };
+  if (!refused) return { tone: "plain", head: "All steps were taken", text, site: null };
+  const { line, words } = events[steps.findIndex((it) => it[0] === "refused")];
+  return { tone: "no", head: "A step was refused", text, site: null, line, shown: words.join(" ") };
 }
 
 function batchVerdict({ jobs }) {

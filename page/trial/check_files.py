@@ -182,7 +182,7 @@ def file_names(page):
       const event = new Event("drop", { bubbles: true, cancelable: true });
       Object.defineProperty(event, "dataTransfer", { value: held }); window.dispatchEvent(event); })()""")
     page.wait('document.querySelector("#notice").textContent.includes("<img src=x> has more than 64 MiB")')
-    assert page.value('document.querySelectorAll("#notice *").length') == 0
+    assert page.value('document.querySelectorAll("#notice-text *").length') == 0
 
 
 assert json

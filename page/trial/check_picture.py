@@ -98,11 +98,11 @@ def to_line(page):
     page.picture("chosen")
 
 
-@check("the caret on the line of a tile marks its type in the picture")
+@check("the caret on the line of a tile outlines its type in the picture")
 def from_line(page):
     page.value('(() => { const it = document.querySelector("#text"); it.focus(); const at = it.value.indexOf("tile r11"); it.setSelectionRange(at, at); })()')
     page.wait(f"{STATE}.kinds.name({STATE}.chosen) === 'r11'")
-    assert pixel(page, 3, 0) != colour(page, "B"), "the others go pale"
+    assert page.value(f"{STATE}.isHint") and pixel(page, 3, 0) == colour(page, "B"), "the others stay as they are"
 
 
 @check("a click in the legend goes to the line, another one takes the mark away")

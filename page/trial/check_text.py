@@ -150,7 +150,7 @@ def too_long(page):
       window.dispatchEvent(event); })()""")
     page.wait('document.querySelector("#notice").textContent.includes("64 MiB")')
     assert editor(page) == CHAIN
-    page.click("#notice")
+    page.click("#notice-close")
     assert page.value('document.querySelector("#notice").hidden')
 
 

@@ -1,6 +1,6 @@
 """The verdict in words: its word, its tone, the site that it speaks of, and the glue to look at."""
 from trial.check import check
-from trial.reading import CHAIN, STATE, TRIANGLE, chips, done, pick, put, verdict
+from trial.reading import CHAIN, STATE, TRIANGLE, chips, done, editor, pick, put, verdict
 
 ARCH = "tiles 1\ntau 2\nglue a 2\nglue b 2\nglue c 2\nglue d 2\ntile S b a - -\ntile E c - - a\ntile N - d b -\ntile C - - c d\nbox 0 0 1 1\nseed 0 0 S\nend\n"
 RACE = "tiles 1\ntau 1\nglue a 1\ntile S - a - -\ntile A - - - a\ntile B - - - a\nbox 0 0 1 0\nseed 0 0 S\nend\n"
@@ -32,6 +32,15 @@ def shown(page):
     page.click("#verdict-buttons button")
     assert page.value("""(() => { const { view, state } = tilebench.page, x = view.left + 256 * view.scale, y = view.top + state.system.box[3] * view.scale;
       return x > 0 && x < view.width && y > 0 && y < view.height && view.scale >= 12; })()""")
+
+
+@check("the box is widened by a button, and what it does stands in the text")
+def widen(page):
+    put(page, TRIANGLE % (7, 7))
+    done(page, lambda: page.value('[...document.querySelectorAll("#verdict-buttons button")].find((it) => it.textContent === "Box of 16 by 8").click()'))
+    assert "box 0 0 15 7\n" in editor(page) and page.value(f"{STATE}.growth.count") == 128, editor(page)
+    done(page, lambda: page.click("#undo"))
+    assert editor(page) == TRIANGLE % (7, 7)
 
 
 @check("the glue to look at is named, and a click goes to its line")
@@ -137,6 +146,13 @@ def schedule(page):
     assert verdict(page)[0] == "All steps were taken", verdict(page)
     said = page.text("#printed")
     assert "won: the tile was placed" in said and "A already stands there" in said and "claim 63 1 0 B" in said, said
+
+
+@check("a step of a scout that is refused is told with its line")
+def refused_step(page):
+    put(page, CHAIN + "claim 0 2 0 C\n")
+    assert verdict(page)[:2] == ("A step was refused", "no") and page.text(".verdict-line") == "11  claim 0 2 0 C", page.text(".verdict-line")
+    assert "what the scout has seen pulls with 0" in page.text("#printed"), page.text("#printed")
 
 
 @check("a batch is run, and each of its jobs can be opened")
