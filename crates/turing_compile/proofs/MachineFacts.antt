@@ -1,5 +1,5 @@
 -- What a machine's rules and configurations keep to.
-use Rattle.std.proofs.Common.{◌≡◌, ◌<◌, ◌≤◌, ◌-◌, is_some, ℕ, zero, suc, true, List, [], ◌∷◌, length, replicate, get_or, Option, Some, None, IfSome, option_and_then, option_map, refl, sym, ◌∙◌, ap, subst, inl, inr, arith, length-append}
+use Rattle.std.proofs.Common.{◌≡◌, ◌<◌, ◌≤◌, ◌-◌, is_some, ℕ, zero, suc, true, List, [], ◌∷◌, length, replicate, get_or, Option, Some, IfSome, option_and_then, option_map, refl, sym, ◌∙◌, ap, subst, inl, inr, arith, length-append}
 use Rattle.std.specs.Prelude.{find}
 use Rattle.std.proofs.lemmas.List.{length-replicate}
 use Rattle.std.proofs.lemmas.List.Elements.{All-append, All-replicate, All-get_or}

@@ -1,4 +1,4 @@
-use Rattle.std.proofs.Common.{◌≡◌, List, ℕ, Option, Some, sym, ap, ◌∙◌, arith}
+use Rattle.std.proofs.Common.{List, ℕ, Option, Some, sym, ap, ◌∙◌, arith}
 use Rattle.std.specs.Prelude.{find, bytes_eq}
 use Rattle.tile_io.specs.Checks.{Keyword}
 use Rattle.quadrant_compile.specs.declared.line_kind.LineKind.{LineKind}
