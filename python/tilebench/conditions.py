@@ -135,7 +135,8 @@ def attaching_sites(growth: Growth) -> Iterator[Site]:
 
 def breaks_of_sites(growth: Growth) -> list[Break]:
     """All empty sites at which a type attaches, which breaks the third condition: what attaches at most sites first."""
-    system, found = growth.system, {}
+    system = growth.system
+    found: dict[str, Break] = {}
     for site in attaching_sites(growth):
         around = growth.grid.around(site)
         for kind in system.attaching(around):
@@ -160,7 +161,8 @@ def offer_of(system: System, facing: Sides) -> tuple[int, str]:
 def untaken(growth: Growth) -> list[Untaken]:
     """The open sites in the box that are offered the temperature or more and that no type takes, by what they are offered:
     those that are offered it from most sides first."""
-    system, found = growth.system, {}
+    system = growth.system
+    found: dict[Sides, Untaken] = {}
     for site in growth.grid.open_sites():
         around = growth.grid.around(site)
         if not system.in_box(site) or system.attaching(around):

@@ -151,9 +151,10 @@ def svg_parts(growth: Growth, cell: int | None = None, by: str | None = None) ->
     for kind, path in paths(view).items():
         yield f'<path fill="{colours[kind]}" d="{path}"/>\n'
     yield '<g font-family="monospace" text-anchor="middle" dominant-baseline="central">\n'
-    for (x, y), name in growth if has_words else ():
-        colour = colours[view.kind_of[view.system.index[name]]]
-        yield "".join(tile_words(view.system, name, x - view.x0, view.y1 - y, colour))
+    if has_words:
+        for (x, y), name in growth:
+            colour = colours[view.kind_of[view.system.index[name]]]
+            yield "".join(tile_words(view.system, name, x - view.x0, view.y1 - y, colour))
     yield "</g>\n"
     yield from seed_rims(view, size, has_words)
     yield from legend.drawn(colours)

@@ -136,7 +136,8 @@ def answer_told(command: str, text: bytes, answer: bytes) -> Iterator[str]:
     growth = Growth.read(system, rest, number + 1) if command in ("check", "certify", "replay", "verify") else Growth(system)
     if command == "certify" and answer.startswith(b"unique "):
         # (the verdict is that on the order of replay)
-        growth = calls.replay(growth) or growth
+        order = calls.replay(growth)
+        growth = order if isinstance(order, Growth) else growth
     for _, words in lines.rows(answer.decode(errors="replace")):
         if words[0] in TOLD:
             yield from line_of(growth, words)

@@ -5,6 +5,7 @@ import operator
 import sys
 from array import array
 from collections.abc import Iterable, Iterator
+from typing import Any
 
 from tilebench.system import STEPS, Site, System
 
@@ -67,14 +68,15 @@ class Grid:
                 near ^= low
                 yield low.bit_length() - 1 + self.west, row + self.south
 
-    def signatures(self, order: array[int]) -> Iterator[Signature]:
-        """For each cell within the border the type there, those around it, and which of these came earlier."""
+    def signatures(self, order: array[int]) -> Iterator[Any]:
+        """For each cell within the border a Signature: the type there, those around it, and which of these came earlier."""
         wide, cells = self.wide, self.cells
         end = len(cells) - wide
         beside = [(at, cells[wide + at : end + at]) for at in (wide, 1, -wide, -1)]
         own = order[wide:end]
         earlier = [map(operator.lt, order[wide + at : end + at], own) for at, _ in beside]
-        return zip(cells[wide:end], *(it for _, it in beside), *earlier)
+        north, east, south, west = (it for _, it in beside)
+        return zip(cells[wide:end], north, east, south, west, *earlier)
 
     def order(self, xs: Iterable[int], ys: Iterable[int]) -> array[int]:
         """For each cell the number in the sequence of the tile there, -1 where none stands."""

@@ -68,19 +68,19 @@ def raised(words: list[str], given: str | bytes, status: int, err: bytes) -> Exc
 
 def answer(words: Iterable[object], given: str | bytes = b"") -> tuple[bool, bytes]:
     """Whether the answer is a yes, and the answer; or what is to be raised."""
-    words = [*map(str, words)]
-    ran = asked(words, given)
+    told = [*map(str, words)]
+    ran = asked(told, given)
     if ran.returncode not in (0, 1):
-        raise raised(words, given, ran.returncode, ran.stderr)
+        raise raised(told, given, ran.returncode, ran.stderr)
     return ran.returncode == 0, ran.stdout
 
 
 def answered_lines(words: Iterable[object], given: str) -> Iterator[bytes]:
     """The lines of an answer as they come, each with its end; where the program fails, what is to be raised."""
-    program, words = path(), [*map(str, words)]
+    program, told, pipe = path(), [*map(str, words)], subprocess.PIPE
     require(program)
-    pipes = {"stdin": subprocess.PIPE, "stdout": subprocess.PIPE, "stderr": subprocess.PIPE}
-    with subprocess.Popen([program, *words], **pipes) as ran:  # type: ignore[call-overload]
+    with subprocess.Popen([program, *told], stdin=pipe, stdout=pipe, stderr=pipe) as ran:
+        assert ran.stdin is not None and ran.stdout is not None and ran.stderr is not None
         writer = Thread(target=hand_in, args=(ran.stdin, given.encode()), daemon=True)
         writer.start()
         try:
@@ -90,7 +90,7 @@ def answered_lines(words: Iterable[object], given: str) -> Iterator[bytes]:
             ran.kill()
             writer.join()
         if ran.wait() not in (0, 1):
-            raise raised(words, given, ran.returncode, err)
+            raise raised(told, given, ran.returncode, err)
 
 
 def hand_in(pipe: IO[bytes], text: bytes) -> None:

@@ -1,9 +1,12 @@
 """What is behind a refusal: the line, the cause in words, and the mistakes that mostly lead to it.
 
-The refusal is the program's; what is behind it is a guess. tools/explain and tools/live tell it.
+The refusal is the program's; what is behind it is a guess. tools/explain tells it, and so does the page.
 """
+from __future__ import annotations
+
 import difflib
 import re
+from collections.abc import Callable, Iterator
 
 WORDS = {"tiles": 2, "tau": 2, "glue": 3, "pair": 4, "tile": 6, "box": 5, "seed": 4, "end": 1, "place": 4, "mark": 6, "look": 4, "claim": 5, "split": 2, "join": 3}
 BEFORE = {"tau": "the header `tiles 1` or `tiles 2`", "glue": "`tau`, and no `pair` or `tile` line", "pair": "a `glue` line, and no `tile` line", "tile": "`tau`", "box": "a `tile` line", "seed": "`box`", "end": "`seed`"}
@@ -43,7 +46,7 @@ CAUSES = {
 class Kind:
     """A kind of text: its header as it is to stand, the words of each line, and what stands before it."""
 
-    def __init__(self, name, header, words, before):
+    def __init__(self, name: str, header: str, words: dict[str, int], before: dict[str, str]):
         self.name, self.header, self.words, self.before = name, header, words, before
 
 
@@ -69,26 +72,26 @@ BEHIND = {"check": "place", "replay": "place", "certify": "place", "picture": "p
 READERS = {"machine": "turing", "quadrant": "quadrant", "batch": "batch"}
 
 
-def visible(line):
+def visible(line: bytes) -> str:
     """The line with each byte shown that is no plain ASCII sign, spaces at its end too."""
     shown = "".join(chr(it) if 32 <= it < 127 else {9: "\\t", 13: "\\r"}.get(it, f"\\x{it:02x}") for it in line)
     bare = shown.rstrip(" ")
     return bare + "\\x20" * (len(shown) - len(bare))
 
 
-def version_of(lines):
+def version_of(lines: list[bytes]) -> str:
     """The number in the header of a system text, or nothing."""
     rows = (it.decode(errors="replace").split() for it in lines)
     return next((row[1] for row in rows if row[:1] == ["tiles"] and len(row) == 2), "")
 
 
-def names_before(lines, upto, keyword):
+def names_before(lines: list[bytes], upto: int, keyword: str) -> list[str]:
     """The names that lines of a keyword declare before a line."""
     rows = (line.decode(errors="replace").split() for line in lines[:upto])
     return [row[1] for row in rows if len(row) > 1 and row[0] == keyword]
 
 
-def guess_header(line, words, command):
+def guess_header(line: bytes, words: list[str], command: str) -> Iterator[str]:
     if line.startswith(b"\xef\xbb\xbf"):
         yield "the file begins with a byte-order mark: save it as UTF-8 without one"
     elif b"\0" in line:
@@ -109,7 +112,7 @@ def guess_header(line, words, command):
         yield "a system is written in version 1 or 2, and nothing else stands in its header"
 
 
-def guess_bytes(line):
+def guess_bytes(line: bytes) -> Iterator[str]:
     """Bytes that an editor hides, or that look like others."""
     if line.endswith(b"\r"):
         yield "the line ends as on Windows, with a carriage return: sed -i 's/\\r$//' FILE"
@@ -121,7 +124,7 @@ def guess_bytes(line):
         yield "a long dash stands in the line: none and minus are the plain -"
 
 
-def guess_number(words):
+def guess_number(words: list[str]) -> Iterator[str]:
     """Of the words that are to be numbers, the first one that is none."""
     for at in NUMBERS.get(words[0], ()):
         it = words[at] if at < len(words) else "0"
@@ -134,7 +137,7 @@ def guess_number(words):
         return
 
 
-def guess_word(words, is_short):
+def guess_word(words: list[str], is_short: bool) -> Iterator[str]:
     """Of the words that may be names, the first one that is none, and why."""
     if words[0] in ("glue", "tile", "pair") and re.fullmatch("-[0-9]*", words[1]):
         yield f"{words[1]} is no name: a {words[0]} line has {FIELDS[words[0]]}"
@@ -152,7 +155,7 @@ def guess_word(words, is_short):
             return
 
 
-def guess_line(words, lines, known, command):
+def guess_line(words: list[str], lines: list[bytes], known: dict[str, int], command: str) -> Iterator[str]:
     if words and words[0] not in known and words[0].lower() in known:
         yield f"keywords have small letters: {words[0].lower()}"
     elif words and words[0] not in known and words[0] not in ("closed", "unique"):
@@ -169,7 +172,7 @@ def guess_line(words, lines, known, command):
         yield from guess_place(words, lines, command)
 
 
-def guess_place(words, lines, command):
+def guess_place(words: list[str], lines: list[bytes], command: str) -> Iterator[str]:
     """Why a line is no line here, though it has its keyword's number of words."""
     ends = [at for at, line in enumerate(lines, 1) if line.split() == [b"end"]]
     if not ends and words[0] in ("place", "mark", "closed", "unique", "look", "claim", "split", "join"):
@@ -178,16 +181,16 @@ def guess_place(words, lines, command):
         yield f"the system ends in line {ends[0]}, and behind it {command} reads {BEHIND[command]} lines"
 
 
-def first_like(lines, words):
+def first_like(lines: list[bytes], words: list[str]) -> int:
     """The number of the first line that declares the same name, or has the same site."""
-    def what(row):
+    def what(row: list[str]) -> list[str | int]:
         return [row[0], int(row[1]), int(row[2])] if row[0] in ("place", "mark", "seed") else row[:2]
 
     rows = ((at, line.decode(errors="replace").split()) for at, line in enumerate(lines, 1))
     return next(at for at, row in rows if row[:1] == words[:1] and what(row) == what(words))
 
 
-def guess_name(words, lines, at):
+def guess_name(words: list[str], lines: list[bytes], at: int) -> Iterator[str]:
     if words[0] in ("tile", "pair"):
         known, what = names_before(lines, at, "glue"), "glue"
         unknown = [it for it in (words[2:] if words[0] == "tile" else words[1:3]) if it != "-" and it not in known]
@@ -211,7 +214,7 @@ def guess_name(words, lines, at):
             yield "capitals and small letters differ"
 
 
-def guess_symbol(words, lines, at):
+def guess_symbol(words: list[str], lines: list[bytes], at: int) -> Iterator[str]:
     known = names_before(lines, at, "symbol")
     for it in words[1:]:
         if it not in known:
@@ -220,7 +223,7 @@ def guess_symbol(words, lines, at):
             return
 
 
-def guess_machine_name(words, lines, at):
+def guess_machine_name(words: list[str], lines: list[bytes], at: int) -> Iterator[str]:
     states, symbols = names_before(lines, at, "state"), names_before(lines, at, "symbol")
     fields = zip(words[1:5], ("state", "symbol", "state", "symbol")) if words[0] == "rule" else ((it, "symbol") for it in words[1:])
     for it, what in fields:
@@ -231,7 +234,7 @@ def guess_machine_name(words, lines, at):
             return
 
 
-def guess_range(words):
+def guess_range(words: list[str]) -> Iterator[str]:
     at = [int(words[it]) for it in SITES.get(words[0], ()) if re.fullmatch("-?[0-9]+", words[it])]
     if any(abs(it) > 1000000 for it in at):
         yield "a coordinate is -1000000 to 1000000"
@@ -255,86 +258,169 @@ def guess_range(words):
         yield "the head starts at one of the cells, and the first cell is 0"
 
 
-def guesses(cause, line, lines, number, command):
-    """What may be behind the cause, most telling first."""
-    words, kind = line.decode(errors="replace").split(), KINDS.get(command, SYSTEM)
-    rows = (it.decode(errors="replace").split() for it in reversed(lines[: number - 1]))
-    before = next((row for row in rows if row and not row[0].startswith("#")), [])
-    if command == "batch" and cause != "TooMany":
-        # (each job has names of its own)
-        first = max((at for at, it in enumerate(lines[:number]) if it.split()[:1] == [b"job"]), default=0)
-        lines = [b""] * first + lines[first:]
-    if cause in ("NoHeader", "BadLine", "BadName", "BadNumber", "UnknownName"):
-        yield from guess_bytes(line)
-    if cause == "NoHeader" and before[:1] == ["job"]:
+class Case:
+    """A refused line: its bytes, its number, its words, the lines of the text, and the command that read it. `before` has the words
+    of the line before it that is neither empty nor a remark."""
+
+    def __init__(self, text: bytes, number: int, command: str):
+        self.number, self.command, self.kind = number, command, KINDS.get(command, SYSTEM)
+        self.lines = text.split(b"\n")
+        if self.lines and self.lines[-1] == b"":
+            self.lines.pop()
+        self.line = self.lines[number - 1] if 1 <= number <= len(self.lines) else b""
+        self.words = self.line.decode(errors="replace").split()
+        self.keyword = self.words[0] if self.words else ""
+        rows = (it.decode(errors="replace").split() for it in reversed(self.lines[: max(0, number - 1)]))
+        self.before: list[str] = next((row for row in rows if row and not row[0].startswith("#")), [])
+
+    @property
+    def above(self) -> list[bytes]:
+        """The lines above it."""
+        return self.lines[: max(0, self.number - 1)]
+
+    @property
+    def is_behind(self) -> bool:
+        """Whether it stands behind the last line."""
+        return self.number > len(self.lines)
+
+    @property
+    def is_plain(self) -> bool:
+        """Whether no byte of it is one that an editor hides."""
+        return b"\t" not in self.line and not self.line.endswith(b"\r")
+
+    def of_job(self) -> Case:
+        """The same with the lines of other jobs emptied, since each job has names of its own."""
+        first = max((at for at, it in enumerate(self.lines[: self.number]) if it.split()[:1] == [b"job"]), default=0)
+        self.lines = [b""] * first + self.lines[first:]
+        return self
+
+
+def no_header(case: Case) -> Iterator[str]:
+    if case.before[:1] == ["job"]:
         yield "behind a `job` line stands a whole system, which begins with the line `tiles 1` or `tiles 2`"
-    elif cause == "NoHeader":
-        yield from guess_header(line, words, command)
-    elif cause == "NoEnd" and number > len(lines) and command == "batch":
-        yield "a batch has at least one job, and each job a system, whose last line is: end"
-    elif cause == "NoEnd" and number > len(lines):
-        yield f"the last line of a {kind.name} is: end"
-    elif cause == "NoEnd":
+    else:
+        yield from guess_header(case.line, case.words, case.command)
+
+
+def no_end(case: Case) -> Iterator[str]:
+    if not case.is_behind:
         yield "the last line has no newline behind it"
-    elif cause == "BadLine" and words[:1] == ["pair"] and version_of(lines) == "1":
+    elif case.command == "batch":
+        yield "a batch has at least one job, and each job a system, whose last line is: end"
+    else:
+        yield f"the last line of a {case.kind.name} is: end"
+
+
+def bad_line(case: Case) -> Iterator[str]:
+    if case.keyword == "pair" and version_of(case.lines) == "1":
         yield "pairs of unlike glues are of version 2: the first line must be `tiles 2`"
-    elif cause == "BadLine" and command == "batch" and words and (before or ["batch"])[0] in ("batch", "end"):
-        yield f"behind {'the header' if before[:1] != ['end'] else 'the `end` of a system'} stands a `job` line, and this one begins with {words[0]}"
-    elif cause == "BadLine" and command == "batch" and words[:1] == ["job"] and len(words) == 2:
+    elif case.command == "batch" and case.words and (case.before or ["batch"])[0] in ("batch", "end"):
+        place = "the header" if case.before[:1] != ["end"] else "the `end` of a system"
+        yield f"behind {place} stands a `job` line, and this one begins with {case.keyword}"
+    elif case.command == "batch" and case.keyword == "job" and len(case.words) == 2:
         yield "the system above it has no `end` line"
-    elif cause == "BadLine":
-        yield from guess_line(words, lines[: number - 1], kind.words, command)
-    elif cause == "OutOfOrder" and words[0] in ("place", "closed", "unique"):
+    else:
+        yield from guess_line(case.words, case.above, case.kind.words, case.command)
+
+
+def out_of_order(case: Case) -> Iterator[str]:
+    if case.keyword in ("place", "closed", "unique"):
         yield "a growth ends with its closed and unique lines: do two growths stand here, one behind the other?"
-    elif cause == "OutOfOrder" and words[0] == "seed" and version_of(lines) == "1" and any(it.split()[:1] == [b"seed"] for it in lines[: number - 1]):
+    elif case.keyword == "seed" and version_of(case.lines) == "1" and any(it.split()[:1] == [b"seed"] for it in case.above):
         yield "several seeds are of version 2: the first line must be `tiles 2`"
-    elif cause == "OutOfOrder":
-        yield f"the line itself may be fine: before {words[0]} stands {kind.before.get(words[0], 'something else')}; is a line missing above, or misplaced?"
-    elif cause == "UnknownName":
-        yield from {"turing": guess_machine_name, "quadrant": guess_symbol}.get(command, guess_name)(words, lines, number - 1)
-    elif cause == "DoubleName" and words[0] == "rule":
-        pair = f"the state {words[1]} and the symbol {words[2]}" if command == "turing" else f"{words[1]} from the west and {words[2]} from the south"
-        yield f"there is a rule for {pair} above"
-    elif cause == "DoubleName" and words[0] == "pair":
-        first = [at for at, it in enumerate(lines[: number - 1], 1) if it.split()[:1] == [b"pair"] and set(it.decode(errors="replace").split()[1:3]) == {*words[1:3]}]
-        yield f"line {first[0]} pairs them already" if first else "a glue is not paired with itself: its own strength stands in its `glue` line"
-    elif cause in ("DoubleName", "DoubleSite"):
-        yield f"line {first_like(lines, words)} has it already"
-    elif cause == "BadName" and words[0] == "mark":
+    else:
+        yield (f"the line itself may be fine: before {case.keyword} stands {case.kind.before.get(case.keyword, 'something else')}; "
+               "is a line missing above, or misplaced?")
+
+
+def unknown_name(case: Case) -> Iterator[str]:
+    guess = {"turing": guess_machine_name, "quadrant": guess_symbol}.get(case.command, guess_name)
+    yield from guess(case.words, case.lines, case.number - 1)
+
+
+def double_name(case: Case) -> Iterator[str]:
+    words = case.words
+    if case.keyword == "rule":
+        pair = f"the state {words[1]} and the symbol {words[2]}"
+        yield f"there is a rule for {pair if case.command == 'turing' else f'{words[1]} from the west and {words[2]} from the south'} above"
+    elif case.keyword == "pair":
+        rows = [it.decode(errors="replace").split() for it in case.above]
+        first = [at for at, row in enumerate(rows, 1) if row[:1] == ["pair"] and {*row[1:3]} == {*words[1:3]}]
+        yield (f"line {first[0]} pairs them already" if first
+               else "a glue is not paired with itself: its own strength stands in its `glue` line")
+    else:
+        yield from double_site(case)
+
+
+def double_site(case: Case) -> Iterator[str]:
+    yield f"line {first_like(case.lines, case.words)} has it already"
+
+
+def bad_name(case: Case) -> Iterator[str]:
+    if case.keyword == "mark":
         yield "the sides of a mark are - for none, or capital letters of NESW in this order"
-    elif cause == "BadName" and words[0] == "rule" and words[-1] in ("l", "r", "s"):
+    elif case.keyword == "rule" and case.words[-1] in ("l", "r", "s"):
         yield "a move has a capital: L, R or S"
-    elif cause == "BadName" and command == "turing" and words[0] == "rule" and words[-1] not in ("L", "R", "S"):
-        yield f"a move is L, R or S, and here stands {words[-1]}"
-    elif cause == "BadName" and b"\t" not in line and not line.endswith(b"\r"):
-        yield from guess_word(words, command in ("turing", "quadrant"))
-    elif cause == "BadNumber" and b"\t" not in line and not line.endswith(b"\r"):
-        yield from guess_number(words)
-    elif cause in ("SeedOutside", "OutsideBox"):
-        boxes = [it.decode(errors="replace").split() for it in lines[: number - 1] if it.split()[:1] == [b"box"]]
-        yield from (f"the corners of the box are {it[1]} {it[2]} and {it[3]} {it[4]}" for it in boxes[:1])
-    elif cause == "TooMany" and words[0] in ("tape", "bottom", "left"):
-        yield f"the {words[0]} lines have more symbols than there are {'cells' if words[0] == 'tape' else 'columns' if words[0] == 'bottom' else 'rows'}"
-    elif cause == "OutOfRange":
-        yield from guess_range(words)
-    elif cause == "TooMany" and words[0] == "end":
-        boxes = [[int(at) for at in it.split()[1:5]] for it in lines[:number] if it.split()[:1] == [b"box"]]
-        yield f"the boxes have {sum((it[2] - it[0] + 1) * (it[3] - it[1] + 1) for it in boxes)} sites up to this job, which is the {len(boxes)}th"
-    elif cause == "AfterEnd" and command in KINDS:
+    elif case.command == "turing" and case.keyword == "rule" and case.words[-1] not in ("L", "R", "S"):
+        yield f"a move is L, R or S, and here stands {case.words[-1]}"
+    elif case.is_plain:
+        yield from guess_word(case.words, case.command in ("turing", "quadrant"))
+
+
+def bad_number(case: Case) -> Iterator[str]:
+    if case.is_plain:
+        yield from guess_number(case.words)
+
+
+def outside(case: Case) -> Iterator[str]:
+    boxes = [it.decode(errors="replace").split() for it in case.above if it.split()[:1] == [b"box"]]
+    yield from (f"the corners of the box are {it[1]} {it[2]} and {it[3]} {it[4]}" for it in boxes[:1])
+
+
+def too_many(case: Case) -> Iterator[str]:
+    of = {"tape": "cells", "bottom": "columns", "left": "rows"}
+    if case.keyword in of:
+        yield f"the {case.keyword} lines have more symbols than there are {of[case.keyword]}"
+    elif case.keyword == "end":
+        boxes = [[int(at) for at in it.split()[1:5]] for it in case.lines[: case.number] if it.split()[:1] == [b"box"]]
+        sites = sum((it[2] - it[0] + 1) * (it[3] - it[1] + 1) for it in boxes)
+        yield f"the boxes have {sites} sites up to this job, which is the {len(boxes)}th"
+
+
+def out_of_range(case: Case) -> Iterator[str]:
+    yield from guess_range(case.words)
+
+
+def after_end(case: Case) -> Iterator[str]:
+    if case.command in KINDS:
         yield "nothing stands behind the `end` line: take away what follows it"
-    elif cause == "AfterEnd":
+    else:
         yield "places behind a system are for check, certify, replay and picture, marks for verify, steps of scouts for schedule"
 
 
-def reasons(text, number, cause, command):
+GUESSES: dict[str, Callable[[Case], Iterator[str]]] = {
+    "NoHeader": no_header, "NoEnd": no_end, "BadLine": bad_line, "OutOfOrder": out_of_order, "UnknownName": unknown_name,
+    "DoubleName": double_name, "DoubleSite": double_site, "BadName": bad_name, "BadNumber": bad_number, "SeedOutside": outside,
+    "OutsideBox": outside, "TooMany": too_many, "OutOfRange": out_of_range, "AfterEnd": after_end,
+}
+
+
+def guesses(cause: str, case: Case) -> Iterator[str]:
+    """What may be behind the cause, most telling first."""
+    if case.command == "batch" and cause != "TooMany":
+        case.of_job()
+    if cause in ("NoHeader", "BadLine", "BadName", "BadNumber", "UnknownName"):
+        yield from guess_bytes(case.line)
+    if cause in GUESSES:
+        yield from GUESSES[cause](case)
+
+
+def reasons(text: bytes, number: int, cause: str, command: str) -> Iterator[str]:
     """What is to be said of a refused text, line by line."""
-    lines = text.split(b"\n")
-    if lines and lines[-1] == b"":
-        lines.pop()
-    line = lines[number - 1] if 1 <= number <= len(lines) else b""
-    keyword = line.decode(errors="replace").split()[:1] or [""]
-    said = CAUSES.get(cause, "a cause that this tool does not know").format(limit=LIMITS.get(keyword[0], "more than there may be"), header=KINDS.get(command, SYSTEM).header)
-    yield f"line {number}: {cause}: {said}"
-    yield f"    {visible(line)}" if 1 <= number <= len(lines) else "    (behind the last line)" if number else "    (the whole input)"
-    for it in guesses(cause, line, lines, number, command):
-        yield f"  - {it}"
+    case = Case(text, number, command)
+    said = CAUSES.get(cause, "a cause that this tool does not know")
+    limit = LIMITS.get(case.keyword, "more than there may be")
+    yield f"line {number}: {cause}: {said.format(limit=limit, header=case.kind.header)}"
+    stands = f"    {visible(case.line)}" if 1 <= number <= len(case.lines) else "    (behind the last line)"
+    yield stands if number else "    (the whole input)"
+    yield from (f"  - {it}" for it in guesses(cause, case))

@@ -123,7 +123,7 @@ class System:
     def tile(self, name: str, north: Glue = None, east: Glue = None, south: Glue = None, west: Glue = None) -> str:
         """Declares a tile type by the glues on its sides, None or "-" for none, and answers its name."""
         new_name(name, self.types, "type")
-        sides = [None if it in (None, "-") else old_name(it, self.glues, "glue") for it in (north, east, south, west)]
+        sides = [None if it is None or it == "-" else old_name(it, self.glues, "glue") for it in (north, east, south, west)]
         self.types[name] = (sides[0], sides[1], sides[2], sides[3])
         self._forget()
         return name

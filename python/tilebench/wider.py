@@ -101,10 +101,10 @@ def repeats_told(growth: Growth, site: Site, beyond_side: str) -> str:
         at = across if step == 1 else across - 1
         while first <= at <= last:
             line = line_along(growth, at, is_upward)
-            period = period_of(line[::-1] if side in (2, 3) else line)
-            if period is None or found and period[0] == 1:
+            own = period_of(line[::-1] if side in (2, 3) else line)
+            if own is None or found and own[0] == 1:
                 break
-            found[at] = period
+            found[at] = own
             at += step
         if across not in found:
             return ""
