@@ -184,7 +184,11 @@ def guess_place(words: list[str], lines: list[bytes], command: str) -> Iterator[
 def first_like(lines: list[bytes], words: list[str]) -> int:
     """The number of the first line that declares the same name, or has the same site."""
     def what(row: list[str]) -> list[str | int]:
-        return [row[0], int(row[1]), int(row[2])] if row[0] in ("place", "mark", "seed") else row[:2]
+        found: list[str | int] = [*row[:2]]
+        if row[0] in ("place", "mark", "seed"):
+            found = [row[0], int(row[1])]
+            found.append(int(row[2]))
+        return found
 
     rows = ((at, line.decode(errors="replace").split()) for at, line in enumerate(lines, 1))
     return next(at for at, row in rows if row[:1] == words[:1] and what(row) == what(words))
@@ -398,7 +402,7 @@ def after_end(case: Case) -> Iterator[str]:
         yield "places behind a system are for check, certify, replay and picture, marks for verify, steps of scouts for schedule"
 
 
-GUESSES: dict[str, Callable[[Case], Iterator[str]]] = {
+guess_of: dict[str, Callable[[Case], Iterator[str]]] = {
     "NoHeader": no_header, "NoEnd": no_end, "BadLine": bad_line, "OutOfOrder": out_of_order, "UnknownName": unknown_name,
     "DoubleName": double_name, "DoubleSite": double_site, "BadName": bad_name, "BadNumber": bad_number, "SeedOutside": outside,
     "OutsideBox": outside, "TooMany": too_many, "OutOfRange": out_of_range, "AfterEnd": after_end,
@@ -411,8 +415,8 @@ def guesses(cause: str, case: Case) -> Iterator[str]:
         case.of_job()
     if cause in ("NoHeader", "BadLine", "BadName", "BadNumber", "UnknownName"):
         yield from guess_bytes(case.line)
-    if cause in GUESSES:
-        yield from GUESSES[cause](case)
+    if cause in guess_of:
+        yield from guess_of[cause](case)
 
 
 def reasons(text: bytes, number: int, cause: str, command: str) -> Iterator[str]:
