@@ -3,9 +3,11 @@ import { $, button, make, many } from "./dom.js";
 import { showSite, redraw } from "./board.js";
 import { hashOf } from "./bytes.js";
 import { readGrowth } from "./growth.js";
+import { css, Kinds } from "./colours.js";
 import { growNow } from "./loading.js";
 import { ask, lack, searching, Unanswered } from "./program.js";
 import { on, page } from "./state.js";
+import { drawTile } from "./tile_drawing.js";
 
 const CHOICES = 64;
 let search = null;
@@ -73,7 +75,8 @@ function tellSearch(it) {
   const isDone = it.tried === CHOICES || it.isEnded;
   $("rivals-run").textContent = isDone ? "Look again" : "Stop";
   const parting = it.found.length > 1 ? partsAt(it.system, it.found[0].sites, it.found[1].sites) : null;
-  const where = parting ? [make("p", {}, partingWords(it.system, parting))] : [];
+  const where = parting ? [make("p", {}, partingWords(it.system, parting)), make("div", { class: "close-ups" },
+    ...[0, 1].map((at) => closeUp(it.system, it.found[at].sites, parting)))] : [];
   $("rivals-found").replaceChildren(...where, ...it.found.slice(0, 12).map((one, at) => outcome(one, at, parting)));
   if (it.found.length > 12) $("rivals-found").append(make("p", { class: "soft" }, `and ${it.found.length - 12} more`));
 }
@@ -81,6 +84,25 @@ function tellSearch(it) {
 function partingWords(system, { x, y, types }) {
   const [one, other] = types.map((type) => system.nameOf(type));
   return `They part first at (${x}, ${y}): ${one} in the first, ${other} in the second.`;
+}
+
+// What stands around the site where two assemblies part, in one of them.
+function closeUp(system, sites, { x, y }) {
+  const scale = 44, reach = 1, ratio = window.devicePixelRatio || 1, side = (2 * reach + 1) * scale;
+  const canvas = make("canvas",
+    { role: "img", "aria-label": `Around (${x}, ${y})`, width: side * ratio, height: side * ratio });
+  const pen = canvas.getContext("2d"), colours = new Kinds(system, "type").rgb;
+  pen.scale(ratio, ratio);
+  for (let row = 0; row <= 2 * reach; row++) {
+    for (let column = 0; column <= 2 * reach; column++) {
+      const cell = system.cellAt(x + column - reach, y + reach - row), type = cell < 0 ? -1 : sites[cell] - 1;
+      if (type < 0) continue;
+      pen.fillStyle = css(colours[type]);
+      pen.fillRect(column * scale, row * scale, scale, scale);
+      drawTile(pen, system, type, colours[type], [column * scale, row * scale, scale]);
+    }
+  }
+  return canvas;
 }
 
 // An assembly that came: how often, and a button that shows it.

@@ -84,6 +84,11 @@ const STEPS = {
 };
 const stepWords = (words) => STEPS[words[0]]?.(words) ?? words.join(" ");
 
+function lookThere(site) {
+  page.mark = site;
+  showSite(site);
+}
+
 // The types of which no tile stands: a yes does not speak of them.
 function nowhere() {
   if (!page.system || !page.growth?.count || page.isStale || page.mode === "hand"
@@ -93,7 +98,7 @@ function nowhere() {
   const none = nowhereOf(page.system, page.growth);
   if (!none.length) return null;
   const lead = leadOf(page, none), told = `${many(none.length, "type")} placed nowhere: ${namesOf(none, 12)}.`;
-  const where = lead ? [` ${lead.text} `, button("Look there", () => showSite(lead.site), { class: "link" })] : [];
+  const where = lead ? [` ${lead.text} `, button("Look there", () => lookThere(lead.site), { class: "link" })] : [];
   return make("p", { class: "nowhere" }, told, ...where);
 }
 

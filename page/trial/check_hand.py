@@ -109,6 +109,7 @@ def rivals(page):
     page.click("#open-rivals")
     page.wait("tilebench.page.search()?.tried === 64", 60)
     assert page.text("#rivals-told").startswith("Of 64 choices 2 different assemblies came. So more than one assembly can grow"), page.text("#rivals-told")
+    assert page.value('document.querySelectorAll("#rivals-found .close-ups canvas").length') == 2
     assert "They part first at (1, 0): A in the first, B in the second." in page.text("#rivals-found"), page.text("#rivals-found")
     page.picture("rivals")
 
