@@ -3,10 +3,10 @@ import { joined } from "./bytes.js";
 import { $, announce, button, make, many, paused, swatch } from "./dom.js";
 import { measure, redraw, showSite } from "./board.js";
 import { css } from "./colours.js";
-import { openDrawer } from "./drawer.js";
+import { opened, openDrawer } from "./drawer.js";
 import { linesOf } from "./growing.js";
 import { Growth, placesBytes } from "./growth.js";
-import { growNow, setAnswers } from "./loading.js";
+import { growNow, setAnswers, settled } from "./loading.js";
 import { openSites } from "./open_sites.js";
 import { beginPicture, showPlaces } from "./picture.js";
 import { show } from "./player.js";
@@ -133,7 +133,10 @@ function leave() {
 }
 
 export function beginByHand() {
-  on("opened-hand", begin);
+  on("opened-hand", async () => {
+    await settled();
+    if (opened() === "hand") begin();
+  });
   on("closed-hand", leave);
   on("clicked", (site, at) => { if (page.mode === "hand") pick(site, at); });
   on("growing", () => { if (page.mode === "hand") { page.mode = "look"; openDrawer(""); } });

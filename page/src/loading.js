@@ -31,8 +31,18 @@ function same(one, other) {
   return true;
 }
 
+let running = Promise.resolve();
+
+// Comes to its end where what is grown now is done.
+export const settled = () => running;
+
 // Grows the text now. `isNew` where another text was opened: it is looked at afresh.
-export async function growNow({ isNew = false, words = [] } = {}) {
+export function growNow(how = {}) {
+  running = growText(how);
+  return running;
+}
+
+async function growText({ isNew = false, words = [] }) {
   later.stop();
   const bytes = editedBytes();
   if (!isNew && !words.length && same(last, bytes)) return;
