@@ -1,6 +1,6 @@
 """Growing by hand, and looking for rivals."""
 from trial.check import check
-from trial.reading import CHAIN, STATE, TRIANGLE, pick, put, site, verdict
+from trial.reading import CHAIN, STATE, TRIANGLE, done, pick, put, site, verdict
 
 RACE = "tiles 1\ntau 1\nglue a 1\ntile S - a - -\ntile A - - - a\ntile B - - - a\nbox 0 0 1 0\nseed 0 0 S\nend\n"
 
@@ -63,7 +63,7 @@ def anywhere(page):
 
 @check("closed, the program's growth is there again")
 def leaves(page):
-    page.click("#close-hand")
+    done(page, lambda: page.click("#close-hand"))
     page.wait(f"{STATE}.mode === 'look' && {STATE}.growth.count === 64")
     page.wait('document.querySelector("#verdict-word").textContent === "Unique within the box"')
 
@@ -85,14 +85,14 @@ def picks(page):
 
 @check("it goes on by hand from the step of play that is shown")
 def goes_on(page):
-    page.click("#close-hand")
+    done(page, lambda: page.click("#close-hand"))
     put(page, TRIANGLE % (7, 7))
     page.value("document.activeElement.blur()")
     page.press("Home", "ArrowRight", "ArrowRight", "ArrowRight")
     page.click("#open-hand")
     page.wait(f"{STATE}.mode === 'hand'")
     assert page.value(f"{STATE}.growth.count") == 4
-    page.click("#close-hand")
+    done(page, lambda: page.click("#close-hand"))
 
 
 @check("a key in the text ends the growth by hand")
