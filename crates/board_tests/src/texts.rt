@@ -4,7 +4,7 @@ use job_board::read_batch;
 use std::alloc::{AllocError, Global};
 use std::test::Fail;
 use tile_io::{Cause, MOST_INPUT, Mark, TextFault, TextStop};
-use worked_systems::changed_line;
+use worked_systems::{SINGLE, changed_line};
 
 // What refuses a text.
 fn refusal(alloc: Global, text: &str) -> Option<TextStop> {
@@ -87,10 +87,10 @@ fn takes_no_more_jobs_than_the_limit(rt: HostRuntime) -> Result<(), Fail> {
     Ok(())
 }
 
-// So many jobs of one tile in the largest box.
-fn wide_jobs(alloc: Global, count: u32) -> Result<String, AllocError> {
+// Four jobs of one tile in the largest box.
+fn wide_jobs(alloc: Global) -> Result<String, AllocError> {
     let mut text = String::from_str(alloc, "batch 1\n")?;
-    for _ in 0..count {
+    for _ in 0..4u32 {
         text.push_str("job 0\ntiles 1\ntau 1\ntile S - - - -\n")?;
         text.push_str("box 0 0 1023 1023\nseed 0 0 S\nend\n")?;
     }
@@ -99,13 +99,14 @@ fn wide_jobs(alloc: Global, count: u32) -> Result<String, AllocError> {
 
 #[test]
 fn takes_no_more_sites_than_the_limit(rt: HostRuntime) -> Result<(), Fail> {
-    let most = wide_jobs(rt.alloc(), 4)?;
-    assert!(rt; refusal(rt.alloc(), most.as_str()).is_none());
+    let mut jobs = wide_jobs(rt.alloc())?;
+    assert!(rt; refusal(rt.alloc(), jobs.as_str()).is_none());
     let fault = TextFault {
         line: 36,
         cause: Cause::TooMany,
     };
-    let more = wide_jobs(rt.alloc(), 5)?;
-    assert!(rt; refusal(rt.alloc(), more.as_str()) == Some(TextStop::Fault(fault)));
+    jobs.push_str("job 0\n")?;
+    jobs.push_str(SINGLE)?;
+    assert!(rt; refusal(rt.alloc(), jobs.as_str()) == Some(TextStop::Fault(fault)));
     Ok(())
 }

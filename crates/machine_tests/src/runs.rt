@@ -111,6 +111,14 @@ const RUNS: [Run; 13] = [
     },
 ];
 
+#[test]
+fn begins_with_the_tape(rt: HostRuntime) -> Result<(), Fail> {
+    let machine = machine(rt.alloc(), BIT_FLIPPER)?;
+    let first = Some(machine.first(rt.alloc())?);
+    assert!(rt; is_shown(&machine, &first, Some((&[1, 0, 1], Some((0, 0))))));
+    Ok(())
+}
+
 fn leads_so(alloc: Global, run: &Run) -> Result<bool, Fail> {
     let machine = machine(alloc, run.machine)?;
     let found = run_machine(alloc, &machine, run.steps.min(1023))?;

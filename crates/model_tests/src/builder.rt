@@ -76,3 +76,84 @@ fn builds_a_chain(rt: HostRuntime) -> Result<(), Fail> {
     assert!(rt; has_glues(&system));
     Ok(())
 }
+
+const NO_TYPE: Place = Place {
+    site: Site { x: 1, y: 0 },
+    tile: TypeId(3),
+};
+
+// Another type at the first seed's site.
+const TWICE: Place = Place {
+    site: Site { x: 0, y: 0 },
+    tile: TypeId(1),
+};
+
+// A chain's draft with its seed.
+fn draft(alloc: Global) -> Result<SystemBuilder, BuildStop> {
+    let mut draft = SystemBuilder::make(alloc, 2)?;
+    add_all(&mut draft)?;
+    Ok(draft)
+}
+
+#[test]
+fn refuses_a_further_seed(rt: HostRuntime) -> Result<(), Fail> {
+    let mut draft = draft(rt.alloc())?;
+    assert!(rt; draft.seed_more(NO_TYPE).err() == Some(BuildStop::UnknownType));
+    assert!(rt; draft.seed_more(START).err() == Some(BuildStop::DoubleSite));
+    assert!(rt; draft.seed_more(TWICE).err() == Some(BuildStop::DoubleSite));
+    for row in 1..4096i32 {
+        let site = Site { x: 0, y: row };
+        draft.seed_more(Place { site, ..START })?;
+    }
+    assert!(rt; draft.seed_more(NO_TYPE).err() == Some(BuildStop::TooMany));
+    Ok(())
+}
+
+// Two glues, a strength, and what refuses them as a pair of a draft that has the pair of 0 and 1.
+const PAIRS: [(u32, u32, u32, BuildStop); 6] = [
+    (2, 0, 251, BuildStop::UnknownGlue),
+    (0, 2, 1, BuildStop::UnknownGlue),
+    (0, 0, 251, BuildStop::DoublePair),
+    (0, 1, 1, BuildStop::DoublePair),
+    (1, 0, 251, BuildStop::DoublePair),
+    (1, 3, 1, BuildStop::UnknownGlue),
+];
+
+#[test]
+fn refuses_a_pair(rt: HostRuntime) -> Result<(), Fail> {
+    let mut draft = draft(rt.alloc())?;
+    let (first, second) = (GlueId(0), GlueId(1));
+    assert!(rt; draft.pair(first, second, 251).err() == Some(BuildStop::OutOfRange));
+    draft.pair(first, second, 250)?;
+    for (first, second, strength, stop) in PAIRS {
+        let refused = draft.pair(GlueId(first), GlueId(second), strength).err();
+        assert!(rt; refused == Some(stop));
+    }
+    Ok(())
+}
+
+// Each of so many glues with those before it, until a pair is refused: how many there are then.
+fn paired(draft: &mut SystemBuilder, glues: u32) -> Result<u32, BuildStop> {
+    let mut pairs = 0u32;
+    for first in 0..glues {
+        for second in 0..first {
+            match draft.pair(GlueId(first), GlueId(second), 0) {
+                Ok(()) => pairs = pairs.saturating_add(1),
+                Err(BuildStop::TooMany) => return Ok(pairs),
+                Err(stop) => return Err(stop),
+            }
+        }
+    }
+    Ok(pairs)
+}
+
+#[test]
+fn takes_no_more_pairs_than_the_limit(rt: HostRuntime) -> Result<(), Fail> {
+    let alloc = rt.alloc();
+    let mut draft = SystemBuilder::make(alloc, 1)?;
+    for glue in 0..363u32 {
+        draft.glue(format!(in alloc; "g{glue}")?.as_bytes(), 0)?;
+    }
+    assert_eq!(rt; paired(&mut draft, 363)?, 65536);
+    Ok(())
+}

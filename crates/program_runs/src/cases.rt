@@ -55,16 +55,17 @@ pub struct Change {
     pub err: &'static str,
 }
 
-/// The number, from 0, of the first change of this text after which growth ends otherwise.
+/// The number, from 0, of the first change of this text after which this command ends otherwise.
 pub fn first_unlike_change<R: Threads + Wait + Sync>(
     rt: &R,
     alloc: Global,
+    command: &str,
     text: &str,
     changes: &[Change],
 ) -> Result<Option<usize>, AllocError> {
     for (number, change) in changes.iter().enumerate() {
         let changed = changed_line(alloc, text, change.number, change.line)?;
-        let ran = answered(rt, alloc, &["grow"], changed.as_str())?;
+        let ran = answered(rt, alloc, &[command], changed.as_str())?;
         if !ran.is(change.status, change.out, change.err) {
             return Ok(Some(number));
         }

@@ -318,7 +318,10 @@ const OPEN: [Change; 7] = [
 #[test]
 fn answers_each_changed_line(rt: HostRuntime) -> Result<(), Fail> {
     for (text, changes) in [(CHAIN, &REFUSED[..]), (CHAIN, &TAKEN), (EDGES, &OPEN)] {
-        assert_eq!(rt; first_unlike_change(&rt, rt.alloc(), text, changes)?, None);
+        assert_eq!(rt;
+            first_unlike_change(&rt, rt.alloc(), "grow", text, changes)?,
+            None
+        );
     }
     Ok(())
 }

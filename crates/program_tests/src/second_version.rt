@@ -319,9 +319,12 @@ const PAIR_LINES: [Change; 8] = [
 fn refuses_each_changed_line(rt: HostRuntime) -> Result<(), Fail> {
     let alloc = rt.alloc();
     assert_eq!(rt;
-        first_unlike_change(&rt, alloc, TWO_SEEDS, &SEED_LINES)?,
+        first_unlike_change(&rt, alloc, "format", TWO_SEEDS, &SEED_LINES)?,
         None
     );
-    assert_eq!(rt; first_unlike_change(&rt, alloc, PAIRED, &PAIR_LINES)?, None);
+    assert_eq!(rt;
+        first_unlike_change(&rt, alloc, "format", PAIRED, &PAIR_LINES)?,
+        None
+    );
     Ok(())
 }

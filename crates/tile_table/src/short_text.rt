@@ -70,3 +70,8 @@ impl ShortText {
         &self.bytes[..self.len]
     }
 }
+
+/// The room of a short text, as a number.
+pub fn law_short_text()
+    ensures { SHORT_ROOM ≡ 256 }
+{}

@@ -65,10 +65,11 @@ fn refuses_a_changed_line(rt: HostRuntime) -> Result<(), Fail> {
 }
 
 // Inputs that end early, and what refuses them.
-const ENDED: [(&str, &str); 7] = [
+const ENDED: [(&str, &str); 8] = [
     ("", "1 NoHeader"),
     ("# none\n", "2 NoHeader"),
     ("batch 1", "1 NoEnd"),
+    ("batch 1\n", "2 NoEnd"),
     ("batch 1\n# none\n", "3 NoEnd"),
     ("batch 1\ntau 1\n", "2 BadLine"),
     ("batch 1\njob 0\n", "3 NoEnd"),
@@ -83,11 +84,11 @@ fn refuses_an_input_that_ends_early(rt: HostRuntime) -> Result<(), Fail> {
     Ok(())
 }
 
-// So many jobs of one tile in a box of so many columns and rows.
-fn equal_jobs(alloc: Global, count: u32, side: u32) -> Result<String, AllocError> {
-    let most = side.saturating_sub(1);
+// Jobs of one tile, each in a box of so many columns and rows.
+fn square_jobs(alloc: Global, sides: &[u32]) -> Result<String, AllocError> {
     let mut text = String::from_str(alloc, "batch 1\n")?;
-    for number in 0..count {
+    for (number, side) in sides.iter().enumerate() {
+        let most = side.saturating_sub(1);
         let job = format!(in alloc;
             "job {number}\ntiles 1\ntau 1\ntile S - - - -\nbox 0 0 {most} {most}\n"
         )?;
@@ -97,11 +98,12 @@ fn equal_jobs(alloc: Global, count: u32, side: u32) -> Result<String, AllocError
     Ok(text)
 }
 
+// One job more than a batch may have, and one site more than the boxes of its jobs may have.
 #[test]
 fn takes_no_more_than_the_limits(rt: HostRuntime) -> Result<(), Fail> {
-    let jobs = equal_jobs(rt.alloc(), 1025, 1)?;
+    let jobs = square_jobs(rt.alloc(), &[1; 1025])?;
     assert!(rt; is_refused(&rt, rt.alloc(), jobs.as_str(), "7170 TooMany")?);
-    let sites = equal_jobs(rt.alloc(), 5, 1024)?;
+    let sites = square_jobs(rt.alloc(), &[1024, 1024, 1024, 1024, 1])?;
     assert!(rt; is_refused(&rt, rt.alloc(), sites.as_str(), "36 TooMany")?);
     Ok(())
 }

@@ -55,7 +55,7 @@ const RUNS: [Case; 12] = [
     Case {
         words: &["quadrant"],
         system: "quadrant 1\nsymbol 0\nsymbol 1\nrule 0 0 0 0\nrule 0 1 1 1\nrule 1 0 1 1\n\
-            rule 1 1 0 0\nsize 2 2\nbottom 1 1 1\n",
+            rule 1 1 0 0\nsize 2 2\nbottom 1 1 1\nleft 1 1\nend\n",
         behind: "",
         status: Status::Text,
         out: "",
@@ -64,7 +64,7 @@ const RUNS: [Case; 12] = [
     Case {
         words: &["quadrant"],
         system: "quadrant 1\nsymbol 0\nsymbol 1\nrule 0 0 0 0\nrule 0 1 1 1\nrule 1 0 1 1\n\
-            rule 1 0 0 0\n",
+            rule 1 0 0 0\nsize 2 2\nbottom 1 1\nleft 1 1\nend\n",
         behind: "",
         status: Status::Text,
         out: "",
