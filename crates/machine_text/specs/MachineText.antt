@@ -106,7 +106,9 @@ transition_in M words = do
 -- kind, and its fields from left to right. The limit and the fields are told by the machine that the earlier lines describe.
 abbrev pub machine_row : Keyword TuringMachine MachineItem
 machine_row = record {
-  word = codes "machine"; has_words = λ n. n == 2; may_follow = is_none;
+  word = codes "machine";
+  has_words = λ n. n == 2;
+  may_follow = is_none;
   has_room = λ M words. true;
   fields = λ M words. do
     _ ← require (bytes_eq (field words 1) (codes "1")) NoHeader
@@ -115,7 +117,8 @@ machine_row = record {
 
 abbrev pub state_row : Keyword TuringMachine MachineItem
 state_row = record {
-  word = codes "state"; has_words = λ n. n == 2;
+  word = codes "state";
+  has_words = λ n. n == 2;
   may_follow = behind word_of (codes "machine" ∷ codes "state" ∷ []);
   has_room = λ M words. nat_lt (length M.states) MOST_STATES;
   fields = λ M words. do
@@ -125,7 +128,8 @@ state_row = record {
 
 abbrev pub symbol_row : Keyword TuringMachine MachineItem
 symbol_row = record {
-  word = codes "symbol"; has_words = λ n. n == 2;
+  word = codes "symbol";
+  has_words = λ n. n == 2;
   may_follow = behind word_of (codes "state" ∷ codes "symbol" ∷ []);
   has_room = λ M words. nat_lt (length M.symbols) MOST_SYMBOLS;
   fields = λ M words. do
@@ -135,7 +139,8 @@ symbol_row = record {
 
 abbrev pub rule_row : Keyword TuringMachine MachineItem
 rule_row = record {
-  word = codes "rule"; has_words = λ n. n == 6;
+  word = codes "rule";
+  has_words = λ n. n == 6;
   may_follow = behind word_of (codes "symbol" ∷ codes "rule" ∷ []);
   has_room = λ M words. true;
   fields = λ M words. do
@@ -145,7 +150,8 @@ rule_row = record {
 
 abbrev pub cells_row : Keyword TuringMachine MachineItem
 cells_row = record {
-  word = codes "cells"; has_words = λ n. n == 2;
+  word = codes "cells";
+  has_words = λ n. n == 2;
   may_follow = behind word_of (codes "symbol" ∷ codes "rule" ∷ []);
   has_room = λ M words. true;
   fields = λ M words. do
@@ -155,7 +161,9 @@ cells_row = record {
 
 abbrev pub rows_row : Keyword TuringMachine MachineItem
 rows_row = record {
-  word = codes "rows"; has_words = λ n. n == 2; may_follow = behind word_of (codes "cells" ∷ []);
+  word = codes "rows";
+  has_words = λ n. n == 2;
+  may_follow = behind word_of (codes "cells" ∷ []);
   has_room = λ M words. true;
   fields = λ M words. do
     n ← count_in 1 MOST_ROWS (field words 1)
@@ -164,7 +172,9 @@ rows_row = record {
 
 abbrev pub head_row : Keyword TuringMachine MachineItem
 head_row = record {
-  word = codes "head"; has_words = λ n. n == 2; may_follow = behind word_of (codes "rows" ∷ []);
+  word = codes "head";
+  has_words = λ n. n == 2;
+  may_follow = behind word_of (codes "rows" ∷ []);
   has_room = λ M words. true;
   fields = λ M words. do
     n ← count_in 0 (M.cells - 1) (field words 1)
@@ -174,7 +184,8 @@ head_row = record {
 -- all tape lines together have no more symbols than there are cells
 abbrev pub tape_row : Keyword TuringMachine MachineItem
 tape_row = record {
-  word = codes "tape"; has_words = λ n. nat_le 2 n;
+  word = codes "tape";
+  has_words = λ n. nat_le 2 n;
   may_follow = behind word_of (codes "head" ∷ codes "tape" ∷ []);
   has_room = λ M words. nat_le (length M.tape + (length words - 1)) M.cells;
   fields = λ M words. do
@@ -184,7 +195,8 @@ tape_row = record {
 
 abbrev pub end_row : Keyword TuringMachine MachineItem
 end_row = record {
-  word = codes "end"; has_words = λ n. n == 1;
+  word = codes "end";
+  has_words = λ n. n == 1;
   may_follow = behind word_of (codes "head" ∷ codes "tape" ∷ []);
   has_room = λ M words. true;
   fields = λ M words. Ok EndLine;

@@ -80,7 +80,9 @@ rule_in w words = do
 -- kind, and its fields from left to right. The limit and the fields are told by the weave that the earlier lines describe.
 abbrev pub quadrant_row : Keyword Weave WeaveItem
 quadrant_row = record {
-  word = codes "quadrant"; has_words = λ n. n == 2; may_follow = is_none;
+  word = codes "quadrant";
+  has_words = λ n. n == 2;
+  may_follow = is_none;
   has_room = λ w words. true;
   fields = λ w words. do
     _ ← require (bytes_eq (field words 1) (codes "1")) NoHeader
@@ -89,7 +91,8 @@ quadrant_row = record {
 
 abbrev pub symbol_row : Keyword Weave WeaveItem
 symbol_row = record {
-  word = codes "symbol"; has_words = λ n. n == 2;
+  word = codes "symbol";
+  has_words = λ n. n == 2;
   may_follow = behind word_of (codes "quadrant" ∷ codes "symbol" ∷ []);
   has_room = λ w words. nat_lt (length w.symbols) MOST_SYMBOLS;
   fields = λ w words. do
@@ -99,7 +102,8 @@ symbol_row = record {
 
 abbrev pub rule_row : Keyword Weave WeaveItem
 rule_row = record {
-  word = codes "rule"; has_words = λ n. n == 5;
+  word = codes "rule";
+  has_words = λ n. n == 5;
   may_follow = behind word_of (codes "symbol" ∷ codes "rule" ∷ []);
   has_room = λ w words. true;
   fields = λ w words. do
@@ -109,7 +113,8 @@ rule_row = record {
 
 abbrev pub size_row : Keyword Weave WeaveItem
 size_row = record {
-  word = codes "size"; has_words = λ n. n == 3;
+  word = codes "size";
+  has_words = λ n. n == 3;
   may_follow = behind word_of (codes "symbol" ∷ codes "rule" ∷ []);
   has_room = λ w words. true;
   fields = λ w words. do
@@ -121,7 +126,8 @@ size_row = record {
 -- all bottom lines together have no more symbols than there are columns
 abbrev pub bottom_row : Keyword Weave WeaveItem
 bottom_row = record {
-  word = codes "bottom"; has_words = λ n. nat_le 2 n;
+  word = codes "bottom";
+  has_words = λ n. nat_le 2 n;
   may_follow = behind word_of (codes "size" ∷ codes "bottom" ∷ []);
   has_room = λ w words. nat_le (length w.bottom + (length words - 1)) w.width;
   fields = λ w words. do
@@ -132,7 +138,8 @@ bottom_row = record {
 -- and all left lines no more than there are rows
 abbrev pub left_row : Keyword Weave WeaveItem
 left_row = record {
-  word = codes "left"; has_words = λ n. nat_le 2 n;
+  word = codes "left";
+  has_words = λ n. nat_le 2 n;
   may_follow = behind word_of (codes "size" ∷ codes "bottom" ∷ codes "left" ∷ []);
   has_room = λ w words. nat_le (length w.left + (length words - 1)) w.height;
   fields = λ w words. do
@@ -142,7 +149,8 @@ left_row = record {
 
 abbrev pub end_row : Keyword Weave WeaveItem
 end_row = record {
-  word = codes "end"; has_words = λ n. n == 1;
+  word = codes "end";
+  has_words = λ n. n == 1;
   may_follow = behind word_of (codes "size" ∷ codes "bottom" ∷ codes "left" ∷ []);
   has_room = λ w words. true;
   fields = λ w words. Ok EndLine;
