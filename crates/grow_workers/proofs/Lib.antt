@@ -4,3 +4,4 @@ pub mod Splitting
 pub mod Ordering
 pub mod Joined
 pub mod Whole
+pub mod Stages

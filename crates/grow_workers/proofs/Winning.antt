@@ -433,7 +433,7 @@ whole_growth sys workers start old new grid wins grown valid all none grew count
     }
 
 -- a number's wins are among what a seat has won
-placed_few : (n : ℕ) (tiles : List PlacedTile) → length (placed_by n tiles) ≤ length tiles
+pub placed_few : (n : ℕ) (tiles : List PlacedTile) → length (placed_by n tiles) ≤ length tiles
 placed_few n tiles = let whole = parted_length n tiles in omega (arith, whole)
 
 pub first_few : (sys : TileSystem) (old new : SeatValue) (start grid : TileGrid) (first : ℕ) (others : List ℕ) → PartedGrowth sys old start new grid first others → first ≤ length new.scout.mine
@@ -447,7 +447,7 @@ first_few sys old new start grid first others grew =
     omega (arith, order, both, many, few)
 
 -- a seat has won no more tiles than the box has sites
-mine_few : (sys : TileSystem) (v : ScoutState) → IsPossible sys v → length v.mine ≤ cell_count sys.area
+pub mine_few : (sys : TileSystem) (v : ScoutState) → IsPossible sys v → length v.mine ≤ cell_count sys.area
 mine_few sys v real =
     let at : List Place = places v.mine in
     let inside : All (λ (p : Place). InBox sys.area p.site) at =

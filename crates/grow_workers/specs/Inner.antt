@@ -2,3 +2,4 @@
 pub mod Prepared
 pub mod Wins
 pub mod Sharing
+pub mod Rounds

@@ -1,7 +1,5 @@
 // Growth on a table, and a whole growth.
 ghost use Rattle.std.specs.Prelude.{All, ◌≡◌, ◌≤◌, length, IfOk, IfSome};
-ghost use Rattle.atam.specs.Placements.{SamePlacements};
-ghost use Rattle.site_table.specs.Seats.{IsSeatOf};
 ghost use Rattle.type_index.specs.Indexes.{IsIndexOf};
 ghost use Rattle.grow_workers.specs.Workers.{OwnsAtLeast, GrewOn, IsGrownBy};
 ghost use Rattle.grow_workers.specs.Inner.Sharing.{AreWorksOf, BeginsLog, HasSeen, IsLogOf, IsShared, IsStart, IsWorkOf};
@@ -12,20 +10,21 @@ use crate::joining::join;
 use crate::leavings::{Closing, Harvest, Part};
 use crate::member::work;
 use crate::prepared::{Prepared, prepare};
+use crate::rounds::grow_on;
 use crate::shared::Shared;
 use crate::starts::{Start, split};
 use crate::team::Team;
 use assembly::Grid;
 use fan_out::{WorkerCount, share_out};
 use frontier_seat::ClaimLog;
-use site_table::{Grown, SiteSeat, SiteTable};
+use site_table::{Grown, SiteSeat};
 use std::alloc::Global;
 use std::thread::Threads;
 use tile_io::Gate;
 use tile_system::{NoMemory, System};
 use type_index::TypeIndex;
 
-/// Grows a system within its box with so many workers.
+/// Grows a system within its box with so many workers, by `grow_on` on a table of its own.
 pub fn grow<R: Threads + Sync, G: Gate>(
     rt: &R,
     alloc: Global,
@@ -48,8 +47,15 @@ pub fn grow<R: Threads + Sync, G: Gate>(
     Ok(table.close(seat, grid))
 }
 
-/// The same with an index of the system's types that is lent to it. One worker with the choice 0 goes
-/// in canonical order.
+/// What `grow` leaves, by workers who stay at work until nothing is left to do, with an index of the
+/// system's types that is lent to them. The box is cut into bands of rows, of which every one in so
+/// many is a worker's own: it claims there first, and where nothing is left there it looks beside
+/// its bands at what others have placed. Each has a copy of the grid, and ends when none of them has
+/// anything to do; then their seats and grids are joined, and worker 0 goes on alone until the box is
+/// closed. With the choice 0 one worker claims the least site of those at which it has to look; with
+/// any other the generator says where in the box the next one is looked for, so that each of them
+/// may come first. A worker calls the gate once, before its first claim. No clause says more of
+/// either. One worker with the choice 0 goes in canonical order.
 pub fn grow_by_index<R: Threads + Sync, G: Gate>(
     rt: &R,
     alloc: Global,
@@ -88,60 +94,6 @@ pub fn grow_by_index<R: Threads + Sync, G: Gate>(
     grid.recall_sites();
     grid.clear();
     Ok(table.close(seat, grid))
-}
-
-/// Grows with so many workers, from what the seat has seen, each in a thread of its own but worker
-/// 0. The list has what each worker has won. The box is cut into bands of rows, of which every one
-/// in so many is a worker's own: it claims there first, and where nothing is left there it looks
-/// beside its bands at what others have placed. Each has a copy of the grid, and ends when none of
-/// them has anything to do; then their seats and grids are joined, and worker 0 goes on alone until the
-/// box is closed. One worker begins with that, and copies no grid. Where several types attach,
-/// worker w chooses by PCG's generator of state `choice` and stream w, which worker 0 makes anew
-/// when it goes on alone. With the choice 0 one worker claims the least site of those at which it
-/// has to look; with any other the generator says where in the box the next one is looked for, so
-/// that each of them may come first. A worker calls the gate once, before its first claim. No
-/// clause says more of either. Where memory is wanting the seats are dropped, and the table stays
-/// usable.
-pub fn grow_on<R: Threads + Sync, G: Gate>(
-    rt: &R,
-    alloc: Global,
-    sys: &System,
-    table: &SiteTable,
-    seat: SiteSeat,
-    seen: Grid,
-    workers: u32,
-    choice: u64,
-    gate: &G,
-) -> Result<(SiteSeat, Grid, Vec<u32>), NoMemory>
-    requires some { 1 ≤ workers }
-    requires few { workers ≤ 16 }
-    requires numbers { OwnsAtLeast workers seat.scout.owned }
-    requires seat { IsSeatOf table.now seat }
-    requires system { table.now.sys ≡ sys.now }
-    requires area { seen.area ≡ sys.now.area }
-    requires seen { SamePlacements seat.scout.seen seen.tiles }
-    ensures grew { IfOk result (λ r. GrewOn sys.now seat seen r.0 r.1 r.2.items) }
-    ensures count { IfOk result (λ r. length r.2.items ≡ workers) }
-{
-    let workers = WorkerCount::new(workers);
-    let types = TypeIndex::build(alloc, sys)?;
-    let shared = Shared {
-        sys,
-        table,
-        types: &types,
-        gate,
-        choice,
-        workers,
-        in_order: false,
-        team: Team::of(workers),
-    };
-    let Closing {
-        seat,
-        grid,
-        wins,
-        log: _log,
-    } = grow_together(rt, alloc, &shared, seat, seen, None)?;
-    Ok((seat, grid, wins))
 }
 
 // Parts the seat among all workers, lets them work, joins what they leave, and ends the growth. With a

@@ -8,13 +8,13 @@ ghost use Rattle.grow_workers.specs.Inner.Wins.{PartedGrowth};
 
 use crate::leavings::{Part, part_of, scout_of};
 use crate::ordered::SeenOrder;
+use crate::picks::picks_in_order;
 use crate::prepared::{Prepared, prepare};
 use crate::shared::Shared;
 use crate::team::Team;
 use assembly::{Grid, Sequence};
 use fan_out::WorkerCount;
-use frontier_seat::{ClaimLog, RngChooser};
-use rand_pcg::Lcg64Xsh32;
+use frontier_seat::ClaimLog;
 use site_table::{Grown, SiteSeat};
 use std::alloc::Global;
 use std::marker::Brand;
@@ -138,7 +138,7 @@ fn sweep_counted<L: Ledger, G: Gate>(
     ensures sole { seat.scout.owned ≡ 2 ^ 64 - 1 → IfOk result (λ _. IsTrue log.new.in_order) }
 {
     let mut scout = scout_of(alloc, shared, seat, seen)?;
-    let mut chooser = RngChooser::make(Lcg64Xsh32::new(0, 0));
+    let mut chooser = picks_in_order();
     let mut steps: Steps<L> = Steps::open(blank);
     scout.sweep_in_order(shared.sys, shared.table, &mut chooser, &mut steps, log);
     Ok(part_of(scout))

@@ -1,10 +1,11 @@
 // What several workers leave, joined.
-ghost use Rattle.std.specs.Prelude.{All, ◌≡◌, ◌<◌, ◌+◌, ◌++◌, List, [], length, Some, IfOk, IfSome, IsTrue};
+ghost use Rattle.std.specs.Prelude.{All, ◌≡◌, ◌<◌, ◌+◌, ◌++◌, ℕ, List, [], length, Some, IfOk, IfSome, IsTrue};
 ghost use Rattle.atam.specs.declared.site.Site.{Site};
 ghost use Rattle.atam.specs.declared.place.TypeId.{TypeId};
 ghost use Rattle.atam.specs.Placements.{SamePlacements, tile_at};
 ghost use Rattle.assembly.specs.Grids.{TileGrid};
 ghost use Rattle.site_table.specs.Seats.{IsSeatOf, SeatValue};
+ghost use Rattle.grow_workers.specs.Inner.Rounds.{IsFar};
 ghost use Rattle.grow_workers.specs.Inner.Sharing.{AreStartsOf, AreWorksOf, HasSeen, IsLogOf, IsSeenPart, IsShared};
 ghost use Rattle.grow_workers.specs.Inner.Wins.{IsParted, PartedGrowth};
 ghost use Rattle.grow_workers.specs.declared.starts.Start.{Start};
@@ -33,6 +34,9 @@ pub(crate) fn join<G: Gate>(
     ensures seen { IfOk result (λ h. HasSeen shared.now h.seat h.grid) }
     ensures log { IfOk result (λ h. IfSome h.log (IsLogOf shared.now.sys.now h.grid)) }
     ensures count { IfOk result (λ h. length h.others.items + 1 ≡ length done.items) }
+    ensures far { IfOk result (λ h. (n : ℕ) →
+        All (λ d. IfOk d (λ part. IsFar shared.now.sys.now n part.grid)) done.items →
+        IsFar shared.now.sys.now n h.grid) }
 {
     let mut left = done;
     let first = left.pop().unwrap()?;
@@ -65,6 +69,8 @@ fn unite<G: Gate>(shared: &Shared<'_, G>, rest: Harvest, part: Part) -> Result<H
     ensures log { IfOk result (λ h. IfSome h.log (IsLogOf shared.now.sys.now h.grid)) }
     ensures count { IfOk result (λ h.
         length h.others.items ≡ length rest.others.items + 1) }
+    ensures far { IfOk result (λ h. (n : ℕ) →
+        IsFar shared.now.sys.now n rest.grid → IsFar shared.now.sys.now n h.grid) }
 {
     let Harvest {
         seat: kept,
@@ -80,6 +86,7 @@ fn unite<G: Gate>(shared: &Shared<'_, G>, rest: Harvest, part: Part) -> Result<H
     part.grid.recall_sites();
     let seat = shared.table.join(kept, part.seat);
     take_over(&mut grid, &part.grid, log.is_some());
+    grid.recall_sites();
     Ok(Harvest {
         seat,
         grid,

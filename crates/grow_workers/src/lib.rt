@@ -11,11 +11,14 @@ mod numbers;
 mod ordered;
 mod picks;
 mod prepared;
+mod rounds;
 mod shared;
 mod starts;
 mod team;
 
-pub use growth::{grow, grow_by_index, grow_on};
+pub use growth::{grow, grow_by_index};
 pub use in_order::grow_in_order_by_index;
 pub use numbers::worker_number;
 pub use ordered::{SeenOrder, grow_seeing_order};
+pub use picks::picks_in_order;
+pub use rounds::grow_on;

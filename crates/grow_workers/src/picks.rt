@@ -1,12 +1,18 @@
 // How a worker chooses.
 ghost use Rattle.std.specs.Prelude.{◌<◌, ◌≤◌};
 
-use frontier_seat::Chooser;
+use frontier_seat::{Chooser, RngChooser};
 use rand_core::Rng;
 use rand_pcg::Lcg64Xsh32;
 
 // Where growth looks for its next site with the choice 0.
 const NEXT_SITE: u32 = 0;
+
+/// Who picks among the types where growth goes in canonical order: PCG's generator of state 0 and
+/// stream 0.
+pub fn picks_in_order() -> RngChooser<Lcg64Xsh32> {
+    RngChooser::make(Lcg64Xsh32::new(0, 0))
+}
 
 // Candidates by PCG's generator of this worker, and with any choice but 0 the sites too.
 #[derive(Drop)]

@@ -13,7 +13,7 @@ Appends-nothing (Some bytes) = sym (append-nil bytes)
 -- nothing was taken
 pub PassesOn-nothing : {S E : Type 0} (written : S → Option (List ℕ)) (faults : S → ℕ) (sink : S) (held : List ℕ) → PassesOn {T = Unit {0}} {E = E} written faults sink sink held held (Ok tt) []
 PassesOn-nothing written faults sink held =
-    record { taken = ([], Appends-nothing (written sink), append-nil held); front = tt; dropped = tt; cause = record { stays = refl; failed = tt; later = omega arith } }
+    record { taken = ([], Appends-nothing (written sink), append-nil held); front = tt; dropped = tt; cause = record { failed = tt; later = omega arith } }
 
 -- no answers to no jobs
 pub answers-empty : (jobs : List Job) (outcomes : List Outcome) → slice_get jobs 0 ≡ None → [] ≡ answers_from 0 jobs outcomes

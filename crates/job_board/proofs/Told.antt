@@ -1,5 +1,5 @@
 -- What is known of a full growth and its canonical sequence.
-use Rattle.std.proofs.Common.{All, List, Option, IfSome, sym}
+use Rattle.std.proofs.Common.{ℕ, All, List, Option, IfSome, sym}
 use Rattle.atam.specs.declared.place.Place.{Place}
 use Rattle.atam.specs.TileSystem.{TileSystem, IsType}
 use Rattle.atam.specs.Assembly.{Fits}
@@ -16,6 +16,8 @@ use Rattle.atam.specs.declared.place.TypeId.{TypeId}
 use Rattle.atam.specs.declared.site.Site.{Site}
 use Rattle.atam.specs.Verdicts.{NamesTypes}
 use Rattle.local_check.proofs.Verdicts.{verdict_types}
+use Rattle.site_table.specs.Seats.{GrownValue}
+use Rattle.grow_workers.specs.Workers.{IsGrownBy}
 use Rattle.seq_text.proofs.NamedTypes.{open_type}
 use Rattle.unique_law.specs.Outcomes.{Outcome}
 use Rattle.job_board.specs.Answers.{Answers}
@@ -23,6 +25,10 @@ use Rattle.job_board.specs.Answers.{Answers}
 -- it fits its system
 pub full_fits : (sys : TileSystem) (tiles : List Place) → IsFullGrowth sys tiles → Fits sys tiles
 full_fits sys tiles full = record { types = producible_types sys tiles full.producible; sites = full.inside }
+
+-- so does what a table was closed with
+pub grown_full : (sys : TileSystem) (workers : ℕ) (grown : GrownValue) → IsGrownBy sys workers grown → IsFullGrowth sys grown.grid.tiles
+grown_full sys workers grown grew = record { distinct = grew.distinct; inside = grew.inside; producible = grew.producible; closed = grew.closed }
 
 -- the sequence has exactly its placements
 pub order_same : (sys : TileSystem) (tiles order : List Place) → HasDistinctSites sys.seeds → IsFullGrowth sys tiles → IsCanonical sys tiles order → SamePlacements order tiles

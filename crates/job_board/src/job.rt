@@ -3,7 +3,7 @@ ghost use Rattle.std.specs.Prelude.{◌≡◌, ◌↔◌, IsTrue};
 
 use tile_system::System;
 
-/// A system that is to be grown, and the choice of its line, on which no outcome depends.
+/// A system that is to be grown, and the choice of its line, by which its worker chooses.
 pub struct Job {
     pub sys: System,
     pub choice: u64,

@@ -10,11 +10,15 @@ ghost use Rattle.job_board.specs.Answers.{Answers};
 use crate::job::Job;
 use assembly::{Grid, Sequence};
 use atam::Verdict;
-use frontier_seat::{FilledInOrder, First, fill_least_first_seeing};
+use fan_out::WorkerCount;
+use frontier_seat::{FilledInOrder, fill_least_first_seeing};
+use grow_workers::{grow_by_index, picks_in_order};
 use local_check::{judge_clean, judge_grown};
+use replay_order::replay_producible;
 use std::alloc::Global;
 use std::marker::Model;
 use std::thread::Threads;
+use tile_io::OpenGate;
 use tile_system::{NoMemory, Site, System, TypeId};
 use type_index::TypeIndex;
 
@@ -46,26 +50,31 @@ impl Model for Outcome {
 }
 
 impl Outcome {
-    /// Grows with one worker, always at the least open site of the box and with the least type that
-    /// attaches there, on a grid of its own. The time grows with the number of sites of the box; the
-    /// memory, of some eleven bytes a site, is given back but for the sequence.
+    /// Grows with one worker, which chooses as one worker of `grow` does with the job's choice: with 0
+    /// always at the least open site of the box, on a grid of its own, and else on a table. No clause
+    /// says more of it. The time grows with the number of sites of the box; the memory, of some eleven
+    /// bytes a site, is given back but for the sequence.
     pub fn work<R: Threads + Sync>(rt: &R, alloc: Global, job: &Job) -> Result<Outcome, NoMemory>
         ensures { IfOk result (Answers job.now.sys) }
     {
-        let _ = rt;
         let types = TypeIndex::build(alloc, &job.sys)?;
-        Outcome::by_index(alloc, &job.sys, &types)
+        Outcome::by_index(rt, alloc, &job.sys, &types, job.choice)
     }
 
     // The same where an index of the types is lent.
-    fn by_index(alloc: Global, sys: &System, types: &TypeIndex) -> Result<Outcome, NoMemory>
+    fn by_index<R: Threads + Sync>(
+        rt: &R,
+        alloc: Global,
+        sys: &System,
+        types: &TypeIndex,
+        choice: u64,
+    ) -> Result<Outcome, NoMemory>
         requires { IsIndexOf sys.now types.now }
         ensures { IfOk result (Answers sys.now) }
     {
-        let FilledInOrder { grid, order, clean } = fill_least_first_seeing(
-            alloc, sys, types, &mut First,
-        )?;
+        let FilledInOrder { grid, order, clean } = filled(rt, alloc, sys, types, choice)?;
         let (verdict, outside) = judge_order(alloc, sys, grid, types, &order, clean)?;
+        // A copy, since the sequence has room for the whole box.
         Ok(Outcome {
             sequence: order.copy()?,
             outside,
@@ -90,6 +99,42 @@ impl Outcome {
     {
         &self.verdict
     }
+}
+
+// What grows by this choice, and its canonical sequence.
+fn filled<R: Threads + Sync>(
+    rt: &R,
+    alloc: Global,
+    sys: &System,
+    types: &TypeIndex,
+    choice: u64,
+) -> Result<FilledInOrder, NoMemory>
+    requires { IsIndexOf sys.now types.now }
+    ensures area { IfOk result (λ r. r.grid.area ≡ sys.now.area) }
+    ensures full { IfOk result (λ r. IsFullGrowth sys.now r.grid.tiles) }
+    ensures order { IfOk result (λ r. IsCanonical sys.now r.grid.tiles r.order) }
+    ensures clean { IfOk result (λ r. r.clean ≡ true → CameExact sys.now r.order) }
+{
+    if choice == 0 {
+        return fill_least_first_seeing(alloc, sys, types, &mut picks_in_order());
+    }
+    let grown = grow_by_index(
+        rt,
+        alloc,
+        sys,
+        types,
+        WorkerCount::new(1),
+        choice,
+        &OpenGate,
+    )?;
+    let grid = grown.into_grid();
+    grid.recall_sites();
+    let order = replay_producible(alloc, sys, &grid)?;
+    Ok(FilledInOrder {
+        grid,
+        order,
+        clean: false,
+    })
 }
 
 // The verdict on the canonical sequence of a full growth, and the least open site outside the box.

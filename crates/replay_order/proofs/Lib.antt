@@ -15,3 +15,4 @@ pub mod Rows
 pub mod Rests
 pub mod Ended
 pub mod Sequences
+pub mod Replayed

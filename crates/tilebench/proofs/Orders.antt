@@ -1,6 +1,6 @@
 -- What `replay` answers to a text.
 use Rattle.tile_io.specs.Lines.{first_mark}
-use Rattle.std.proofs.Common.{◌≡◌, ◌≢◌, ◌↔◌, ◌∙◌, ◌++◌, [], ℕ, List, None, Result, Ok, Err, IfOk, IfErr, IsOk, IsErr, refl, sym, ap, subst, append-nil, inl, inr, true≢false}
+use Rattle.std.proofs.Common.{◌≡◌, ◌∙◌, ◌++◌, [], ℕ, List, None, Err, refl, sym, ap, subst, append-nil, inl, inr}
 use Rattle.atam.specs.declared.place.Place.{Place}
 use Rattle.atam.specs.Placements.{HasDistinctSites}
 use Rattle.atam.specs.TileSystem.{TileSystem, IsValid}
@@ -10,11 +10,7 @@ use Rattle.atam.specs.Canonical.{IsCanonical}
 use Rattle.atam.proofs.Canon.{canonical_part, canonical_IsLegal, producible_exactly}
 use Rattle.atam.proofs.Opening.{Fits-part}
 use Rattle.atam.proofs.Sequences.{IsLegal-distinct}
-use Rattle.replay_order.specs.declared.stop.ReplayStop.{ReplayStop}
-use Rattle.replay_order.specs.declared.stop.ReplayStop.TheVariants as halts
 use Rattle.replay_order.specs.ReplayAnswers.{IsWholeOrder}
-use Rattle.replay_order.specs.ReplayAnswers as answers
-use Rattle.tile_system.specs.declared.memory.NoMemory.{NoMemory}
 use Rattle.seq_text.specs.GrowthLines.{place_lines}
 use Rattle.tilebench.specs.declared.reordering.Reordering.{Reordering}
 use Rattle.tilebench.specs.declared.reordering.Reordering.TheVariants.{Whole, SeedMissing, Stuck}
@@ -65,23 +61,6 @@ canonical_whole sys tiles s seeds_distinct distinct fits producible canonical =
       fits = Fits-part sys s tiles part fits;
       producible = producible;
     }
-
--- a producible assembly is replayed, or there was no memory
-pub replayed_or_memory : (sys : TileSystem) (tiles : List Place) (replayed : Result (List Place) ReplayStop) → answers.IsReplayAnswer sys tiles replayed →
-    (replayed ≢ Err halts.NoMemory → IsOk replayed ↔ IsProducible sys tiles) → IsProducible sys tiles → IfErr replayed (λ stop. stop ≡ halts.NoMemory)
-replayed_or_memory sys tiles (Ok order) answer decides producible = tt
-replayed_or_memory sys tiles (Err halts.NoSeedThere) answer decides producible = absurd (true≢false (sym ((decides (λ same. cc)).1 producible)))
-replayed_or_memory sys tiles (Err (halts.Stuck left least)) answer decides producible = absurd (answer.unproducible producible)
-replayed_or_memory sys tiles (Err halts.NoMemory) answer decides producible = refl
-
--- and what is handed on then is the whole order
-pub replayed_whole : (sys : TileSystem) (tiles : List Place) (replayed : Result (List Place) ReplayStop) (result : Result (List Place) NoMemory) →
-    answers.IsReplayAnswer sys tiles replayed → IfOk replayed (λ order. result ≡ Ok order) → IfErr replayed (λ _. IsErr result) → IfOk result (IsWholeOrder sys tiles)
-replayed_whole sys tiles (Ok order) result answer same none =
-    let Whole : Result (List Place) NoMemory → Type 0 = λ r. IfOk r (IsWholeOrder sys tiles) in
-    subst Whole (sym same) answer
-replayed_whole sys tiles (Err stop) (Ok order) answer same none = absurd (true≢false (sym none))
-replayed_whole sys tiles (Err stop) (Err memory) answer same none = tt
 
 -- what stops the reading of a text behind that of a system is the input's fault, or want of memory
 pub stops_within : {Item Answer T : Type 0} (format : TileSystem → Format Item) (input : List ℕ) (sys : TileSystem) (end : Mark) → ReadsAny input first_mark sys end → (IsReadAs : Answer → Type 0) (stop : TextStop) →

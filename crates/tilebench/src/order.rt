@@ -1,5 +1,5 @@
 // The canonical order of a producible assembly, and growth that goes in it.
-ghost use Rattle.std.specs.Prelude.{◌≡◌, true, Ok, IfOk, IfErr, IfSome, IsErr};
+ghost use Rattle.std.specs.Prelude.{◌≡◌, true, IfOk, IfSome};
 ghost use Rattle.atam.specs.Assembly.{Fits};
 ghost use Rattle.atam.specs.Growth.{IsProducible};
 ghost use Rattle.type_index.specs.Clean.{CameExact};
@@ -8,10 +8,10 @@ ghost use Rattle.grow_workers.specs.Workers.{IsGrownBy, IsSeenOrder};
 ghost use Rattle.replay_order.specs.ReplayAnswers.{IsWholeOrder};
 
 use crate::resources::{Crew, Resources};
-use assembly::{Grid, Sequence};
+use assembly::Grid;
 use fan_out::WorkerCount;
 use grow_workers::{SeenOrder, grow_by_index, grow_seeing_order};
-use replay_order::{ReplayStop, replay, replay_by};
+use replay_order::replay_producible_by;
 use site_table::Grown;
 use std::alloc::Global;
 use std::thread::Threads;
@@ -76,50 +76,11 @@ pub fn known_or_found_order<R: Threads + Sync, G: Gate>(
     match known {
         Some(seen) => Ok(seen),
         None => {
-            let order = replayed_order(resources, sys, grid, workers)?;
+            let order = replay_producible_by(resources.rt, resources.alloc, sys, grid, workers)?;
             Ok(SeenOrder {
                 order,
                 clean: false,
             })
         }
-    }
-}
-
-// The same where it isn't known.
-fn replayed_order<R: Threads + Sync, G: Gate>(
-    resources: &Resources<'_, R, G>,
-    sys: &System,
-    grid: &Grid,
-    workers: WorkerCount,
-) -> Result<Sequence, NoMemory>
-    requires area { grid.now.area ≡ sys.now.area }
-    requires fits { Fits sys.now grid.now.tiles }
-    requires producible { IsProducible sys.now grid.now.tiles }
-    ensures { IfOk result (IsWholeOrder sys.now grid.now.tiles) }
-{
-    whole_order(replay_by(resources.rt, resources.alloc, sys, grid, workers))
-}
-
-/// The canonical sequence of a producible grid.
-pub fn canonical_order(alloc: Global, sys: &System, grid: &Grid) -> Result<Sequence, NoMemory>
-    requires area { grid.now.area ≡ sys.now.area }
-    requires fits { Fits sys.now grid.now.tiles }
-    requires producible { IsProducible sys.now grid.now.tiles }
-    ensures { IfOk result (IsWholeOrder sys.now grid.now.tiles) }
-{
-    whole_order(replay(alloc, sys, grid))
-}
-
-// What was replayed of a producible grid.
-fn whole_order(replayed: Result<Sequence, ReplayStop>) -> Result<Sequence, NoMemory>
-    requires { IfErr replayed (λ stop. stop ≡ ReplayStop.NoMemory) }
-    ensures order { IfOk replayed (λ order. result ≡ Ok order) }
-    ensures none { IfErr replayed (λ _. IsErr result) }
-{
-    match replayed {
-        Ok(order) => Ok(order),
-        Err(ReplayStop::NoMemory) => Err(NoMemory),
-        Err(ReplayStop::NoSeedThere) => unreachable!(),
-        Err(ReplayStop::Stuck { .. }) => unreachable!(),
     }
 }

@@ -16,6 +16,17 @@ use tile_system::{NoMemory, Place, Site, System, TypeId};
 use watch_frames::{Frames, Watcher};
 use worked_systems::{CHAIN, system};
 
+// One type that binds on all sides, in a box of more sites than a burst has claims.
+const WIDE_BOX: &str = "\
+tiles 1
+tau 1
+glue g 1
+tile T g g g g
+box 0 0 127 127
+seed 0 0 T
+end
+";
+
 const SECOND: Place = Place {
     site: Site { x: 1, y: 0 },
     tile: TypeId(1),
@@ -39,13 +50,14 @@ fn split(table: &SiteTable, seat: SiteSeat, seeds: &Grid) -> (SiteSeat, SiteSeat
     table.split(seat)
 }
 
-// Takes three frames: before the scout claims a tile, behind its first claim, and behind its
-// second.
+// Takes three frames: before the scout claims a tile, behind its first claims, so many at the most,
+// and behind as many more.
 fn take_counted<L: Ledger>(
     sys: &System,
     table: &SiteTable,
     scout: &mut Scout<'_>,
     watcher: &mut Watcher,
+    most: u32,
     blank: Blank,
 )
     requires blank { (blank.name ≡ L.name) × (blank.parts ≡ L.parts) × (0 < blank.parts) }
@@ -57,25 +69,32 @@ fn take_counted<L: Ledger>(
 {
     let mut steps: Steps<L> = Steps::open(blank);
     watcher.frame(sys, table);
-    scout.burst(sys, table, &mut First, 0, 1, 1, &mut steps);
+    scout.burst(sys, table, &mut First, 0, 1, most, &mut steps);
     watcher.frame(sys, table);
-    scout.burst(sys, table, &mut First, 0, 1, 1, &mut steps);
+    scout.burst(sys, table, &mut First, 0, 1, most, &mut steps);
     watcher.frame(sys, table);
 }
 
 // It picks the ledger.
-fn take_three(sys: &System, table: &SiteTable, scout: &mut Scout<'_>, watcher: &mut Watcher)
+fn take_three(
+    sys: &System,
+    table: &SiteTable,
+    scout: &mut Scout<'_>,
+    watcher: &mut Watcher,
+    most: u32,
+)
     requires system { table.now.sys ≡ sys.now }
     requires scout { IsSeatOf table.now scout.old.seat }
     requires watcher { IsSeatOf table.now watcher.old.seat }
     requires none { watcher.old.frames.counts ≡ [] }
     requires three { watcher.old.many ≡ 3 }
 {
-    take_counted::<Brand>(sys, table, scout, watcher, Blank::new(1));
+    take_counted::<Brand>(sys, table, scout, watcher, most, Blank::new(1));
 }
 
-// The frames of a watcher with the new seat beside a scout with the old one.
-fn three_frames(alloc: Global, sys: &System) -> Result<Frames, NoMemory> {
+// The frames of a watcher with the new seat beside a scout with the old one, which makes so many
+// claims between two frames.
+fn three_frames(alloc: Global, sys: &System, most: u32) -> Result<Frames, NoMemory> {
     let seeds = grid_of_seeds(alloc, sys)?;
     let own = seeds.copy()?;
     let (table, seat) = SiteTable::make(alloc, sys)?;
@@ -86,7 +105,7 @@ fn three_frames(alloc: Global, sys: &System) -> Result<Frames, NoMemory> {
     let Ok(mut watcher) = Watcher::make(alloc, sys, second, own, 3) else {
         return Err(NoMemory);
     };
-    take_three(sys, &table, &mut scout, &mut watcher);
+    take_three(sys, &table, &mut scout, &mut watcher, most);
     let (_seat, _seen, frames) = watcher.end();
     Ok(frames)
 }
@@ -105,7 +124,23 @@ fn are_of_the_chain(frames: &Frames) -> bool {
 #[test]
 fn each_claim_is_in_the_next_frame(rt: HostRuntime) -> Result<(), Fail> {
     let sys = system(rt.alloc(), CHAIN)?;
-    let frames = three_frames(rt.alloc(), &sys)?;
+    let frames = three_frames(rt.alloc(), &sys, 1)?;
     assert!(rt; are_of_the_chain(&frames));
+    Ok(())
+}
+
+// Whether the frames have all tiles that were there.
+fn fill_the_wide_box(frames: &Frames) -> bool {
+    if frames.taken() != 3 {
+        return false;
+    }
+    frames.count(0) == 1 && frames.count(1) == 8193 && frames.count(2) == 16384
+}
+
+#[test]
+fn each_site_of_a_wide_box_is_looked_at(rt: HostRuntime) -> Result<(), Fail> {
+    let sys = system(rt.alloc(), WIDE_BOX)?;
+    let frames = three_frames(rt.alloc(), &sys, 8192)?;
+    assert!(rt; fill_the_wide_box(&frames));
     Ok(())
 }

@@ -14,13 +14,13 @@ ghost use Rattle.tilebench.specs.Inner.Rooms.{HasLines, Schedules, replies_of};
 ghost use Rattle.tilebench.specs.Inner.Readings.{taken_or_faulty};
 
 use crate::input::read_front;
-use crate::order::canonical_order;
 use crate::resources::Resources;
 use crate::room::{PlainRoom, Reply, Room};
 use crate::stop::Stop;
 use assembly::Sequence;
 use atam::{CoreStop, Event, Seen};
 use grow_core::Core;
+use replay_order::replay_producible;
 use seq_text::{print_places, print_replies, read_events};
 use site_table::Grown;
 use std::alloc::Global;
@@ -107,7 +107,7 @@ fn schedule_of(alloc: Global, sys: System, events: &[Event]) -> Result<Scheduled
 {
     let mut core = Core::make(alloc, &sys)?;
     let replies = core_replies(alloc, &sys, &mut core, events)?;
-    let order = canonical_order(alloc, &sys, core.grid())?;
+    let order = replay_producible(alloc, &sys, core.grid())?;
     Ok(Scheduled {
         sys,
         replies,

@@ -2,6 +2,7 @@ use Rattle.std.proofs.Common.{◌≡◌, ◌+◌, ◌++◌, [], ◌∷◌, ◌�
 use Rattle.std.proofs.Math.Seq.{take-append_seam}
 use Rattle.tile_system.specs.declared.memory.NoMemory.{NoMemory}
 use Rattle.grow_workers.specs.declared.leavings.Part.{Part}
+use Rattle.grow_workers.specs.Inner.Rounds.{IsFar}
 use Rattle.grow_workers.specs.Inner.Sharing.{IsSeenPart}
 use Rattle.grow_workers.proofs.Joined.{IsJoined, joined_all, joined_first, joined_more, last_fact, popped, prefix_less, rest_fact}
 use Rattle.grow_workers.proofs.joining.join.Goals as goal
@@ -23,6 +24,7 @@ loop-part-init g c =
       each = rest_fact Seen done left (Ok part) last c.requires.each;
       seen = (last_fact Seen done left (Ok part) last c.requires.each).seen;
       log = (last_fact Seen done left (Ok part) last c.requires.each).log;
+      far = λ n all. last_fact (λ (d : Result Part NoMemory). IfOk d (λ p. IsFar shared.sys.now n p.grid)) done left (Ok part) last all;
       grew = λ old grid starts is are works. subst (λ (others : List ℕ). IsJoined shared old grid starts (length left) part.seat part.grid part.won others) (sym c.new.ensures.items)
           (joined_first shared old grid starts done left part last are works);
     }
@@ -57,6 +59,7 @@ loop-part-preserved g c =
       each = rest_fact Seen left new (Ok part) last inv.each;
       seen = c.in_ok-team.ensures.seen;
       log = c.in_ok-team.ensures.log;
+      far = λ n all. c.in_ok-team.ensures.far n (inv.far n all);
       grew = λ old grid starts is are works.
           joined_more shared old grid starts done new part before.seat after.seat before.grid after.grid before.first after.first before.others.items after.others.items
           (sym last ∙ (inv.left ∙ ap (λ n. take n done) long)) (omega (arith, count, long)) is are works c.in_ok-team.ensures.grew
@@ -69,3 +72,6 @@ returns-clause-grew g c old grid starts is are works =
     let left = c.loop-part.left.items in
     let none = c.in_default.ensures.cases.0 in
     joined_all c.args.shared.now old grid starts (length left) team.seat team.grid team.first team.others.items (sym c.loop-part.left.ok.0 ∙ none) (c.loop-part.invariant.grew old grid starts is are works)
+
+pub returns-clause-far : goal.returns-clause-far
+returns-clause-far g c n all = c.loop-part.invariant.far n all

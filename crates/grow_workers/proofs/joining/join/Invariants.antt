@@ -1,9 +1,10 @@
-use Rattle.std.proofs.Common.{◌≡◌, ◌+◌, List, All, Result, IfOk, IfSome, length, take}
+use Rattle.std.proofs.Common.{◌≡◌, ◌+◌, ℕ, List, All, Result, IfOk, IfSome, length, take}
 use Rattle.assembly.specs.Grids.{TileGrid}
 use Rattle.site_table.specs.Seats.{IsSeatOf, SeatValue}
 use Rattle.grow_workers.specs.declared.leavings.Part.{Part}
 use Rattle.grow_workers.specs.declared.starts.Start.{Start}
 use Rattle.tile_system.specs.declared.memory.NoMemory.{NoMemory}
+use Rattle.grow_workers.specs.Inner.Rounds.{IsFar}
 use Rattle.grow_workers.specs.Inner.Sharing.{AreStartsOf, AreWorksOf, HasSeen, IsLogOf, IsSeenPart}
 use Rattle.grow_workers.proofs.Joined.{IsJoined}
 use Rattle.grow_workers.proofs.joining.join.Given as goal
@@ -16,6 +17,7 @@ invariant-loop-part g l = record {
   each : All (λ (d : Result Part NoMemory). IfOk d (IsSeenPart l.shared)) l.left.items;
   seen : HasSeen l.shared l.team.seat l.team.grid;
   log : IfSome l.team.log (IsLogOf l.shared.sys.now l.team.grid);
+  far : (n : ℕ) → All (λ (d : Result Part NoMemory). IfOk d (λ part. IsFar l.shared.sys.now n part.grid)) l.fn.done.items → IsFar l.shared.sys.now n l.team.grid;
   grew : (old : SeatValue) (grid : TileGrid) (starts : List Start) → IsSeatOf l.shared.table.now old → AreStartsOf l.shared.sys.now old grid starts → AreWorksOf l.shared starts l.fn.done.items →
       IsJoined l.shared old grid starts (length l.left.items) l.team.seat l.team.grid l.team.first l.team.others.items;
 }

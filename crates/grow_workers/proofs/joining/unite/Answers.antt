@@ -5,6 +5,7 @@ use Rattle.site_table.specs.Rule.{IsPossible}
 use Rattle.site_table.specs.Seats.{IsPartOfGrowth}
 use Rattle.grow_workers.specs.Inner.Wins.{PartedGrowth}
 use Rattle.grow_workers.proofs.Winning.{united_grew, united_seen}
+use Rattle.grow_workers.proofs.Stages.{far_joined}
 use Rattle.grow_workers.proofs.Whole.{closed_by_log, log_stays, nothing_comes}
 use Rattle.grow_workers.proofs.joining.unite.Goals as goal
 
@@ -53,3 +54,13 @@ take_over-requires-clause-whole g c said =
 
 pub returns-clause-log : goal.returns-clause-log
 returns-clause-log g c = log_stays c.args.shared.now.sys.now c.args.rest.grid c.take_over.new.grid c.args.rest.log c.requires.log (λ said. c.take_over.ensures.whole (c.is_some.ensures ∙ said))
+
+pub returns-clause-far : goal.returns-clause-far
+returns-clause-far g c n far =
+    let sys = c.args.shared.now.sys.now in
+    let rest = c.args.rest in
+    let part = c.args.part in
+    let joined = c.join-seat.ensures in
+    let real : IsPossible sys rest.seat.scout = subst (λ z. IsPossible z rest.seat.scout) (c.requires.first.at_table.sys ∙ c.requires.shared.system) c.recall_possible.ensures.possible in
+    far_joined sys n rest.grid part.grid c.take_over.new.grid rest.seat.scout.seen part.seat.scout.seen c.join-seat.result.scout.seen real.valid c.recall_sites.ensures.distinct c.recall_sites-3.ensures.distinct real.scout.seeds
+    c.requires.first.seen c.requires.second.seen joined.union.seen (subst (λ z. IsPartOfGrowth z c.join-seat.result.scout.seen) c.requires.shared.system joined.part) c.take_over.ensures.placements far

@@ -5,7 +5,7 @@ use Rattle.local_check.specs.Judgement.{IsVerdict}
 use Rattle.job_board.proofs.outcome.Outcome.by_index.Goals as goal
 
 pub returns : goal.returns
-returns c =
+returns g c =
     let sys = c.args.sys.now in
     let tiles = c.in_ok-grid.field-0.grid.tiles in
     let same : c.in_ok-copy.field-0 ≡ c.in_ok-grid.field-0.order = c.in_ok-copy.ensures in

@@ -6,8 +6,8 @@ use Rattle.atam.proofs.Canon.{canonical_too}
 use Rattle.tilebench.proofs.Scheduling.{core_fits}
 use Rattle.tilebench.proofs.commands.schedule.schedule_of.Goals as goal
 
-pub canonical_order-requires-clause-fits : goal.canonical_order-requires-clause-fits
-canonical_order-requires-clause-fits c =
+pub replay_producible-requires-clause-fits : goal.replay_producible-requires-clause-fits
+replay_producible-requires-clause-fits c =
     let end = c.core_replies.new.core.state in
     Fits-part c.args.sys c.grid.result.now.tiles (places end.tiles) c.grid.ensures.tiles.whole (core_fits c.args.sys end c.in_ok-replies.ensures.invariant)
 
