@@ -6,8 +6,8 @@ use Rattle.tilebench.proofs.commands.certify.certification_with.Goals as goal
 pub returns-in_ok-certificate-in-Yes-clause-certified : goal.returns-in_ok-certificate-in-Yes-clause-certified
 returns-in_ok-certificate-in-Yes-clause-certified c =
     let certificate = c.in_ok-certificate-in-Yes.certificate in
-    let known : AreEntries certificate = record { distinct = c.recall_entries-in-Yes.ensures.distinct; sides = c.recall_entries-in-Yes.ensures.sides } in
-    certificate_given c.args.sys.now c.args.grid.now.tiles c.args.order c.judge.result certificate c.recall_valid-in-Yes.ensures.valid c.requires.ordered c.judge.ensures c.in-Yes.is
+    let known : AreEntries certificate = record { distinct = c.recall_entries.ensures.distinct; sides = c.recall_entries.ensures.sides } in
+    certificate_given c.args.sys.now c.args.grid.now.tiles c.args.order c.judge.result certificate c.recall_valid.ensures.valid c.requires.ordered c.judge.ensures c.in-Yes.is
     c.in_ok-certificate-in-Yes.ensures.certificate known c.in_ok-certificate-in-Yes.ensures.good
 
 pub returns-in_ok-certificate-in-Yes-clause-types : goal.returns-in_ok-certificate-in-Yes-clause-types
