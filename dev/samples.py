@@ -3,8 +3,7 @@
 Everything comes from one random number generator, so the same seed makes the same texts.
 """
 import judge
-import judge_certificates
-import judge_rules
+from judge import certificates
 
 KEYWORDS = b"tiles tau glue pair tile box seed end place closed unique look claim split join machine state symbol rule cells rows head tape".split()
 KEYWORDS += b"quadrant size bottom left frame grown mark batch job done".split()
@@ -183,7 +182,7 @@ def rule_lines(rng, side=9):
 
 
 def rule_system(rng, side=9):
-    return judge_rules.read_quadrant(judge.Lines(joined(rule_lines(rng, side)))).system().split(b"\n")[:-1]
+    return judge.read_quadrant(judge.Lines(joined(rule_lines(rng, side)))).system().split(b"\n")[:-1]
 
 
 def machine_system(rng, side=9):
@@ -316,8 +315,8 @@ def certificate_lines(rng, system):
     if rng.random() < 0.5:
         places = judge.canonical(system, dict(places))
     marks = {}
-    for at, ((site, kind), sides) in enumerate(zip(places, judge_certificates.input_sides(system, places))):
-        marks[site] = judge_certificates.Mark(kind, sides, at)
+    for at, ((site, kind), sides) in enumerate(zip(places, certificates.input_sides(system, places))):
+        marks[site] = certificates.Mark(kind, sides, at)
     ranks = rng.choice(("places", "far", "lengths", "lengths"))
     for site, mark in marks.items():
         before = [marks[site[0] + judge.STEPS[it][0], site[1] + judge.STEPS[it][1]].rank for it in mark.sides]
@@ -328,7 +327,7 @@ def certificate_lines(rng, system):
             mark.rank += judge.U32 - max(it.rank for it in marks.values())
     for _ in range(rng.choice((0, 0, 1, 1, 1, 2))):
         with_slip(rng, system, marks)
-    lines = [judge_certificates.mark_line(system, site, mark)[:-1] for site, mark in marks.items()]
+    lines = [certificates.mark_line(system, site, mark)[:-1] for site, mark in marks.items()]
     if rng.random() < 0.5:
         rng.shuffle(lines)
     return lines
@@ -358,7 +357,7 @@ def with_slip(rng, system, marks):
         if other:
             other.sides = set(list(other.sides)[:-1])
     else:
-        marks[inner(rng, system)] = judge_certificates.Mark(rng.randrange(len(system.sides)), {rng.randrange(4)} if rng.random() < 0.5 else set(), mark.rank + 1)
+        marks[inner(rng, system)] = certificates.Mark(rng.randrange(len(system.sides)), {rng.randrange(4)} if rng.random() < 0.5 else set(), mark.rank + 1)
 
 
 def schedule_lines(rng, system):

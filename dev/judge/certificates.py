@@ -2,7 +2,8 @@
 
 tools/check-certificate checks them too, and shares nothing with this.
 """
-import judge
+from judge.model import canonical, verdict
+from judge.texts import Cause, number_in, read_text, referred, site_in, STEPS, U32
 
 CERTIFICATE = {b"mark": (6, False, (None, b"mark"))}
 LETTERS = (b"N", b"E", b"S", b"W")
@@ -19,7 +20,7 @@ def sides_in(word):
     """The sides that a word states: letters of NESW in this order."""
     found = {side for side, letter in enumerate(LETTERS) if letter in word}
     if word not in (b"-", sides_word(found)):
-        raise judge.Cause("BadName")
+        raise Cause("BadName")
     return found
 
 
@@ -32,15 +33,15 @@ def read_certificate(lines, system):
     marks = {}
 
     def item(words):
-        site, kind, sides = judge.site_in(words[1:3]), judge.referred(words[3], system.types), sides_in(words[4])
-        rank = judge.number_in(words[5], 0, judge.U32)
+        site, kind, sides = site_in(words[1:3]), referred(words[3], system.types), sides_in(words[4])
+        rank = number_in(words[5], 0, U32)
         if not system.has(site):
-            raise judge.Cause("OutsideBox")
+            raise Cause("OutsideBox")
         if site in marks:
-            raise judge.Cause("DoubleSite")
+            raise Cause("DoubleSite")
         marks[site] = Mark(kind, sides, rank)
 
-    judge.read_text(lines, None, CERTIFICATE, item)
+    read_text(lines, None, CERTIFICATE, item)
     return marks
 
 
@@ -61,8 +62,8 @@ def mark_line(system, site, mark):
 
 def certified(system, tiles):
     """The answer to `certify` of tiles that hold the seeds and can grow, and whether it is a certificate."""
-    sequence = judge.canonical(system, tiles)
-    said = judge.verdict(system, sequence)
+    sequence = canonical(system, tiles)
+    said = verdict(system, sequence)
     if said != b"yes":
         return b"unique %s\n" % said, False
     rows = zip(sequence, input_sides(system, sequence))
@@ -77,7 +78,7 @@ class Check:
 
     def beside(self, site):
         """The neighbours of a site that have marks, by side."""
-        places = ((side, (site[0] + a, site[1] + b)) for side, (a, b) in enumerate(judge.STEPS))
+        places = ((side, (site[0] + a, site[1] + b)) for side, (a, b) in enumerate(STEPS))
         return {side: self.marks[it] for side, it in places if it in self.marks}
 
     def fault(self, site):
@@ -112,7 +113,7 @@ class Check:
 
     def open_beside(self, site):
         """The least site beside this one where a type attaches."""
-        for b, a in sorted((b, a) for a, b in judge.STEPS):
+        for b, a in sorted((b, a) for a, b in STEPS):
             x, y = site[0] + a, site[1] + b
             found = (x, y) not in self.tiles and self.system.attaching(self.system.facing(self.tiles, x, y))
             if found:

@@ -2,7 +2,7 @@
 import heapq
 import re
 
-import judge
+from judge.texts import NUMBER, STEPS
 
 FRAME = re.compile(rb"frame ([1-9][0-9]*) ([1-9][0-9]*)")
 
@@ -29,7 +29,7 @@ class Listing:
             y, x = heapq.heappop(ready)
             self.tiles[x, y] = tiles[x, y]
             self.places.append(((x, y), tiles[x, y]))
-            for a, b in judge.STEPS:
+            for a, b in STEPS:
                 look_at((x + a, y + b))
 
 
@@ -41,7 +41,7 @@ def frames_of(system, lines):
         if head:
             frames.append((int(head[1]), int(head[2]), []))
         elif frames and len(words) == 4 and words[0] == b"place" and words[3] in names:
-            site = tuple(int(it) for it in words[1:3] if judge.NUMBER.fullmatch(it))
+            site = tuple(int(it) for it in words[1:3] if NUMBER.fullmatch(it))
             if len(site) != 2 or line != b"place %d %d %s" % (*site, words[3]) or not system.has(site):
                 return f"no place of the box: {line!r}"
             frames[-1][2].append((site, names[words[3]]))

@@ -1,5 +1,5 @@
 """What `quadrant` must answer: two-input rules and the systems that they are woven into, from docs/FORMATS.md and docs/MODEL.md."""
-import judge
+from judge.texts import Cause, declared, number_in, read_text, referred, SHORT_NAME
 
 MOST_SYMBOLS, LONGEST = 64, 1023
 RULES = {
@@ -20,26 +20,26 @@ class Quadrant:
         self.symbols, self.rules, self.size, self.given = {}, {}, (0, 0), {b"bottom": [], b"left": []}
 
     def symbol(self, word):
-        return judge.referred(word, self.symbols, judge.SHORT_NAME)
+        return referred(word, self.symbols, SHORT_NAME)
 
     def item(self, words):
         """Takes a line of a rule text."""
         kind = words[0]
         if kind == b"symbol":
             if len(self.symbols) == MOST_SYMBOLS:
-                raise judge.Cause("TooMany")
-            judge.declared(words[1], self.symbols, judge.SHORT_NAME)
+                raise Cause("TooMany")
+            declared(words[1], self.symbols, SHORT_NAME)
         elif kind == b"rule":
             pair = self.symbol(words[1]), self.symbol(words[2])
             if pair in self.rules:
-                raise judge.Cause("DoubleName")
+                raise Cause("DoubleName")
             self.rules[pair] = self.symbol(words[3]), self.symbol(words[4])
         elif kind == b"size":
-            self.size = tuple(judge.number_in(it, 1, LONGEST) for it in words[1:])
+            self.size = tuple(number_in(it, 1, LONGEST) for it in words[1:])
         elif kind in self.given:
             given = self.given[kind]
             if len(given) + len(words) - 1 > self.size[kind == b"left"]:
-                raise judge.Cause("TooMany")
+                raise Cause("TooMany")
             given += [self.symbol(it) for it in words[1:]]
 
     def border(self, kind, many):
@@ -70,5 +70,5 @@ class Quadrant:
 
 def read_quadrant(lines):
     quadrant = Quadrant()
-    judge.read_text(lines, [b"quadrant", b"1"], RULES, quadrant.item)
+    read_text(lines, [b"quadrant", b"1"], RULES, quadrant.item)
     return quadrant
