@@ -1,6 +1,7 @@
 pub mod BatchReadings
 pub mod Certifications
 pub mod CommandRows
+pub mod CompiledTiles
 pub mod Fronts
 pub mod Gives
 pub mod Races

@@ -1,12 +1,15 @@
 // Systems as answers: their one spelling, printed from the system or from a table of its tiles.
 ghost use Rattle.std.specs.Prelude.{◌≡◌, true};
 ghost use Rattle.tile_text.specs.Spelling.{spelling};
+ghost use Rattle.tilebench.specs.Inner.CompiledTiles.{compiled_system};
 
 use crate::room::Reply;
+use counter_compile::CounterTiles;
+use quadrant_compile::QuadrantTiles;
 use tile_io::{Failed, Sink};
 use tile_system::System;
-use tile_table::{ListedTiles, Table};
 use tile_text::print_system;
+use turing_compile::MachineTiles;
 
 /// A system, to be spelled.
 #[derive(Drop)]
@@ -30,8 +33,17 @@ impl Reply for Spelled {
     }
 }
 
-impl<K: Copy + Drop, G: Copy + Drop, T: Table<K, G> + Drop> Reply for ListedTiles<K, G, T> {
-    ghost text = { λ tiles. spelling tiles };
+/// The tiles of a machine, a quadrant or a counter, listed and not made into a system, to be spelled.
+/// One type, since an associated type that is a generic one at a machine gets no proof.
+#[derive(Drop)]
+pub enum CompiledTiles {
+    Machine(MachineTiles),
+    Quadrant(QuadrantTiles),
+    Counter(CounterTiles),
+}
+
+impl Reply for CompiledTiles {
+    ghost text = { λ tiles. spelling (compiled_system tiles) };
 
     ghost yes = { λ tiles. true };
 
@@ -41,7 +53,11 @@ impl<K: Copy + Drop, G: Copy + Drop, T: Table<K, G> + Drop> Reply for ListedTile
         true
     }
 
-    fn print<S: Sink>(&self, out: &mut S) -> Result<(), Failed> {
-        self.print_tiles(out)
+    fn print<K: Sink>(&self, out: &mut K) -> Result<(), Failed> {
+        match self {
+            CompiledTiles::Machine(tiles) => tiles.print_tiles(out),
+            CompiledTiles::Quadrant(tiles) => tiles.print_tiles(out),
+            CompiledTiles::Counter(tiles) => tiles.print_tiles(out),
+        }
     }
 }

@@ -3,8 +3,9 @@ ghost use Rattle.tilebench.specs.Commands.Counter.{counter_row};
 
 use crate::resources::Resources;
 use crate::room::{PlainRoom, Room};
+use crate::spelled::CompiledTiles;
 use crate::stop::Stop;
-use counter_compile::{CounterTiles, counter_tiles};
+use counter_compile::counter_tiles;
 use site_table::Grown;
 use std::thread::Threads;
 use tile_io::Gate;
@@ -17,7 +18,7 @@ pub struct Counter {
 }
 
 impl Room for Counter {
-    type Answer = CounterTiles;
+    type Answer = CompiledTiles;
 
     ghost room_row = { λ room. counter_row room.bits room.start };
 
@@ -33,8 +34,8 @@ impl PlainRoom for Counter {
         &self,
         resources: &Resources<'_, R, G>,
         _input: Vec<u8>,
-    ) -> Result<(CounterTiles, Option<Grown>), Stop> {
+    ) -> Result<(CompiledTiles, Option<Grown>), Stop> {
         let tiles = counter_tiles(resources.alloc, self.bits, self.start)?;
-        Ok((tiles, None))
+        Ok((CompiledTiles::Counter(tiles), None))
     }
 }

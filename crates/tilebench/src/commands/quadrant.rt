@@ -6,8 +6,9 @@ ghost use Rattle.tilebench.specs.Inner.Readings.{taken_or_faulty_quadrant};
 use crate::input::read_quadrant_alone;
 use crate::resources::Resources;
 use crate::room::{PlainRoom, Room};
+use crate::spelled::CompiledTiles;
 use crate::stop::Stop;
-use quadrant_compile::{QuadrantTiles, quadrant_tiles};
+use quadrant_compile::quadrant_tiles;
 use site_table::Grown;
 use std::thread::Threads;
 use tile_io::Gate;
@@ -17,7 +18,7 @@ use tile_io::Gate;
 pub struct Quadrant;
 
 impl Room for Quadrant {
-    type Answer = QuadrantTiles;
+    type Answer = CompiledTiles;
 
     ghost room_row = { λ room. quadrant_row };
 
@@ -33,9 +34,9 @@ impl PlainRoom for Quadrant {
         &self,
         resources: &Resources<'_, R, G>,
         input: Vec<u8>,
-    ) -> Result<(QuadrantTiles, Option<Grown>), Stop> {
+    ) -> Result<(CompiledTiles, Option<Grown>), Stop> {
         let quadrant = read_quadrant_alone(resources.alloc, &input)?;
         let tiles = quadrant_tiles(resources.alloc, quadrant)?;
-        Ok((tiles, None))
+        Ok((CompiledTiles::Quadrant(tiles), None))
     }
 }

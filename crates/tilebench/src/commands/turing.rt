@@ -6,18 +6,19 @@ ghost use Rattle.tilebench.specs.Inner.Readings.{taken_or_faulty_machine};
 use crate::input::read_machine_alone;
 use crate::resources::Resources;
 use crate::room::{PlainRoom, Room};
+use crate::spelled::CompiledTiles;
 use crate::stop::Stop;
 use site_table::Grown;
 use std::thread::Threads;
 use tile_io::Gate;
-use turing_compile::{MachineTiles, machine_tiles};
+use turing_compile::machine_tiles;
 
 /// The command.
 #[derive(Clone, Copy)]
 pub struct Turing;
 
 impl Room for Turing {
-    type Answer = MachineTiles;
+    type Answer = CompiledTiles;
 
     ghost room_row = { λ room. turing_row };
 
@@ -33,9 +34,9 @@ impl PlainRoom for Turing {
         &self,
         resources: &Resources<'_, R, G>,
         input: Vec<u8>,
-    ) -> Result<(MachineTiles, Option<Grown>), Stop> {
+    ) -> Result<(CompiledTiles, Option<Grown>), Stop> {
         let machine = read_machine_alone(resources.alloc, &input)?;
         let tiles = machine_tiles(resources.alloc, machine)?;
-        Ok((tiles, None))
+        Ok((CompiledTiles::Machine(tiles), None))
     }
 }
