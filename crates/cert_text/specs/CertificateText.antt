@@ -33,7 +33,9 @@ entry_fields sys words = do
 -- the row of the table: the lines stand in any order, the site is in the box, and no earlier entry has it
 abbrev pub mark_row : TileSystem → Keyword (List Entry) Entry
 mark_row sys = record {
-  word = codes "mark"; has_words = λ n. n == 6; may_follow = λ before. true;
+  word = codes "mark";
+  has_words = λ n. n == 6;
+  may_follow = λ before. true;
   has_room = λ earlier words. true;
   fields = λ earlier words. do
     e ← entry_fields sys words

@@ -54,7 +54,8 @@ place_in distinct sys earlier words = do
 -- kind, and its fields from left to right with the checks of the whole line.
 abbrev pub place_row : Bool → TileSystem → Keyword (List GrowthItem) GrowthItem
 place_row distinct sys = record {
-  word = codes "place"; has_words = λ n. n == 4;
+  word = codes "place";
+  has_words = λ n. n == 4;
   may_follow = λ before. is_none before || behind word_of (codes "place" ∷ []) before;
   has_room = λ earlier words. true;
   fields = λ earlier words. do
@@ -64,7 +65,8 @@ place_row distinct sys = record {
 
 abbrev pub closed_row : Keyword (List GrowthItem) GrowthItem
 closed_row = record {
-  word = codes "closed"; has_words = λ n. nat_le 2 n;
+  word = codes "closed";
+  has_words = λ n. nat_le 2 n;
   may_follow = λ before. is_none before || behind word_of (codes "place" ∷ []) before;
   has_room = λ earlier words. true;
   fields = λ earlier words. Ok ClosedLine;
@@ -72,7 +74,8 @@ closed_row = record {
 
 abbrev pub unique_row : Keyword (List GrowthItem) GrowthItem
 unique_row = record {
-  word = codes "unique"; has_words = λ n. nat_le 2 n;
+  word = codes "unique";
+  has_words = λ n. nat_le 2 n;
   may_follow = λ before. is_none before || behind word_of (codes "place" ∷ codes "closed" ∷ []) before;
   has_room = λ earlier words. true;
   fields = λ earlier words. Ok UniqueLine;

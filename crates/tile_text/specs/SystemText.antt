@@ -106,7 +106,9 @@ if_two Two x = x ∷ []
 -- kind, and its fields from left to right with the checks of the whole line.
 abbrev pub tiles_row : Version → Keyword (List SystemItem) SystemItem
 tiles_row version = record {
-  word = codes "tiles"; has_words = λ n. n == 2; may_follow = is_none;
+  word = codes "tiles";
+  has_words = λ n. n == 2;
+  may_follow = is_none;
   has_room = λ earlier words. true;
   fields = λ earlier words. do
     _ ← require (bytes_eq (field words 1) (version_word version)) NoHeader
@@ -115,7 +117,9 @@ tiles_row version = record {
 
 abbrev pub tau_row : Keyword (List SystemItem) SystemItem
 tau_row = record {
-  word = codes "tau"; has_words = λ n. n == 2; may_follow = behind word_of (codes "tiles" ∷ []);
+  word = codes "tau";
+  has_words = λ n. n == 2;
+  may_follow = behind word_of (codes "tiles" ∷ []);
   has_room = λ earlier words. true;
   fields = λ earlier words. do
     n ← count_in 1 MOST_TAU (field words 1)
@@ -124,7 +128,8 @@ tau_row = record {
 
 abbrev pub glue_row : Keyword (List SystemItem) SystemItem
 glue_row = record {
-  word = codes "glue"; has_words = λ n. n == 3;
+  word = codes "glue";
+  has_words = λ n. n == 3;
   may_follow = behind word_of (codes "tau" ∷ codes "glue" ∷ []);
   has_room = λ earlier words. nat_lt (length (glue_names earlier)) MOST_GLUES;
   fields = λ earlier words. do
@@ -136,7 +141,8 @@ glue_row = record {
 -- two glues that differ and aren't paired yet
 abbrev pub pair_row : Keyword (List SystemItem) SystemItem
 pair_row = record {
-  word = codes "pair"; has_words = λ n. n == 4;
+  word = codes "pair";
+  has_words = λ n. n == 4;
   may_follow = behind word_of (codes "glue" ∷ codes "pair" ∷ []);
   has_room = λ earlier words. nat_lt (length (filter_map pair_of earlier)) MOST_PAIRS;
   fields = λ earlier words. do
@@ -150,7 +156,8 @@ pair_row = record {
 
 abbrev pub tile_row : Keyword (List SystemItem) SystemItem
 tile_row = record {
-  word = codes "tile"; has_words = λ n. n == 6;
+  word = codes "tile";
+  has_words = λ n. n == 6;
   may_follow = behind word_of (codes "tau" ∷ codes "glue" ∷ codes "pair" ∷ codes "tile" ∷ []);
   has_room = λ earlier words. nat_lt (length (type_names earlier)) MOST_TYPES;
   fields = λ earlier words. do
@@ -164,7 +171,9 @@ tile_row = record {
 
 abbrev pub box_row : Keyword (List SystemItem) SystemItem
 box_row = record {
-  word = codes "box"; has_words = λ n. n == 5; may_follow = behind word_of (codes "tile" ∷ []);
+  word = codes "box";
+  has_words = λ n. n == 5;
+  may_follow = behind word_of (codes "tile" ∷ []);
   has_room = λ earlier words. true;
   fields = λ earlier words. do
     area ← box_field (field words 1) (field words 2) (field words 3) (field words 4)
@@ -175,7 +184,8 @@ box_row = record {
 -- under version 1 there is one seed
 abbrev pub seed_row : Version → Keyword (List SystemItem) SystemItem
 seed_row version = record {
-  word = codes "seed"; has_words = λ n. n == 4;
+  word = codes "seed";
+  has_words = λ n. n == 4;
   may_follow = behind word_of (codes "box" ∷ if_two version (codes "seed"));
   has_room = λ earlier words. nat_lt (length (filter_map seed_of earlier)) MOST_SEEDS;
   fields = λ earlier words. do
@@ -187,7 +197,9 @@ seed_row version = record {
 
 abbrev pub end_row : Keyword (List SystemItem) SystemItem
 end_row = record {
-  word = codes "end"; has_words = λ n. n == 1; may_follow = behind word_of (codes "seed" ∷ []);
+  word = codes "end";
+  has_words = λ n. n == 1;
+  may_follow = behind word_of (codes "seed" ∷ []);
   has_room = λ earlier words. true;
   fields = λ earlier words. Ok EndLine;
 }
