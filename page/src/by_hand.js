@@ -21,7 +21,11 @@ const judge = paused(() => judged());
 // Begins with the seeds, or with what is shown of the growth.
 function begin() {
   const { system, growth, shown } = page;
-  if (!system) return;
+  if (!system || page.isStale) {
+    $("hand-told").textContent = "The text does not grow: mend it first.";
+    $("hand-sites").replaceChildren();
+    return;
+  }
   const from = shown > system.seeds.length && shown < growth.count ? shown : 0;
   const hand = new Growth(system, 64);
   if (from) for (let n = 0; n < from; n++) hand.add(growth.cells[n], growth.types[n]);
@@ -113,16 +117,23 @@ function menu(site, types, at) {
 
 // What the program says of the sequence.
 async function judged() {
-  if (page.mode !== "hand" || lack) return;
+  if (page.mode !== "hand") return;
+  if (lack) {
+    unjudged(lack);
+    return;
+  }
   const { growth } = page, input = joined([page.systemBytes, placesBytes(growth)]);
   try {
     const { out } = await ask(asking, ["check"], input);
     if (page.growth === growth) setAnswers({ kind: "growth", growth, answer: {} }, linesOf(out));
   } catch (why) {
-    if (!(why instanceof Unanswered) || why.isEnded) return;
-    page.verdict = { tone: "plain", head: "Not judged", text: why.message, site: null };
-    tell("verdict");
+    if (why instanceof Unanswered && !why.isEnded) unjudged(why.message);
   }
+}
+
+function unjudged(text) {
+  page.verdict = { tone: "plain", head: "Not judged", text, site: null };
+  tell("verdict");
 }
 
 function leave() {

@@ -19,7 +19,7 @@ function say(text, tone = "plain") {
 
 // Does something with the program, and tells a refusal or what went wrong.
 async function asked(action) {
-  if (!page.system) return say("There is no assembly to certify.");
+  if (!page.system || page.isStale) return say("The text does not grow: mend it first.");
   if (lack) return say(lack);
   try {
     return await action();

@@ -35,6 +35,18 @@ const GROUPS = [
 
 export const FIRST = "square20.tiles";
 
+// To write a set of one's own.
+export const NEW_SET = `tiles 1
+# A new set: two types in a row, and the temperature 2.
+tau 2
+glue a 2
+tile S - a - -
+tile A - - - a
+box 0 0 9 9
+seed 0 0 S
+end
+`;
+
 const textOf = (name) => EXAMPLES.find((it) => it.name === name)?.text ?? "";
 
 // The text of an example; a schedule stands behind its system.

@@ -2,7 +2,7 @@
 import { $, button, make } from "./dom.js";
 import { openCounterForm } from "./counter_form.js";
 import { offerSaves } from "./files.js";
-import { examples, exampleText } from "./gallery.js";
+import { examples, exampleText, NEW_SET } from "./gallery.js";
 import { tell } from "./state.js";
 
 const MENUS = [["examples", "examples-menu"], ["save", "save-menu"]];
@@ -30,23 +30,23 @@ function pressed(event, opener, menu) {
   event.preventDefault();
 }
 
-function exampleItem({ name, line }) {
-  const item = button("", () => {
-    closeMenus();
-    tell("opened", exampleText(name), name);
-  }, { class: "menu-item example", role: "menuitem" });
-  item.dataset.name = name;
-  item.append(make("b", {}, name), make("span", { class: "soft" }, line));
-  return item;
+// An item of the list: a name, a line, and what it does.
+function item(name, line, action, given = {}) {
+  const it = button("", () => { closeMenus(); action(); }, { class: "menu-item example", role: "menuitem", ...given });
+  it.append(make("b", {}, name), make("span", { class: "soft" }, line));
+  return it;
 }
+
+const exampleItem = ({ name, line }) =>
+  item(name, line, () => tell("opened", exampleText(name), name), { "data-name": name });
 
 function fillExamples() {
   const groups = examples().map(([heading, list]) =>
     make("section", {}, make("h3", {}, heading), ...list.map(exampleItem)));
-  const counter = button("", () => { closeMenus(); openCounterForm(); },
-    { class: "menu-item example", role: "menuitem", id: "open-counter" });
-  counter.append(make("b", {}, "a counter \u2026"),
-    make("span", { class: "soft" }, "A binary counter of your bits and start"));
+  const begun = item("a new set \u2026", "Two types to begin with", () => tell("opened", NEW_SET), { id: "open-new" });
+  const counter = item("a counter \u2026", "A binary counter of your bits and start", openCounterForm,
+    { id: "open-counter" });
+  groups[0].append(begun);
   groups[2].append(counter);
   $("examples-menu").replaceChildren(...groups);
 }

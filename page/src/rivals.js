@@ -118,8 +118,8 @@ function outcome(it, at, parting) {
 
 async function begin() {
   if (search && !search.isEnded && search.tried < CHOICES) return end();
-  if (!page.system || lack) {
-    $("rivals-told").textContent = lack || "There is no system to grow.";
+  if (!page.system || page.isStale || lack) {
+    $("rivals-told").textContent = lack || "The text does not grow: mend it first.";
     return undefined;
   }
   const mine = (search = new Search());

@@ -85,3 +85,10 @@ def foot(page):
     assert all(it in said for it in ("proves its source", "shim", "host", "browser", "WebAssembly")), said
     assert len(page.text("#state-crates")) == 64
     page.press("Escape")
+
+
+@check("a new set is begun from the list, and it grows")
+def new_set(page):
+    page.click("#examples")
+    done(page, lambda: page.click("#open-new"))
+    assert verdict(page)[0] == "Unique" and page.value("tilebench.page.state.growth.count") == 2

@@ -153,3 +153,13 @@ def stops(page):
     put(page, CHAIN)
     assert page.text("#rivals-told") == "The text has changed."
     page.click("#close-rivals")
+
+
+@check("of a text that is refused nothing is grown by hand, and no rivals are looked for")
+def refused(page):
+    put(page, CHAIN.replace("tau 2", "tau"))
+    page.click("#open-hand")
+    page.wait('document.querySelector("#hand-told").textContent === "The text does not grow: mend it first."')
+    page.click("#open-rivals")
+    page.wait('document.querySelector("#rivals-told").textContent === "The text does not grow: mend it first."')
+    page.click("#close-rivals")
