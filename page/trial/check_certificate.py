@@ -21,7 +21,8 @@ def makes(page):
     page.click("#open-certificate")
     page.click("#certificate-make")
     page.wait('document.querySelector("#verdict-word").textContent === "Verified"')
-    assert page.text("#certificate-told").startswith("Made: 400 marks. Verified: The certificate is good"), page.text("#certificate-told")
+    assert page.text("#certificate-told").startswith("Made: 400 marks. Verified: The certificate is good"), (
+        page.text("#certificate-told"))
     assert page.value(f"{STATE}.growth.sides !== null && {STATE}.growth.ranks[5] === 5")
     page.picture("certificate")
 
@@ -45,8 +46,10 @@ def handed(page):
 
 @check("what is wrong with one is told in words, with its site")
 def wrong(page):
-    for text, said in ((GOOD.replace("B W 1", "B W 0"), "states a side at which no tile of lesser rank holds it"), (GOOD.replace("mark 2 0 C W 2\n", ""), "C attaches at (2, 0), which has no mark"),
-                       (GOOD.replace("S - 0", "S E 0"), "is a seed, which comes by no side"), (GOOD.replace("mark 0 0 S - 0\n", ""), "The seed at (0, 0) has no mark")):
+    for text, said in ((GOOD.replace("B W 1", "B W 0"), "states a side at which no tile of lesser rank holds it"),
+      (GOOD.replace("mark 2 0 C W 2\n", ""), "C attaches at (2, 0), which has no mark"),
+                       (GOOD.replace("S - 0", "S E 0"), "is a seed, which comes by no side"),
+                         (GOOD.replace("mark 0 0 S - 0\n", ""), "The seed at (0, 0) has no mark")):
         put(page, CHAIN)
         hand_in(page, text)
         page.wait('document.querySelector("#verdict-word").textContent === "Not verified"')
@@ -59,7 +62,8 @@ def unreadable(page):
     put(page, CHAIN)
     hand_in(page, GOOD.replace("B W 1", "B SN 1"))
     page.wait('document.querySelector("#certificate-told").textContent.startsWith("Refused, in line 2")')
-    assert "capital letters of NESW in this order" in page.text("#certificate-told") and verdict(page)[0] == "Unique", page.text("#certificate-told")
+    assert ("capital letters of NESW in this order" in page.text("#certificate-told")
+        and verdict(page)[0] == "Unique"), page.text("#certificate-told")
     page.click("#close-certificate")
 
 
@@ -79,15 +83,18 @@ def command(page):
     page.click("#command-form button")
     page.wait('document.querySelector("#command-status").textContent.startsWith("status 0")')
     assert json.loads(page.text("#command-out"))["tiles"] == 3, page.text("#command-out")
-    for words, said in (("replay", "place 2 0 C"), ("picture", "SBC" if False else "picture 3 1"), ("format", "seed 0 0 S"), ("certify", "mark 2 0 C W 2"), ("load 7", "unique yes"), ("check", "legal yes")):
+    for words, said in (("replay", "place 2 0 C"), ("picture", "SBC" if False else "picture 3 1"),
+        ("format", "seed 0 0 S"), ("certify", "mark 2 0 C W 2"), ("load 7", "unique yes"), ("check", "legal yes")):
         page.fill("#command-words", words)
         page.click("#command-form button")
-        page.wait(f'document.querySelector("#command-status").textContent.startsWith("status 0") && document.querySelector("#command-out").textContent.includes("{said}")')
+        page.wait(f'document.querySelector("#command-status").textContent.startsWith("status 0") && '
+            f'document.querySelector("#command-out").textContent.includes("{said}")')
 
 
 @check("words that are refused are told why")
 def refused(page):
-    for words, said in (("grwo", "the first word is no command"), ("grow FILE", "the command does not take these words"), ("counter 4 99", "starts below 2^BITS")):
+    for words, said in (("grwo", "the first word is no command"),
+        ("grow FILE", "the command does not take these words"), ("counter 4 99", "starts below 2^BITS")):
         page.fill("#command-words", words)
         page.click("#command-form button")
         page.wait(f'document.querySelector("#command-out").textContent.includes({json.dumps(said)})')

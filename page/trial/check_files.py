@@ -1,14 +1,22 @@
 """What is saved, and the link that holds the text."""
-import json
 import xml.etree.ElementTree
 
 from trial.check import check
 from trial.reading import CHAIN, STATE, TRIANGLE, add, done, drop, editor, pick, put, verdict
 
 # keeps what is saved, in place of the browser's download
-CATCH = """(() => { window.caught = []; HTMLAnchorElement.prototype.click = function () { window.caught.push({ name: this.download, url: this.href }); };
-  URL.revokeObjectURL = () => {}; const made = URL.createObjectURL; window.blobs = new Map();
-  URL.createObjectURL = (blob) => { const url = made.call(URL, blob); window.blobs.set(url, blob); return url; }; })()"""
+CATCH = """(() => {
+  window.caught = [];
+  HTMLAnchorElement.prototype.click = function () { window.caught.push({ name: this.download, url: this.href }); };
+  URL.revokeObjectURL = () => {};
+  const made = URL.createObjectURL;
+  window.blobs = new Map();
+  URL.createObjectURL = (blob) => {
+    const url = made.call(URL, blob);
+    window.blobs.set(url, blob);
+    return url;
+  };
+})()"""
 
 
 def saved(page, button):
@@ -45,7 +53,8 @@ def certificate(page):
     page.click("#open-certificate")
     page.click("#certificate-make")
     page.wait('document.querySelector("#verdict-word").textContent === "Verified"')
-    assert saved(page, "save-certificate") == ["assembly.certificate", "mark 0 0 S - 0\nmark 1 0 B W 1\nmark 2 0 C W 2\n"]
+    assert saved(page, "save-certificate") == ["assembly.certificate",
+        "mark 0 0 S - 0\nmark 1 0 B W 1\nmark 2 0 C W 2\n"]
     page.click("#close-certificate")
 
 
@@ -55,7 +64,8 @@ def svg(page):
     name, found = saved(page, "save-svg")
     top = xml.etree.ElementTree.fromstring(found)
     assert name == "assembly.svg" and top.get("viewBox") == "0 0 3 1"
-    assert [it.get("d") for it in top.iter("{http://www.w3.org/2000/svg}path") if it.get("fill") == "#123456"] == ["M1 0h1v1h-1z"]
+    assert [it.get("d") for it in top.iter("{http://www.w3.org/2000/svg}path")
+        if it.get("fill") == "#123456"] == ["M1 0h1v1h-1z"]
     assert [it.text for it in top.iter("{http://www.w3.org/2000/svg}text")] == ["S", "B", "C"]
 
 
@@ -65,7 +75,8 @@ def png(page):
     page.click("#save")
     page.click("#save-png")
     page.wait("window.caught.length === 1")
-    size = page.value("(async () => { const it = await createImageBitmap(window.blobs.get(window.caught[0].url)); return [it.width, it.height]; })()")
+    size = page.value("(async () => { const it = await createImageBitmap(window.blobs.get(window.caught[0].url)); "
+        "return [it.width, it.height]; })()")
     assert size == [144, 48], size
 
 
@@ -125,7 +136,9 @@ def broken(page):
         assert verdict(page)[1] in ("yes", "plain"), verdict(page)
 
 
-PACKED = """(async () => { const piece = new Uint8Array(1 << 20).fill(%d), stream = new CompressionStream("deflate-raw"), writer = stream.writable.getWriter();
+PACKED = """(async () => {
+  const piece = new Uint8Array(1 << 20).fill(%d), stream = new CompressionStream("deflate-raw");
+  const writer = stream.writable.getWriter();
   const all = new Response(stream.readable).arrayBuffer();
   for (let n = 0; n < %d; n++) await writer.write(piece);
   await writer.close();
@@ -173,16 +186,15 @@ def markup(page):
     put(page, CHAIN.replace("tile B", "tile <b>B</b><script>document.title=1<\\/script>".replace("\\", "")))
     put(page, CHAIN + f"place 0 0 {MARKUP.replace(' ', '')}\n")
     assert page.value('document.querySelectorAll("main img, main script, main b b").length') == 0
-    assert page.value("document.title") == "tilebench" and abs(page.value('document.querySelectorAll("*").length') - count) < 60
+    assert page.value("document.title") == "tilebench"
+    assert abs(page.value('document.querySelectorAll("*").length') - count) < 60
 
 
 @check("files whose names have markup are told as text")
 def file_names(page):
-    page.value("""(() => { const held = new DataTransfer(); held.items.add(new File([new Uint8Array(67108865)], "<img src=x>"));
+    page.value("""(() => { const held = new DataTransfer();
+      held.items.add(new File([new Uint8Array(67108865)], "<img src=x>"));
       const event = new Event("drop", { bubbles: true, cancelable: true });
       Object.defineProperty(event, "dataTransfer", { value: held }); window.dispatchEvent(event); })()""")
     page.wait('document.querySelector("#notice").textContent.includes("<img src=x> has more than 64 MiB")')
     assert page.value('document.querySelectorAll("#notice-text *").length') == 0
-
-
-assert json

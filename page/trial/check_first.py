@@ -24,7 +24,8 @@ def first_yes(page):
 @check("at 1280 by 800 picture, verdict, player and the whole legend are in sight, and nothing scrolls")
 def in_sight(page):
     ends = page.value("""["#canvas", "#verdict", "#player", "#legend .chip:last-child", "#text", "footer"].map((it) => {
-      const at = document.querySelector(it).getBoundingClientRect(); return [it, at.top >= 0 && at.bottom <= 800 && at.right <= 1280]; })""")
+      const at = document.querySelector(it).getBoundingClientRect();
+      return [it, at.top >= 0 && at.bottom <= 800 && at.right <= 1280]; })""")
     assert all(it[1] for it in ends), ends
     assert page.value("document.documentElement.scrollHeight <= 800 && document.documentElement.scrollWidth <= 1280")
 
@@ -32,7 +33,8 @@ def in_sight(page):
 @check("the list names all of examples/, with a line for each")
 def all_examples(page):
     page.click("#examples")
-    found = dict(page.value('[...document.querySelectorAll("#examples-menu [data-name]")].map((it) => [it.dataset.name, it.lastChild.textContent])'))
+    found = dict(page.value('[...document.querySelectorAll("#examples-menu [data-name]")].map((it) => '
+        '[it.dataset.name, it.lastChild.textContent])'))
     assert set(found) == set(os.listdir(EXAMPLES)), set(found) ^ set(os.listdir(EXAMPLES))
     assert all(len(line) > 8 for line in found.values()), found
     page.picture("examples")
@@ -42,7 +44,8 @@ def all_examples(page):
 @check("the list fits the window, and a key closes it")
 def list_fits(page):
     page.click("#examples")
-    at = page.value('(() => { const it = document.querySelector("#examples-menu").getBoundingClientRect(); return [it.left, it.top, it.right, it.bottom]; })()')
+    at = page.value('(() => { const it = document.querySelector("#examples-menu").getBoundingClientRect(); return '
+        '[it.left, it.top, it.right, it.bottom]; })()')
     assert at[0] >= 0 and at[2] <= 1280 and at[3] <= 800, at
     page.press("Escape")
     assert page.value('document.querySelector("#examples-menu").hidden')
@@ -53,7 +56,8 @@ def each_grows(page):
     for name in sorted(os.listdir(EXAMPLES)):
         pick(page, name)
         word, tone, _ = verdict(page)
-        assert word in ("Unique", "Unique within the box", "Not shown to be unique", "All steps were taken", "A step was refused"), (name, word)
+        assert (word in ("Unique", "Unique within the box", "Not shown to be unique", "All steps were taken",
+            "A step was refused")), (name, word)
         assert page.value("tilebench.page.state.growth.count") > 0, name
 
 

@@ -1,8 +1,6 @@
 """Growing by hand, and looking for rivals."""
 from trial.check import check
-from trial.reading import CHAIN, STATE, TRIANGLE, done, pick, put, site, verdict
-
-RACE = "tiles 1\ntau 1\nglue a 1\ntile S - a - -\ntile A - - - a\ntile B - - - a\nbox 0 0 1 0\nseed 0 0 S\nend\n"
+from trial.reading import ARCH, CHAIN, RACE, STATE, TRIANGLE, choose, done, pick, put, site, verdict
 
 
 def told(page):
@@ -42,7 +40,8 @@ def closed(page):
 @check("back takes the last tile away")
 def back(page):
     page.click("#hand-back")
-    assert page.value(f"{STATE}.growth.count") == 3 and told(page).startswith("3 tiles placed. 3 sites open."), told(page)
+    assert page.value(f"{STATE}.growth.count") == 3 and told(page).startswith("3 tiles placed. 3 sites open."), (
+        told(page))
     page.value('document.querySelector("#canvas").focus()')
     page.press("Backspace")
     assert page.value(f"{STATE}.growth.count") == 2
@@ -55,7 +54,7 @@ def anywhere(page):
     page.click("#hand-any")
     page.click_at(*site(page, 2, 2))
     page.wait('!document.querySelector("#hand-menu").hidden')
-    page.value('[...document.querySelectorAll("#hand-menu button")].find((it) => it.textContent.startsWith("r00")).click()')
+    choose(page, "#hand-menu button", "r00")
     page.wait('document.querySelector("#verdict-word").textContent === "Not a legal growth"')
     assert "r00 at (2, 2), comes held by no bond" in verdict(page)[2], verdict(page)
     page.click("#hand-any")
@@ -76,7 +75,8 @@ def picks(page):
     page.value('document.querySelector("#hand-sites button").focus()')
     page.press("Enter")
     page.wait('!document.querySelector("#hand-menu").hidden')
-    assert page.value("document.activeElement.textContent").startswith("A held by 1 of 1"), page.value("document.activeElement.textContent")
+    assert page.value("document.activeElement.textContent").startswith("A held by 1 of 1"), (
+        page.value("document.activeElement.textContent"))
     page.press("Tab", "Enter")
     page.wait(f"{STATE}.growth.count === 2")
     assert page.value(f"{STATE}.growth.nameAt(1, 0)") == "B"
@@ -108,16 +108,18 @@ def rivals(page):
     put(page, RACE)
     page.click("#open-rivals")
     page.wait("tilebench.page.search()?.tried === 64", 60)
-    assert page.text("#rivals-told").startswith("Of 64 choices 2 different assemblies came. So more than one assembly can grow"), page.text("#rivals-told")
+    assert (page.text("#rivals-told").startswith("Of 64 choices 2 different assemblies came. So more than one "
+        "assembly can grow")), page.text("#rivals-told")
     assert page.value('document.querySelectorAll("#rivals-found .close-ups canvas").length') == 2
-    assert "They part first at (1, 0): A in the first, B in the second." in page.text("#rivals-found"), page.text("#rivals-found")
+    assert "They part first at (1, 0): A in the first, B in the second." in page.text("#rivals-found"), (
+        page.text("#rivals-found"))
     page.picture("rivals")
 
 
 @check("each of them is shown, with that site marked")
 def shows(page):
     for number, name in ((2, "B"), (1, "A")):
-        page.value(f'[...document.querySelectorAll("#rivals-found button")].find((it) => it.textContent.startsWith("Show number {number}")).click()')
+        choose(page, "#rivals-found button", f"Show number {number}")
         page.wait(f"{STATE}.growth.nameAt(1, 0) === '{name}' && !!{STATE}.mark")
         assert page.value(f"[{STATE}.mark.x, {STATE}.mark.y]") == [1, 0]
     page.click("#close-rivals")
@@ -128,13 +130,14 @@ def one(page):
     pick(page, "corners.tiles")
     page.click("#open-rivals")
     page.wait("tilebench.page.search()?.tried === 64", 60)
-    assert page.text("#rivals-told").startswith("Of 64 choices one assembly came. That is no surprise"), page.text("#rivals-told")
+    assert page.text("#rivals-told").startswith("Of 64 choices one assembly came. That is no surprise"), (
+        page.text("#rivals-told"))
 
 
 @check("a no of which one assembly comes is told to be open")
 def stays_open(page):
     page.click("#close-rivals")
-    put(page, "tiles 1\ntau 2\nglue a 2\nglue b 2\nglue c 2\nglue d 2\ntile S b a - -\ntile E c - - a\ntile N - d b -\ntile C - - c d\nbox 0 0 1 1\nseed 0 0 S\nend\n")
+    put(page, ARCH)
     page.click("#open-rivals")
     page.wait("tilebench.page.search()?.tried === 64", 60)
     assert "Nothing follows from that" in page.text("#rivals-told"), page.text("#rivals-told")

@@ -1,14 +1,19 @@
 """How it looks and is reached: dark, narrow, by keyboard, by a screen reader."""
 from trial.check import check
-from trial.reading import STATE, done, pick, verdict
+from trial.reading import pick
 
 # the contrast of two colours of the style, as the accessibility guidelines reckon it
-CONTRAST = """((front, back) => { const read = (name) => { const it = document.createElement("i"); it.style.color = `var(--${name})`; document.body.append(it);
+CONTRAST = """((front, back) => { const read = (name) => { const it = document.createElement("i");
+  it.style.color = `var(--${name})`; document.body.append(it);
   const found = getComputedStyle(it).color.match(/[\\d.]+/g).slice(0, 3).map(Number); it.remove(); return found; };
-  const light = (it) => it.map((v) => v / 255).map((v) => (v <= 0.04045 ? v / 12.92 : ((v + 0.055) / 1.055) ** 2.4)).reduce((all, v, n) => all + v * [0.2126, 0.7152, 0.0722][n], 0);
+  const light = (it) => it.map((v) => v / 255).map((v) =>
+    (v <= 0.04045 ? v / 12.92 : ((v + 0.055) / 1.055) ** 2.4)).reduce((all, v, n) => all
+    + v * [0.2126, 0.7152, 0.0722][n], 0);
   const [a, b] = [light(read(front)), light(read(back))].sort((x, y) => y - x); return (a + 0.05) / (b + 0.05); })"""
-PAIRS = [("ink", "card"), ("ink", "ground"), ("soft", "card"), ("soft", "ground"), ("accent", "card"), ("accent", "accent-ground"), ("on-accent", "accent"), ("yes", "yes-ground"),
-         ("within", "within-ground"), ("no", "no-ground"), ("plain", "plain-ground"), ("yes", "card"), ("within", "card"), ("no", "card"), ("soft", "board"), ("ink", "mark-fault"), ("ink", "mark-chosen")]
+PAIRS = [("ink", "card"), ("ink", "ground"), ("soft", "card"), ("soft", "ground"), ("accent", "card"),
+  ("accent", "accent-ground"), ("on-accent", "accent"), ("yes", "yes-ground"),
+         ("within", "within-ground"), ("no", "no-ground"), ("plain", "plain-ground"), ("yes", "card"),
+           ("within", "card"), ("no", "card"), ("soft", "board"), ("ink", "mark-fault"), ("ink", "mark-chosen")]
 
 
 @check("words are told apart from their ground, in light and in dark")
@@ -16,7 +21,8 @@ def contrast(page):
     page.wait("tilebench.page.timings.count > 0")
     for dark in (False, True):
         page.dark(dark)
-        low = [(pair, round(found, 2)) for pair in PAIRS for found in [page.value(f'{CONTRAST}("{pair[0]}", "{pair[1]}")')] if found < 4.5]
+        low = [(pair, round(found, 2)) for pair in PAIRS
+            for found in [page.value(f'{CONTRAST}("{pair[0]}", "{pair[1]}")')] if found < 4.5]
         assert not low, (dark, low)
     page.dark(False)
 
@@ -27,7 +33,8 @@ def dark(page):
     page.dark(True)
     page.value("new Promise((done) => setTimeout(done, 200))")
     assert page.value('getComputedStyle(document.body).backgroundColor') != light
-    ground = page.value('(() => { tilebench.page.drawNow(); const at = document.querySelector("#canvas").getContext("2d").getImageData(2, 2, 1, 1).data; return [...at]; })()')
+    ground = page.value('(() => { tilebench.page.drawNow(); const at = '
+        'document.querySelector("#canvas").getContext("2d").getImageData(2, 2, 1, 1).data; return [...at]; })()')
     assert sum(ground[:3]) < 120, ground
     page.picture("dark")
     page.dark(False)
@@ -39,32 +46,40 @@ def narrow(page):
     pick(page, "sierpinski.tiles")
     page.value("new Promise((done) => setTimeout(done, 300))")
     page.picture("narrow")
-    assert page.value("document.documentElement.scrollWidth <= 360"), page.value("document.documentElement.scrollWidth")
-    tops = page.value('["#board", "#player", "#verdict", "#work"].map((it) => document.querySelector(it).getBoundingClientRect().top + scrollY)')
+    assert page.value("document.documentElement.scrollWidth <= 360"), (
+        page.value("document.documentElement.scrollWidth"))
+    tops = page.value('["#board", "#player", "#verdict", "#work"].map((it) => '
+        'document.querySelector(it).getBoundingClientRect().top + scrollY)')
     assert tops == sorted(tops), tops
-    wide = page.value("""[...document.querySelectorAll("button, input, select, textarea")].filter((it) => it.checkVisibility() && !it.closest("#text, .menu, dialog"))
-      .filter((it) => { const at = it.getBoundingClientRect(); return at.right > 361 || at.left < -1; }).map((it) => it.id || it.textContent)""")
+    wide = page.value("""[...document.querySelectorAll("button, input, select, textarea")]
+      .filter((it) => it.checkVisibility() && !it.closest("#text, .menu, dialog"))
+      .filter((it) => { const at = it.getBoundingClientRect(); return at.right > 361 || at.left < -1; })
+      .map((it) => it.id || it.textContent)""")
     assert not wide, wide
 
 
 @check("at 360 points the list of examples, the tools and the forms fit")
 def narrow_tools(page):
     page.click("#examples")
-    assert page.value('(() => { const at = document.querySelector("#examples-menu").getBoundingClientRect(); return at.left >= 0 && at.right <= 360; })()')
+    assert page.value('(() => { const at = document.querySelector("#examples-menu").getBoundingClientRect(); return '
+        'at.left >= 0 && at.right <= 360; })()')
     page.press("Escape")
     for tool in ("hand", "rivals", "certificate", "command"):
         page.click(f"#open-{tool}")
-        assert page.value('(() => { const at = document.querySelector("#drawer").getBoundingClientRect(); return at.left >= 0 && at.right <= 360; })()'), tool
+        assert (page.value('(() => { const at = document.querySelector("#drawer").getBoundingClientRect(); return '
+            'at.left >= 0 && at.right <= 360; })()')), tool
         page.click(f"#close-{tool}")
     page.click("#open-help")
-    assert page.value('(() => { const at = document.querySelector("#help-form").getBoundingClientRect(); return at.left >= 0 && at.right <= 360; })()')
+    assert page.value('(() => { const at = document.querySelector("#help-form").getBoundingClientRect(); return '
+        'at.left >= 0 && at.right <= 360; })()')
     page.press("Escape")
     page.size(1280, 800)
 
 
 @check("every button, field and region has a name")
 def named(page):
-    bare = page.value("""[...document.querySelectorAll("button, input, select, textarea, canvas[tabindex], [role=tabpanel], aside, section[aria-label], [role=group]")].filter((it) => {
+    bare = page.value("""[...document.querySelectorAll("button, input, select, textarea, canvas[tabindex], aside")]
+      .concat(...document.querySelectorAll("[role=tabpanel], section[aria-label], [role=group]")).filter((it) => {
       const label = it.getAttribute("aria-label") || it.labels?.[0]?.textContent || it.textContent || it.title
         || document.getElementById(it.getAttribute("aria-labelledby") ?? "")?.textContent;
       return !label?.trim(); }).map((it) => it.id || it.outerHTML.slice(0, 80))""")
@@ -91,7 +106,8 @@ def tab_key(page):
         seen.add(page.value('document.activeElement.id || document.activeElement.className'))
         if "open-about" in seen:
             break
-    wanted = {"open", "save", "share", "tab-text", "text", "open-hand", "canvas", "larger", "play", "slider", "by", "search", "chip", "open-about"}
+    wanted = {"open", "save", "share", "tab-text", "text", "open-hand", "canvas", "larger", "play", "slider", "by",
+        "search", "chip", "open-about"}
     assert wanted <= seen, wanted - seen
 
 
@@ -99,9 +115,11 @@ def tab_key(page):
 def tabs(page):
     page.value('document.querySelector("#tab-text").focus()')
     page.press("ArrowRight")
-    assert page.value("document.activeElement.id") == "tab-tiles" and not page.value('document.querySelector("#tiles").hidden')
+    assert page.value("document.activeElement.id") == "tab-tiles"
+    assert not page.value('document.querySelector("#tiles").hidden')
     page.press("ArrowLeft")
-    assert page.value("document.activeElement.id") == "tab-text" and page.value('document.querySelector("#tiles").hidden')
+    assert page.value("document.activeElement.id") == "tab-text"
+    assert page.value('document.querySelector("#tiles").hidden')
 
 
 @check("the page has its language, its title, and headings in order")
@@ -109,6 +127,3 @@ def document(page):
     assert page.value("document.documentElement.lang") == "en" and page.value("document.title") == "tilebench"
     assert page.value('document.querySelectorAll("h1").length') == 1
     assert page.value('["header", "main", "footer", "nav"].every((it) => document.querySelectorAll(it).length === 1)')
-
-
-assert STATE and done and verdict

@@ -1,10 +1,11 @@
-"""The picture: tiles in the legend's colours, what stands at a site, the open sites, play, and the way from a tile to its line."""
+"""The picture: tiles in the legend's colours, what stands at a site, the open sites, play, from a tile to its line."""
 import collections
 
 from trial.check import check
-from trial.reading import CHAIN, STATE, TRIANGLE, add, chips, colour, done, editor, pick, pixel, put, site
+from trial.reading import CHAIN, STATE, TRIANGLE, add, chips, colour, editor, pick, pixel, put, selected, site
 
-EXAMPLES = ("chain.tiles", "sierpinski.tiles", "square20.tiles", "corners.tiles", "counter.tiles", "busy_beaver.machine")
+EXAMPLES = ("chain.tiles", "sierpinski.tiles", "square20.tiles", "corners.tiles", "counter.tiles",
+    "busy_beaver.machine")
 
 
 def places(page):
@@ -40,7 +41,8 @@ def counted(page):
         page.value("document.activeElement.blur()")
         page.press(*keys)
         page.value("new Promise((done) => setTimeout(done, 90))")
-        told = {name: int(count.replace(",", "")) for name, (count, _) in chips(page).items() if count not in ("none", "0")}
+        told = {name: int(count.replace(",", "")) for name,
+            (count, _) in chips(page).items() if count not in ("none", "0")}
         assert told == collections.Counter(name for _, _, name in places(page)), keys
 
 
@@ -79,9 +81,11 @@ def plays(page):
 
 @check("frames of a growth are played one by one, and each has its number")
 def frames(page):
-    text = CHAIN + "frame 1 1\nplace 0 0 S\nframe 2 2\nplace 1 0 B\ngrown\nplace 0 0 S\nplace 1 0 B\nplace 2 0 C\nclosed terminal\nunique yes\n"
+    grown = "grown\nplace 0 0 S\nplace 1 0 B\nplace 2 0 C\nclosed terminal\nunique yes\n"
+    text = CHAIN + "frame 1 1\nplace 0 0 S\nframe 2 2\nplace 1 0 B\n" + grown
     put(page, text)
-    assert page.value(f"{STATE}.growth.count") == 3 and page.value(f"{STATE}.growth.frames.map((it) => it.many)") == [1, 2]
+    assert page.value(f"{STATE}.growth.count") == 3
+    assert page.value(f"{STATE}.growth.frames.map((it) => it.many)") == [1, 2]
     page.fill("#slider", "2")
     assert page.text("#at") == "frame 2, 2 of 3 tiles"
     assert page.text("#verdict-word") == "Unique"
@@ -93,22 +97,24 @@ def to_line(page):
     page.value('document.querySelector("#text").blur()')
     page.click_at(*site(page, 2, 1))
     assert page.value(f"{STATE}.kinds.name({STATE}.chosen)") == "r01"
-    assert page.value('(() => { const it = document.querySelector("#text"); return it.value.slice(it.selectionStart, it.selectionEnd); })()') == "tile r01 1 1 1 0"
+    assert selected(page) == "tile r01 1 1 1 0"
     assert page.value('document.querySelector("#legend [aria-pressed=true] .chip-name").textContent') == "r01"
     page.picture("chosen")
 
 
 @check("the caret on the line of a tile outlines its type in the picture")
 def from_line(page):
-    page.value('(() => { const it = document.querySelector("#text"); it.focus(); const at = it.value.indexOf("tile r11"); it.setSelectionRange(at, at); })()')
+    page.value('(() => { const it = document.querySelector("#text"); it.focus(); const at = it.value.indexOf("tile '
+        'r11"); it.setSelectionRange(at, at); })()')
     page.wait(f"{STATE}.kinds.name({STATE}.chosen) === 'r11'")
     assert page.value(f"{STATE}.isHint") and pixel(page, 3, 0) == colour(page, "B"), "the others stay as they are"
 
 
 @check("a click in the legend goes to the line, another one takes the mark away")
 def from_legend(page):
-    page.value('[...document.querySelectorAll("#legend .chip")].find((it) => it.querySelector(".chip-name").textContent === "L").click()')
-    assert page.value('(() => { const it = document.querySelector("#text"); return it.value.slice(it.selectionStart, it.selectionEnd); })()') == "tile L v 1 v -"
+    page.value('[...document.querySelectorAll("#legend .chip")].find((it) => '
+        'it.querySelector(".chip-name").textContent === "L").click()')
+    assert selected(page) == "tile L v 1 v -"
     page.value('document.querySelector("#legend [aria-pressed=true]").click()')
     assert page.value(f"{STATE}.chosen") == -1
 
@@ -182,16 +188,20 @@ def open_sites(page):
     put(page, TRIANGLE % (7, 7))
     page.value("document.activeElement.blur()")
     page.press("Home")
-    count = """(() => { tilebench.page.drawNow(); const canvas = document.querySelector("#canvas"), { view, state } = tilebench.page, ratio = devicePixelRatio;
+    count = """(() => {
+      tilebench.page.drawNow();
+      const canvas = document.querySelector("#canvas"), { view, state } = tilebench.page, ratio = devicePixelRatio;
       const accent = getComputedStyle(canvas).getPropertyValue("--accent").trim(), found = [];
       const parts = [1, 3, 5].map((at) => parseInt(accent.slice(at, at + 2), 16));
       for (let y = 0; y < 8; y++) for (let x = 0; x < 8; x++) {
         const n = state.growth.numberAt(x, y);
         if (n >= 0 && n < state.shown) continue;
         // (a dot is a ring of three tenths of the tile)
-        const px = (view.left + (x + 0.5 - 0.15) * view.scale) * ratio, py = (view.top + (7 - y + 0.5) * view.scale) * ratio;
+        const px = (view.left + (x + 0.5 - 0.15) * view.scale) * ratio,
+          py = (view.top + (7 - y + 0.5) * view.scale) * ratio;
         const at = canvas.getContext("2d").getImageData(Math.round(px) - 2, Math.round(py), 5, 1).data;
-        for (let n = 0; n < 20; n += 4) if (parts.every((it, part) => Math.abs(it - at[n + part]) < 60)) { found.push([x, y]); break; }
+        for (let n = 0; n < 20; n += 4) if (
+          parts.every((it, part) => Math.abs(it - at[n + part]) < 60)) { found.push([x, y]); break; }
       }
       return found; })()"""
     assert sorted(page.value(count)) == [[0, 1], [1, 0]], page.value(count)
@@ -214,7 +224,8 @@ def zooms(page):
     assert page.value("tilebench.page.view.scale") < scale
     page.press("0")
     assert page.value("tilebench.page.view.scale") == scale
-    page.value('document.querySelector("#canvas").dispatchEvent(new WheelEvent("wheel", { deltaY: -100, bubbles: true, cancelable: true }))')
+    page.value('document.querySelector("#canvas").dispatchEvent(new WheelEvent("wheel", { deltaY: -100, bubbles: '
+        'true, cancelable: true }))')
     assert page.value("tilebench.page.view.scale") > scale
     page.click("#fit-box")
     page.click("#fit")
@@ -224,9 +235,12 @@ def zooms(page):
 def views(page):
     pick(page, "spiral.tiles")
     inside = """((corners) => { const { view, state } = tilebench.page;
-      return corners.every(([x, y]) => { const px = view.left + (x - state.system.box[0]) * view.scale, py = view.top + (state.system.box[3] - y) * view.scale;
+      return corners.every(([x, y]) =>
+        { const px = view.left + (x - state.system.box[0]) * view.scale,
+        py = view.top + (state.system.box[3] - y) * view.scale;
         return px >= 0 && py >= 0 && px + view.scale <= view.width && py + view.scale <= view.height; }); })"""
-    assert page.value(f"{inside}({STATE}.growth.count ? Array.from({STATE}.growth.cells.slice(0, {STATE}.growth.count), (it) => {STATE}.system.siteOf(it)) : [])")
+    assert page.value(f"{inside}({STATE}.growth.count ? Array.from({STATE}.growth.cells.slice(0, "
+        f"{STATE}.growth.count), (it) => {STATE}.system.siteOf(it)) : [])")
     page.click("#fit-box")
     assert page.value(f"(([x0, y0, x1, y1]) => {inside}([[x0, y0], [x1, y1]]))({STATE}.system.box)")
     page.click("#fit")
@@ -282,6 +296,3 @@ def growth_alone(page):
     put(page, CHAIN)
     add(page, "a.grown", b"place 0 0 S\nplace 1 0 B\n")
     assert editor(page) == CHAIN + "place 0 0 S\nplace 1 0 B\n" and page.value(f"{STATE}.growth.count") == 2
-
-
-assert done

@@ -4,7 +4,7 @@ import statistics
 
 from trial import modules
 from trial.check import check
-from trial.reading import CHAIN, STATE, TRIANGLE, add, done, put, verdict
+from trial.reading import CHAIN, STATE, TRIANGLE, done, put, verdict
 
 
 def measured(page, size):
@@ -40,18 +40,22 @@ def large(page):
 def handed(page):
     page.value(f"""(() => {{ const {{ growth, system }} = {STATE};
       const lines = ["{(TRIANGLE % (1023, 1023)).replace(chr(10), chr(92) + 'n')}"];
-      for (let n = 0; n < growth.count; n++) {{ const [x, y] = growth.siteOf(n); lines.push(`place ${{x}} ${{y}} ${{system.nameOf(growth.types[n])}}\\n`); }}
+      for (let n = 0; n < growth.count;
+        n++) {{ const [x, y] = growth.siteOf(n);
+        lines.push(`place ${{x}} ${{y}} ${{system.nameOf(growth.types[n])}}\\n`); }}
       const held = new DataTransfer(); held.items.add(new File(lines, "a.tiles"));
       const event = new Event("drop", {{ bubbles: true, cancelable: true }});
       Object.defineProperty(event, "dataTransfer", {{ value: held }}); window.dispatchEvent(event); }})()""")
-    page.wait('document.querySelector("#kind").textContent === "tile set with a growth" && document.querySelector("#busy").hidden', 40)
+    page.wait('document.querySelector("#kind").textContent === "tile set with a growth" && '
+        'document.querySelector("#busy").hidden', 40)
     assert page.value(f"{STATE}.growth.count") == 1048576 and "legal yes" in page.text("#printed"), verdict(page)
 
 
 @check("stepping through a million tiles keeps up")
 def steps(page):
     took = page.value("""(() => { const slider = document.querySelector("#slider"), began = performance.now();
-      for (const n of [1, 1048576, 500000, 500001, 1048576]) { slider.value = n; slider.dispatchEvent(new Event("input", { bubbles: true })); }
+      for (const n of [1, 1048576, 500000, 500001, 1048576]) { slider.value = n;
+        slider.dispatchEvent(new Event("input", { bubbles: true })); }
       return performance.now() - began; })()""")
     assert took < 3000, took
 
@@ -92,6 +96,3 @@ def without(page):
     put(page, CHAIN + "place 0 0 S\nplace 1 0 X\n")
     assert verdict(page)[0] == "Can't be read" and "no type is named X" in verdict(page)[2], verdict(page)
     assert page.value('document.querySelector("#gutter").dataset.fault') == "12"
-
-
-assert add

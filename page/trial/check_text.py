@@ -1,8 +1,6 @@
 """The editor: it grows as it is typed, a half-typed line costs nothing, and nothing that was typed is lost."""
-import sys
-
 from trial.check import check
-from trial.reading import CHAIN, STATE, TRIANGLE, add, done, drop, editor, pick, put, verdict
+from trial.reading import CHAIN, STATE, TRIANGLE, add, done, editor, pick, put, selected, verdict
 
 from tilebench import refusals
 
@@ -56,24 +54,29 @@ def marked(page):
 
 @check("a refusal is told in explain's words")
 def explained(page):
-    for broken in (CHAIN.replace("glue b 2\n", ""), CHAIN.replace("tau", "Tau"), CHAIN.replace("end\n", ""), CHAIN.replace("- a -", "- -")):
+    for broken in (CHAIN.replace("glue b 2\n", ""), CHAIN.replace("tau", "Tau"), CHAIN.replace("end\n", ""),
+        CHAIN.replace("- a -", "- -")):
         put(page, broken)
-        found = page.value('(async () => { const it = await tilebench.run(["grow"], document.querySelector("#text").value); return it.err; })()')
+        found = page.value('(async () => { const it = await tilebench.run(["grow"], '
+            'document.querySelector("#text").value); return it.err; })()')
         _, _, _, line, cause = found.split()
         first, _, *rest = refusals.reasons(broken.encode(), int(line), cause, "grow")
         said = page.value('[...document.querySelectorAll("#verdict-more li")].map((it) => it.textContent)')
         assert said == [it[4:] for it in rest], (said, rest)
-        assert verdict(page)[2].lower().replace("`", "").rstrip(".") == first.split(": ", 2)[2].lower().replace("`", "").rstrip("."), (verdict(page), first)
+        assert (verdict(page)[2].lower().replace("`", "").rstrip(".") == first.split(": ", 2)[2].lower().replace("`",
+            "").rstrip(".")), (verdict(page), first)
 
 
 @check("the refused line is scrolled to, also where the text is long")
 def scrolled(page):
-    long = CHAIN.replace("box", "".join(f"tile T{n} - a - -\n" for n in range(300)) + "box").replace("tile T150 -", "tile T150 z")
+    long = CHAIN.replace("box", "".join(f"tile T{n} - a - -\n" for n in range(300)) + "box").replace("tile T150 -",
+        "tile T150 z")
     put(page, long)
-    page.wait("""(() => { const it = document.querySelector("#text"), at = 8 + (Number(document.querySelector("#gutter").dataset.fault) - 1) * 20 - it.scrollTop;
+    page.wait("""(() => { const it = document.querySelector("#text");
+      const at = 8 + (Number(document.querySelector("#gutter").dataset.fault) - 1) * 20 - it.scrollTop;
       return at >= 0 && at < it.clientHeight; })()""")
     page.click("#verdict-buttons button")
-    assert page.value('document.querySelector("#text").value.slice(document.querySelector("#text").selectionStart).split("\\n")[0]') == "tile T150 z a - -"
+    assert selected(page) == "tile T150 z a - -"
 
 
 @check("each line has its number")
@@ -115,7 +118,8 @@ def kept(page):
 
 @check("where the browser keeps nothing the page works the same")
 def no_storage(page):
-    page.value('Object.defineProperty(window, "localStorage", { get() { throw new Error("no"); }, configurable: true }) && 0')
+    page.value('Object.defineProperty(window, "localStorage", { get() { throw new Error("no"); }, configurable: true '
+        '}) && 0')
     put(page, CHAIN)
     assert verdict(page)[0] == "Unique", (verdict(page), editor(page)[:60])
     page.is_away = True
@@ -156,7 +160,8 @@ def too_long(page):
 
 @check("64 MiB of remarks are opened and refused, and the page stays in use")
 def remarks(page):
-    page.value("""(async () => { const line = "# " + "x".repeat(61) + "\\n", one = new TextEncoder().encode(line.repeat(1024));
+    page.value("""(async () => {
+      const line = "# " + "x".repeat(61) + "\\n", one = new TextEncoder().encode(line.repeat(1024));
       const all = new Uint8Array(67108864); for (let at = 0; at < all.length; at += one.length) all.set(one, at);
       const held = new DataTransfer(); held.items.add(new File([all], "remarks.tiles"));
       const event = new Event("drop", { bubbles: true, cancelable: true });
@@ -166,6 +171,3 @@ def remarks(page):
     put_back = lambda: page.click("#undo")
     done(page, put_back)
     assert verdict(page)[0] == "Unique", (verdict(page), editor(page)[:60])
-
-
-assert drop and sys

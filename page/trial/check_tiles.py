@@ -61,7 +61,8 @@ def new(page):
     page.fill("#new-north", "up")
     page.fill("#strength-north", "2")
     save(page)
-    assert editor(page) == CHAIN.replace("tile S", "glue up 2\ntile S").replace("box", "tile D up - - -\nbox"), editor(page)
+    assert editor(page) == CHAIN.replace("tile S", "glue up 2\ntile S").replace("box", "tile D up - - -\nbox"), (
+        editor(page))
     assert verdict(page)[0] == "Unique"
 
 
@@ -71,7 +72,8 @@ def renamed(page):
     form(page, "S")
     page.fill("#tile-name", "Seed")
     save(page)
-    assert editor(page) == CHAIN.replace("tile S", "# colour Seed #112233\ntile Seed").replace("seed 0 0 S", "seed 0 0 Seed"), editor(page)
+    assert (editor(page) == CHAIN.replace("tile S", "# colour Seed #112233\ntile Seed").replace("seed 0 0 S",
+        "seed 0 0 Seed")), editor(page)
     assert page.value(f"{STATE}.growth.count") == 3
 
 
@@ -81,7 +83,8 @@ def coloured(page):
     form(page, "B")
     page.fill("#tile-colour", "#445566")
     save(page)
-    assert editor(page) == CHAIN.replace("tile B", "# colour B #445566\ntile B") and colour(page, "B") == "#445566", editor(page)
+    assert editor(page) == CHAIN.replace("tile B", "# colour B #445566\ntile B") and colour(page, "B") == "#445566", (
+        editor(page))
 
 
 @check("a tile is copied and deleted")
@@ -100,7 +103,8 @@ def copied(page):
 @check("what can't stand in the text is told in the form")
 def faults(page):
     form(page, "C")
-    for field, value, said in (("#tile-name", "a'b", "A name is 1 to 40"), ("#tile-name", "B", "There is a tile B already"), ("#strength-west", "251", "0 to 250")):
+    for field, value, said in (("#tile-name", "a'b", "A name is 1 to 40"),
+        ("#tile-name", "B", "There is a tile B already"), ("#strength-west", "251", "0 to 250")):
         before = page.value(f'document.querySelector("{field}").value')
         page.fill(field, value)
         page.click("#tile-form-body button[type=submit]")

@@ -1,9 +1,7 @@
 """The verdict in words: its word, its tone, the site that it speaks of, and the glue to look at."""
 from trial.check import check
-from trial.reading import CHAIN, STATE, TRIANGLE, chips, done, editor, pick, put, verdict
+from trial.reading import ARCH, CHAIN, RACE, STATE, TRIANGLE, chips, choose, done, editor, pick, put, selected, verdict
 
-ARCH = "tiles 1\ntau 2\nglue a 2\nglue b 2\nglue c 2\nglue d 2\ntile S b a - -\ntile E c - - a\ntile N - d b -\ntile C - - c d\nbox 0 0 1 1\nseed 0 0 S\nend\n"
-RACE = "tiles 1\ntau 1\nglue a 1\ntile S - a - -\ntile A - - - a\ntile B - - - a\nbox 0 0 1 0\nseed 0 0 S\nend\n"
 STUNTED = CHAIN.replace("glue b 2", "glue b 1")
 
 
@@ -14,15 +12,18 @@ def marks(page):
 @check("a yes is green: nothing else can grow")
 def yes(page):
     put(page, CHAIN)
-    assert verdict(page) == ("Unique", "yes", "Nothing else can grow than these 3 tiles, in whatever order they come.")
-    assert page.value('getComputedStyle(document.querySelector("#verdict-word")).color') == page.value(
-        '(() => { const it = document.createElement("i"); it.style.color = "var(--yes)"; document.body.append(it); const is = getComputedStyle(it).color; it.remove(); return is; })()')
+    assert verdict(page) == ("Unique", "yes",
+        "Nothing else can grow than these 3 tiles, in whatever order they come.")
+    green = page.value("""(() => { const it = document.createElement("i"); it.style.color = "var(--yes)";
+      document.body.append(it); const is = getComputedStyle(it).color; it.remove(); return is; })()""")
+    assert page.value('getComputedStyle(document.querySelector("#verdict-word")).color') == green
 
 
 @check("where the box cuts the growth off the verdict is amber: within the box nothing else can grow")
 def within(page):
     put(page, TRIANGLE % (255, 255))
-    assert verdict(page) == ("Unique within the box", "within", "Growing within the box, nothing else can grow; B still attaches at (256, 0), outside."), verdict(page)
+    assert (verdict(page) == ("Unique within the box", "within",
+        "Growing within the box, nothing else can grow; B still attaches at (256, 0), outside.")), verdict(page)
     page.picture("within")
 
 
@@ -30,14 +31,15 @@ def within(page):
 def shown(page):
     assert [256, 0] in marks(page), marks(page)
     page.click("#verdict-buttons button")
-    assert page.value("""(() => { const { view, state } = tilebench.page, x = view.left + 256 * view.scale, y = view.top + state.system.box[3] * view.scale;
+    assert page.value("""(() => { const { view, state } = tilebench.page;
+      const x = view.left + 256 * view.scale, y = view.top + state.system.box[3] * view.scale;
       return x > 0 && x < view.width && y > 0 && y < view.height && view.scale >= 12; })()""")
 
 
 @check("the box is widened by a button, and what it does stands in the text")
 def widen(page):
     put(page, TRIANGLE % (7, 7))
-    done(page, lambda: page.value('[...document.querySelectorAll("#verdict-buttons button")].find((it) => it.textContent === "Box of 16 by 8").click()'))
+    done(page, lambda: choose(page, "#verdict-buttons button", "Box of 16 by 8"))
     assert "box 0 0 15 7\n" in editor(page) and page.value(f"{STATE}.growth.count") == 128, editor(page)
     done(page, lambda: page.click("#undo"))
     assert editor(page) == TRIANGLE % (7, 7)
@@ -47,15 +49,16 @@ def widen(page):
 def glue(page):
     names = page.value('[...document.querySelectorAll("#verdict-buttons button")].map((it) => it.textContent)')
     assert "Glue h, line 5" in names, names
-    page.value('[...document.querySelectorAll("#verdict-buttons button")].find((it) => it.textContent.startsWith("Glue")).click()')
-    assert page.value('(() => { const it = document.querySelector("#text"); return it.value.slice(it.selectionStart, it.selectionEnd); })()') == "glue h 2"
+    choose(page, "#verdict-buttons button", "Glue")
+    assert selected(page) == "glue h 2"
 
 
 @check("a tile that is held by more than it needs: red, and said that a no refutes nothing")
 def exact(page):
     put(page, ARCH)
     word, tone, text = verdict(page)
-    assert (word, tone) == ("Not shown to be unique", "no") and "held by more than it needs" in text and "refutes nothing" in text, text
+    assert ((word, tone) == ("Not shown to be unique", "no") and "held by more than it needs" in text
+        and "refutes nothing" in text), text
     assert marks(page) == [[1, 1]]
     assert "north" not in text and "south c 2 + west d 2 = 4" in page.text("#printed"), page.text("#printed")
 
@@ -64,13 +67,14 @@ def exact(page):
 def rival(page):
     put(page, RACE)
     word, tone, text = verdict(page)
-    assert (word, tone) == ("Not shown to be unique", "no") and text.startswith("B could come at (1, 0) in place of A"), text
+    assert ((word, tone) == ("Not shown to be unique", "no")
+        and text.startswith("B could come at (1, 0) in place of A")), text
     assert marks(page) == [[1, 0]]
 
 
 @check("a no offers to look for rivals")
 def offers(page):
-    page.value('[...document.querySelectorAll("#verdict-buttons button")].find((it) => it.textContent === "Look for rivals").click()')
+    choose(page, "#verdict-buttons button", "Look for rivals")
     assert not page.value('document.querySelector("#tool-rivals").hidden')
     page.click("#close-rivals")
 
@@ -87,7 +91,8 @@ def nowhere(page):
 def leads(page):
     assert "C is nearest to coming at (2, 0): west b 1 = 1 of 2." in page.text(".nowhere"), page.text(".nowhere")
     put(page, (TRIANGLE % (7, 7)).replace("tile r11 0 0 1 1\n", ""))
-    assert "At (1, 1) enough is offered (south 1 1 + west 1 1 = 2 of 2), and no type takes both." in page.text(".nowhere"), page.text(".nowhere")
+    said = page.text(".nowhere")
+    assert "At (1, 1) enough is offered (south 1 1 + west 1 1 = 2 of 2), and no type takes both." in said, said
     page.click(".nowhere button")
     put(page, STUNTED)
 
@@ -107,7 +112,8 @@ def handed(page):
     assert verdict(page)[:2] == ("Unique", "yes") and "legal yes" in page.text("#printed")
     put(page, CHAIN + "place 0 0 S\nplace 2 0 C\n")
     word, tone, text = verdict(page)
-    assert (word, tone) == ("Not a legal growth", "no") and text == "Tile 2, C at (2, 0), comes held by no bond, and the temperature is 2.", text
+    assert ((word, tone) == ("Not a legal growth", "no")
+        and text == "Tile 2, C at (2, 0), comes held by no bond, and the temperature is 2."), text
     assert marks(page) == [[2, 0]]
 
 
@@ -129,7 +135,8 @@ def unfinished(page):
 def claims(page):
     put(page, CHAIN + "place 0 0 S\nclosed terminal\nunique yes\n")
     assert verdict(page)[0] == "Not finished"
-    assert "The text itself says: closed terminal; unique yes." in page.text("#verdict-more"), page.text("#verdict-more")
+    assert "The text itself says: closed terminal; unique yes." in page.text("#verdict-more"), (
+        page.text("#verdict-more"))
 
 
 @check("a system of version 2, with pairs and several seeds, is read")
@@ -151,7 +158,8 @@ def schedule(page):
 @check("a step of a scout that is refused is told with its line")
 def refused_step(page):
     put(page, CHAIN + "claim 0 2 0 C\n")
-    assert verdict(page)[:2] == ("A step was refused", "no") and page.text(".verdict-line") == "11  claim 0 2 0 C", page.text(".verdict-line")
+    assert verdict(page)[:2] == ("A step was refused", "no") and page.text(".verdict-line") == "11  claim 0 2 0 C", (
+        page.text(".verdict-line"))
     assert "what the scout has seen pulls with 0" in page.text("#printed"), page.text("#printed")
 
 

@@ -21,7 +21,32 @@ box 0 0 %d %d
 seed 0 0 S
 end
 """
-CHAIN = "tiles 1\ntau 2\nglue a 2\nglue b 2\ntile S - a - -\ntile B - b - a\ntile C - - - b\nbox 0 0 2 0\nseed 0 0 S\nend\n"
+CHAIN = """tiles 1
+tau 2
+glue a 2
+glue b 2
+tile S - a - -
+tile B - b - a
+tile C - - - b
+box 0 0 2 0
+seed 0 0 S
+end
+"""
+RACE = "tiles 1\ntau 1\nglue a 1\ntile S - a - -\ntile A - - - a\ntile B - - - a\nbox 0 0 1 0\nseed 0 0 S\nend\n"
+ARCH = """tiles 1
+tau 2
+glue a 2
+glue b 2
+glue c 2
+glue d 2
+tile S b a - -
+tile E c - - a
+tile N - d b -
+tile C - - c d
+box 0 0 1 1
+seed 0 0 S
+end
+"""
 
 
 def done(page, action, seconds=15):
@@ -60,7 +85,8 @@ def drop(page, files):
 
 def verdict(page):
     """The word of the verdict, its tone and its sentence."""
-    return page.text("#verdict-word"), page.value('document.querySelector("#verdict").dataset.tone'), page.text("#verdict-text")
+    tone = page.value('document.querySelector("#verdict").dataset.tone')
+    return page.text("#verdict-word"), tone, page.text("#verdict-text")
 
 
 def site(page, x, y):
@@ -98,9 +124,22 @@ def colour(page, name):
 def chips(page):
     """The legend: for each name the count that is told, and whether it is grey."""
     found = page.value("""[...document.querySelectorAll("#legend .chip")].map((it) =>
-      [it.querySelector(".chip-name").textContent, it.querySelector(".chip-count").textContent, it.classList.contains("never")])""")
+      [...[".chip-name", ".chip-count"].map((part) => it.querySelector(part).textContent),
+        it.classList.contains("never")])""")
     return {name: (count, never) for name, count, never in found}
 
 
 def editor(page):
     return page.value('document.querySelector("#text").value')
+
+
+def selected(page):
+    """What is selected in the editor."""
+    return page.value("""(() => { const it = document.querySelector("#text");
+      return it.value.slice(it.selectionStart, it.selectionEnd); })()""")
+
+
+def choose(page, selector, words):
+    """Clicks the one of several elements whose text begins with some words."""
+    page.value(f"""[...document.querySelectorAll({json.dumps(selector)})]
+      .find((it) => it.textContent.startsWith({json.dumps(words)})).click()""")
