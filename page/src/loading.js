@@ -31,10 +31,13 @@ function same(one, other) {
   return true;
 }
 
-let running = Promise.resolve();
+let running = Promise.resolve(), isRunning = false;
 
 // Comes to its end where what is grown now is done.
 export const settled = () => running;
+
+// Whether nothing is grown, nor is to be at the next pause.
+export const isIdle = () => !isRunning && !later.isDue();
 
 // Grows the text now. `isNew` where another text was opened: it is looked at afresh.
 export function growNow(how = {}) {
@@ -48,6 +51,7 @@ async function growText({ isNew = false, words = [] }) {
   if (!isNew && !words.length && same(last, bytes)) return;
   last = words.length ? null : bytes;
   const mine = ++asked, began = performance.now();
+  isRunning = true;
   typing.stop();
   tell("growing");
   busy(250);
@@ -58,6 +62,7 @@ async function growText({ isNew = false, words = [] }) {
     if (mine === asked && !(why instanceof Unanswered && why.isEnded)) failed(why, bytes, isNew);
   }
   if (mine !== asked) return;
+  isRunning = false;
   busy.stop();
   $("busy").hidden = true;
   timing.took = performance.now() - began;
@@ -72,6 +77,7 @@ export function grownLater(isAtOnce) {
   typing.stop();
   asked++;
   last = null;
+  isRunning = false;
   later(isAtOnce ? 0 : Math.max(20, Math.min(120, timing.took / 4)));
 }
 

@@ -13,7 +13,7 @@ import { beginFiles, notice } from "./files.js";
 import { exampleText, FIRST } from "./gallery.js";
 import { beginLegend } from "./legend.js";
 import { beginLive, isLive } from "./live.js";
-import { growNow, grownLater, kindNamed, timings } from "./loading.js";
+import { growNow, grownLater, isIdle, kindNamed, timings } from "./loading.js";
 import { beginMenus, closeMenus } from "./menus.js";
 import { beginPlayer, move, show, toggle } from "./player.js";
 import { beginPointer } from "./pointer.js";
@@ -122,6 +122,6 @@ window.addEventListener("hashchange", hashChanged);
 window.addEventListener("pagehide", keepNow);
 // what the checks of the page look at
 Object.assign((window.tilebench ??= {}),
-  { page: { state: page, view, timings, search: theSearch, tape: theTape, showSite, redraw, drawNow, kindNamed,
+  { page: { state: page, view, timings, isIdle, search: theSearch, tape: theTape, showSite, redraw, drawNow, kindNamed,
   reasons } });
 begin();

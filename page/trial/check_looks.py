@@ -60,6 +60,7 @@ def narrow(page):
 
 @check("at 360 points the list of examples, the tools and the forms fit")
 def narrow_tools(page):
+    page.size(360, 740)
     page.click("#examples")
     assert page.value('(() => { const at = document.querySelector("#examples-menu").getBoundingClientRect(); return '
         'at.left >= 0 && at.right <= 360; })()')

@@ -19,9 +19,9 @@ def grows(page):
 def newer_key(page):
     before = page.value("tilebench.page.timings.count")
     page.fill("#text", TRIANGLE % (1023, 1023))
-    page.wait("!document.querySelector('#busy').hidden || tilebench.page.timings.count > %d" % before)
-    put(page, CHAIN)
-    assert page.value(f"{STATE}.growth.count") == 3
+    page.wait(f"!document.querySelector('#busy').hidden || tilebench.page.timings.count > {before}", 30)
+    page.fill("#text", CHAIN)
+    page.wait(f"tilebench.page.isIdle() && {STATE}.growth.count === 3")
     page.value("new Promise((done) => setTimeout(done, 1200))")
     assert page.value(f"{STATE}.growth.count") == 3
 

@@ -50,10 +50,11 @@ end
 
 
 def done(page, action, seconds=15):
-    """Does something that grows a text, and waits until that is done."""
+    """Does something that grows a text, and waits until that is done and nothing more is to be grown."""
+    page.wait("tilebench.page.isIdle()", seconds)
     before = page.value("tilebench.page.timings.count")
     action()
-    page.wait(f"tilebench.page.timings.count > {before}", seconds)
+    page.wait(f"tilebench.page.timings.count > {before} && tilebench.page.isIdle()", seconds)
 
 
 def put(page, text, seconds=15):
