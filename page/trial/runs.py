@@ -32,7 +32,8 @@ WORDS = [b"0", b"1", b"-", b"2", b"9", b"h", b"v", b"99999999999999999999", b"-3
 ASKED = """(async () => {
   const found = [];
   for (const [words, text] of %s) {
-    const { status, out, err } = await tilebench.run(words, Uint8Array.from(atob(text), (it) => it.charCodeAt(0)));
+    const input = Uint8Array.from(atob(text), (it) => it.charCodeAt(0));
+    const { status, out, err } = await tilebench.run(words, input, { seconds: 120 });
     const sum = new Uint8Array(await crypto.subtle.digest("SHA-256", out));
     const digits = [...sum].map((it) => it.toString(16).padStart(2, "0")).join("");
     found.push([status, digits, new TextDecoder().decode(err)]);
@@ -105,6 +106,23 @@ def on_system(native, name, text):
     yield f"{name} watched", ["check"], text + frames
 
 
+def at_limits():
+    """Runs on systems at the limits: a full box of 1024 by 1024, all glues and types that there may be, and 4096 seeds."""
+    full = dict(examples(".tiles"))["sierpinski.tiles"]
+    full = b"\n".join(b"box 0 0 1023 1023" if it.startswith(b"box ") else it for it in full.split(b"\n"))
+    for words in (["grow"], ["report"]):
+        yield "a full box", words, full
+    many = "tiles 1\ntau 1\n" + "".join(f"glue g{it} 1\n" for it in range(8192))
+    many += "".join(f"tile t{it} - g{it % 8192} - g{(it + 8191) % 8192}\n" for it in range(16384))
+    many += "box 0 0 1023 0\nseed 0 0 t0\nend\n"
+    for words in (["grow"], ["grow", "--choice", "5"], ["format"]):
+        yield "all glues and types", words, many.encode()
+    seeds = "".join(f"seed {2 * (it % 64)} {2 * (it // 64)} S\n" for it in range(4096))
+    seeded = f"tiles 2\ntau 1\nglue a 1\ntile S a a a a\ntile T a a a a\nbox 0 0 127 127\n{seeds}end\n"
+    for words in (["grow"], ["race"], ["watch", "--frames", "2"]):
+        yield "all seeds", words, seeded.encode()
+
+
 def all_runs(native):
     """Each run as a name, its words and its input."""
     chance = random.Random(5)
@@ -128,6 +146,7 @@ def all_runs(native):
         yield "all systems", words, whole
         yield "a batch", words, jobs
     yield "all bytes", ["grow"], bytes(range(256))
+    yield from at_limits()
 
 
 def answers_of(page, runs):
