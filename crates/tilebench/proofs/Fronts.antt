@@ -10,7 +10,6 @@ use Rattle.tile_io.specs.declared.mark.Mark.{Mark}
 use Rattle.tile_io.specs.declared.whole.ReadStop.{ReadStop}
 use Rattle.tile_io.specs.declared.whole.ReadStop.TheVariants as read
 use Rattle.tile_io.specs.Blocks.{TakesOn, IsWholeText, IsUnread, StopsInBlocks}
-use Rattle.tile_io.proofs.Rising.{Rose-then}
 use Rattle.tile_io.specs.Formats.{Format}
 use Rattle.tile_io.specs.NextLine.{IsMark}
 use Rattle.tile_io.proofs.Progress.{start_is_mark}
@@ -58,7 +57,10 @@ module _ {S : Type 0} (left : S → Option (List ℕ)) (faults : S → ℕ) wher
         GivesBehind (left source) left faults Holds Fails middle after result → GivesRead left faults Holds Fails source after result
     from_before Fails source middle after (Ok value) later h = (h.0, le_trans later h.1)
     from_before Fails source middle after (Err (Text fault)) later h = (h.0, le_trans later h.1)
-    from_before Fails source middle after (Err ReadFault) later h = Rose-then later h
+    from_before Fails source middle after (Err ReadFault) later h = elim h [
+      | inl rose ↦ inl (omega (arith, later, rose))
+      | inr last ↦ inr last
+    ]
     from_before Fails source middle after (Err NoMemory) later h = le_trans later h
     from_before Fails source middle after (Err (Words stop)) later h = h
     from_before Fails source middle after (Err (Counter stop)) later h = h
