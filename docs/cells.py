@@ -1,4 +1,5 @@
-"""Runs the cells of a document as a notebook does: its blocks ```python, one after the other, each with its block ```shows."""
+"""Runs the cells of a document as a notebook does: its blocks ```python, one after the other, each with its block
+```shows."""
 import json
 import os
 import re
@@ -8,7 +9,8 @@ import sys
 from repository import TOP
 
 CELL = re.compile(r"^```python\n(.*?)^```\n(?:\n```shows\n(.*?)^```\n)?", re.M | re.S)
-# Runs cells that it is handed, and answers what each shows: what it prints, and the value of its last line, or its error.
+# Runs cells that it is handed, and answers what each shows: what it prints, and the value of its last line, or its
+# error.
 RUNNER = """
 import ast, contextlib, io, json, sys
 shown, names = [], {"__name__": "__main__"}
@@ -31,8 +33,14 @@ json.dump(shown, sys.stdout)
 def shown(cells, folder, program):
     """What each cell shows."""
     way = dict(os.environ, PYTHONPATH=f"{TOP}/python", PYTHONDONTWRITEBYTECODE="1", TILEBENCH=program)
-    ran = subprocess.run([sys.executable, "-c", RUNNER], input=json.dumps(cells).encode(), stdout=subprocess.PIPE,
-                         check=True, cwd=folder, env=way)
+    ran = subprocess.run(
+        [sys.executable, "-c", RUNNER],
+        input=json.dumps(cells).encode(),
+        stdout=subprocess.PIPE,
+        check=True,
+        cwd=folder,
+        env=way,
+    )
     return json.loads(ran.stdout)
 
 

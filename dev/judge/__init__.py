@@ -1,9 +1,9 @@
 """A plain judge of tilebench: what each command must answer to words and an input, worked out from docs/FORMATS.md and
 docs/MODEL.md alone, and runs of the program beside it.
 
-It is slow and simple, and shares nothing with the program but the list of commands. Names and texts are bytes here. A site is
-(x, y), a glue or a type is its index, and -1 stands for no glue. Where an answer is free, as the assembly is that `grow` prints
-where another one can grow, it is judged by what must hold of it.
+It is slow and simple, and shares nothing with the program but the list of commands. Names and texts are bytes here. A
+site is (x, y), a glue or a type is its index, and -1 stands for no glue. Where an answer is free, as the assembly is
+that `grow` prints where another one can grow, it is judged by what must hold of it.
 """
 import os
 import sys

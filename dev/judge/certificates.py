@@ -67,7 +67,10 @@ def certified(system, tiles):
     if said != b"yes":
         return b"unique %s\n" % said, False
     rows = zip(sequence, input_sides(system, sequence))
-    return b"".join(mark_line(system, site, Mark(kind, sides, rank)) for rank, ((site, kind), sides) in enumerate(rows)), True
+    return (
+        b"".join(mark_line(system, site, Mark(kind, sides, rank)) for rank, ((site, kind), sides) in enumerate(rows)),
+        True,
+    )
 
 
 class Check:

@@ -1,4 +1,5 @@
-"""What `watch` must answer: frames of a growth, each a part of the next, and the growth, from docs/FORMATS.md and docs/MODEL.md."""
+"""What `watch` must answer: frames of a growth, each a part of the next, and the growth, from docs/FORMATS.md and
+docs/MODEL.md."""
 import heapq
 import re
 
@@ -59,7 +60,10 @@ def wrong_frames(system, frames):
         if number != at + 1:
             return f"frame {number} stands where frame {at + 1} should", None
         if count != len(listing.places):
-            return f"frame {number} says {count} tiles, and {len(listing.places)} of those that it lists can stand", None
+            return (
+                f"frame {number} says {count} tiles, and {len(listing.places)} of those that it lists can stand",
+                None,
+            )
         if places != listing.places[before:]:
             return f"frame {number} does not list its new tiles as they follow one another", None
     return None, listing.places

@@ -39,7 +39,11 @@ class Judge:
             word = b"no" if status else b"yes"
             return Wanted(status, check=check_report(system, workers, tiles if is_one else None, word))
         if command == "watch":
-            check = (lambda out: None if out == told else "the growth is another one than grow prints") if is_one else check_growth(system)
+            check = (
+                (lambda out: None if out == told else "the growth is another one than grow prints")
+                if is_one
+                else check_growth(system)
+            )
             return Wanted(status, check=check_watch(system, numbers[2], check))
         return Wanted(status, told) if is_one else Wanted(status, check=check_growth(system))
 
@@ -92,7 +96,13 @@ class Judge:
             if system.width() * system.height() > 64 * self.most_tiles:
                 raise TooLarge
             return Wanted(0, picture_text(system, dict(read_places(lines, system, True))))
-        ways = {"check": self.checked, "replay": self.replayed, "schedule": self.scheduled, "certify": self.certified, "verify": self.verified}
+        ways = {
+            "check": self.checked,
+            "replay": self.replayed,
+            "schedule": self.scheduled,
+            "certify": self.certified,
+            "verify": self.verified,
+        }
         return ways[command](system, lines)
 
     def counted(self, command, numbers):
@@ -102,8 +112,8 @@ class Judge:
         return refused_words(refusal) if refusal else Wanted(0, counter_text(*numbers), is_read=False)
 
     def wanted(self, words, text):
-        """What must come to words (a list of bytes) and an input. TooLarge is raised where the judge would have too much to
-        do."""
+        """What must come to words (a list of bytes) and an input. TooLarge is raised where the judge would have too
+        much to do."""
         try:
             command, numbers = reading_of([it.decode() for it in words])
         except UnicodeDecodeError:

@@ -43,7 +43,8 @@ def canonical(system, tiles):
 
 
 def least_open(system, tiles, is_outside):
-    """The least site at which a type attaches (of the plane, or of what is outside the box) with the first such type."""
+    """The least site at which a type attaches (of the plane, or of what is outside the box) with the first such
+    type."""
     beside = {(y + b, x + a) for x, y in tiles for a, b in STEPS}
     for y, x in sorted(beside):
         if (x, y) not in tiles and not (is_outside and system.has((x, y))):

@@ -1,4 +1,5 @@
-"""What `quadrant` must answer: two-input rules and the systems that they are woven into, from docs/FORMATS.md and docs/MODEL.md."""
+"""What `quadrant` must answer: two-input rules and the systems that they are woven into, from docs/FORMATS.md and
+docs/MODEL.md."""
 from judge.texts import Cause, declared, number_in, read_text, referred, SHORT_NAME
 
 MOST_SYMBOLS, LONGEST = 64, 1023

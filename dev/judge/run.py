@@ -15,8 +15,8 @@ class Came:
 
 
 class Hang(Exception):
-    """The program did not end in time: it had more seconds of a processor than it may take, or thirty times as many by the
-    clock."""
+    """The program did not end in time: it had more seconds of a processor than it may take, or thirty times as many by
+    the clock."""
 
 
 class Program:
@@ -30,7 +30,9 @@ class Program:
     def spawned(self, words, streams):
         """Runs it with these words and streams, and waits for it."""
         moves = [(os.POSIX_SPAWN_DUP2, stream, at) for at, stream in enumerate(streams)]
-        process = os.posix_spawn(self.path, [self.path, *words], self.environment, file_actions=moves, setsigdef=[signal.SIGPIPE])
+        process = os.posix_spawn(
+            self.path, [self.path, *words], self.environment, file_actions=moves, setsigdef=[signal.SIGPIPE]
+        )
         watch, is_done = os.pidfd_open(process), False
         for _ in range(30):
             is_done = bool(select.select([watch], [], [], self.patience)[0])
@@ -74,7 +76,11 @@ class Program:
         at = 0
         while at < len(text):
             at += os.pwrite(self.given, text[at:], at)
-        streams = [self.given if given is None else given, self.out if out is None else out, self.err if err is None else err]
+        streams = [
+            self.given if given is None else given,
+            self.out if out is None else out,
+            self.err if err is None else err,
+        ]
         status = self.spawned(words, streams)
         outputs = [os.pread(it, os.fstat(it).st_size, 0) for it in (self.out, self.err)]
         return Came(status, *outputs, os.lseek(self.given, 0, os.SEEK_CUR))

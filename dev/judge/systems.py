@@ -1,7 +1,18 @@
-"""Systems, with what attaches where, and growth texts. A site is (x, y), a glue or a type is its index, and -1 no glue."""
+"""Systems, with what attaches where, and growth texts. A site is (x, y), a glue or a type is its index, and -1 no
+glue."""
 from judge.texts import (
-    Cause, declared, Fault, LONGEST_SIDE, MOST_GLUES, MOST_PAIRS, MOST_SEEDS, MOST_TYPES, number_in, read_text,
-    referred, site_in,
+    Cause,
+    declared,
+    Fault,
+    LONGEST_SIDE,
+    MOST_GLUES,
+    MOST_PAIRS,
+    MOST_SEEDS,
+    MOST_TYPES,
+    number_in,
+    read_text,
+    referred,
+    site_in,
 )
 
 SYSTEM = {

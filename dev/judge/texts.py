@@ -1,4 +1,5 @@
-"""Lines, words, numbers and names of a text, with the first fault of each, from docs/FORMATS.md. Names and texts are bytes."""
+"""Lines, words, numbers and names of a text, with the first fault of each, from docs/FORMATS.md. Names and texts are
+bytes."""
 import re
 
 LONGEST_INPUT = 67108864
@@ -91,9 +92,9 @@ def referred(word, names, form=NAME):
 
 
 def read_text(lines, header, keywords, item, before=None):
-    """Goes through a text. `keywords` has for each keyword the number of its words, whether more are allowed, and what it
-    may stand after, None being the start; `item` is called with each line's words, and raises the cause of its fault. A
-    header that was read already is what stands `before`."""
+    """Goes through a text. `keywords` has for each keyword the number of its words, whether more are allowed, and what
+    it may stand after, None being the start; `item` is called with each line's words, and raises the cause of its
+    fault. A header that was read already is what stands `before`."""
     if header is not None:
         if lines.next() != header:
             raise Fault(lines.number, "NoHeader")

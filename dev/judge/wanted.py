@@ -37,8 +37,21 @@ def refused_words(cause):
 def wanted_report(system, many, word, won):
     """The line of a report; `won` is the inside of its last list."""
     closed = b"clipped" if least_open(system, many, True) else b"terminal"
-    numbers = (closed, len(system.glues), system.height(), system.tau, len(many), len(system.types), word, system.width(), won)
-    return b'{"closed":"%s","glues":%d,"height":%d,"tau":%d,"tiles":%d,"types":%d,"unique":"%s","width":%d,"won":[%s]}\n' % numbers
+    numbers = (
+        closed,
+        len(system.glues),
+        system.height(),
+        system.tau,
+        len(many),
+        len(system.types),
+        word,
+        system.width(),
+        won,
+    )
+    return (
+        b'{"closed":"%s","glues":%d,"height":%d,"tau":%d,"tiles":%d,"types":%d,"unique":"%s","width":%d,"won":[%s]}\n'
+        % numbers
+    )
 
 
 def is_only_one(said):

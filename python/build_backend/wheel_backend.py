@@ -14,8 +14,10 @@ def project():
 
 
 def metadata(about):
-    return (f"Metadata-Version: 2.1\nName: {about['name']}\nVersion: {about['version']}\nSummary: {about['description']}\n"
-            f"Requires-Python: {about['requires-python']}\n")
+    return (
+        f"Metadata-Version: 2.1\nName: {about['name']}\nVersion: {about['version']}\nSummary: {about['description']}\n"
+        f"Requires-Python: {about['requires-python']}\n"
+    )
 
 
 def modules():
@@ -30,8 +32,14 @@ def made(folder, files):
     """A wheel of files, in a folder; answers its name."""
     about = project()
     info = f"{about['name']}-{about['version']}.dist-info"
-    files = [*files, (f"{info}/METADATA", metadata(about).encode()), (f"{info}/WHEEL", b"Wheel-Version: 1.0\nGenerator: wheel_backend\n"
-             b"Root-Is-Purelib: true\nTag: py3-none-any\n")]
+    files = [
+        *files,
+        (f"{info}/METADATA", metadata(about).encode()),
+        (
+            f"{info}/WHEEL",
+            b"Wheel-Version: 1.0\nGenerator: wheel_backend\n" b"Root-Is-Purelib: true\nTag: py3-none-any\n",
+        ),
+    ]
     record = ""
     for name, data in files:
         digest = base64.urlsafe_b64encode(hashlib.sha256(data).digest()).rstrip(b"=").decode()

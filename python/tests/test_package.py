@@ -49,12 +49,21 @@ def test_lines_have_the_programs_numbers():
     assert system.lines["tile", "B"] == 7 and system.lines["seed", (0, 0)] == 10
 
 
-@pytest.mark.parametrize("call, cause", [
-    (lambda it: it.glue("a", 1), "DoubleName"), (lambda it: it.glue("a b", 1), "BadName"), (lambda it: it.glue("z", 251), "OutOfRange"),
-    (lambda it: it.tile("D", north="z"), "UnknownName"), (lambda it: it.tile("S"), "DoubleName"), (lambda it: it.seed(9, 9, "S"), "SeedOutside"),
-    (lambda it: it.seed(0, 0, "S"), "DoubleSite"), (lambda it: it.pair("a", "a"), "DoubleName"), (lambda it: it.seed("x", 0, "S"), "BadNumber"),
-    (lambda it: setattr(it, "box", (2, 0, 0, 0)), "OutOfRange"),
-])
+@pytest.mark.parametrize(
+    "call, cause",
+    [
+        (lambda it: it.glue("a", 1), "DoubleName"),
+        (lambda it: it.glue("a b", 1), "BadName"),
+        (lambda it: it.glue("z", 251), "OutOfRange"),
+        (lambda it: it.tile("D", north="z"), "UnknownName"),
+        (lambda it: it.tile("S"), "DoubleName"),
+        (lambda it: it.seed(9, 9, "S"), "SeedOutside"),
+        (lambda it: it.seed(0, 0, "S"), "DoubleSite"),
+        (lambda it: it.pair("a", "a"), "DoubleName"),
+        (lambda it: it.seed("x", 0, "S"), "BadNumber"),
+        (lambda it: setattr(it, "box", (2, 0, 0, 0)), "OutOfRange"),
+    ],
+)
 def test_a_call_is_refused_with_its_cause(call, cause):
     with pytest.raises(tb.Refused) as why:
         call(chain())
@@ -104,7 +113,11 @@ def test_a_no_has_its_site_and_cause():
     assert (verdict.condition, verdict.site, verdict.pull) == (1, (1, 1), 2)
     growth = tb.grow(chain((0, 0, 1, 0)))
     assert growth.closed.site == (2, 0) and growth.closed.name == "C"
-    assert growth.verdict.condition == 3 and growth.verdict.is_one_within and "Widen the box to the east by 1" in growth.explain()
+    assert (
+        growth.verdict.condition == 3
+        and growth.verdict.is_one_within
+        and "Widen the box to the east by 1" in growth.explain()
+    )
 
 
 def test_frames_are_parts_of_the_growth():
@@ -201,8 +214,14 @@ def test_no_program(monkeypatch):
 
 def test_a_picture_keeps_its_colours():
     before = chain()
-    after = tb.System.read(before.text.replace("tile B - b - a\n", "tile B2 - b - a\n").replace("box", "tile B - b - a\nbox"))
-    assert drawing.View(tb.grow(before)).colours()["C"] == drawing.View(tb.grow(after)).colours()["C"] == colours.colour_of("C")
+    after = tb.System.read(
+        before.text.replace("tile B - b - a\n", "tile B2 - b - a\n").replace("box", "tile B - b - a\nbox")
+    )
+    assert (
+        drawing.View(tb.grow(before)).colours()["C"]
+        == drawing.View(tb.grow(after)).colours()["C"]
+        == colours.colour_of("C")
+    )
     wished = tb.System.read(before.text.replace("tau 2\n", "tau 2\n# colour C #123456\n"))
     assert 'fill="#123456"' in tb.grow(wished).svg() and wished.colours == {"C": "#123456"}
     assert "# colour C #123456\n" in tb.System.read(wished.text).text

@@ -9,12 +9,33 @@
     growth = tb.grow(system)
     growth.verdict
 
-The program is found beside this checkout, where it is installed, or by the environment variable TILEBENCH. docs/PYTHON.md
-goes through a session. numpy, matplotlib and a notebook are used where they are there, and not needed.
+The program is found beside this checkout, where it is installed, or by the environment variable TILEBENCH.
+docs/PYTHON.md goes through a session. numpy, matplotlib and a notebook are used where they are there, and not needed.
 """
 from tilebench.calls import (
-    Check, Race, Schedule, Stuck, Verified, batch, certify, check, counter, formatted, grow, load, picture, quadrant, race, refusal,
-    replay, report, schedule, turing, upgraded, verify, watch,
+    Check,
+    Race,
+    Schedule,
+    Stuck,
+    Verified,
+    batch,
+    certify,
+    check,
+    counter,
+    formatted,
+    grow,
+    load,
+    picture,
+    quadrant,
+    race,
+    refusal,
+    replay,
+    report,
+    schedule,
+    turing,
+    upgraded,
+    verify,
+    watch,
 )
 from tilebench.commands import COMMANDS
 from tilebench.conditions import Break, Untaken, breaks, untaken
@@ -26,9 +47,47 @@ from tilebench.lint import slips
 from tilebench.system import SIDES, System
 
 __all__ = [
-    "COMMANDS", "SIDES", "Break", "Certificate", "Check", "Closed", "Found", "Growth", "NoProgram", "ProgramFailed", "Race", "Refused",
-    "Schedule", "Stuck", "System", "TilebenchError", "Untaken", "Verdict", "Verified", "batch", "bordered", "breaks", "certify", "check",
-    "counter", "formatted", "grow", "load", "picture", "quadrant", "race", "refusal", "replay", "report", "schedule", "search", "slips",
-    "turing", "untaken", "upgraded", "verify", "watch",
+    "COMMANDS",
+    "SIDES",
+    "Break",
+    "Certificate",
+    "Check",
+    "Closed",
+    "Found",
+    "Growth",
+    "NoProgram",
+    "ProgramFailed",
+    "Race",
+    "Refused",
+    "Schedule",
+    "Stuck",
+    "System",
+    "TilebenchError",
+    "Untaken",
+    "Verdict",
+    "Verified",
+    "batch",
+    "bordered",
+    "breaks",
+    "certify",
+    "check",
+    "counter",
+    "formatted",
+    "grow",
+    "load",
+    "picture",
+    "quadrant",
+    "race",
+    "refusal",
+    "replay",
+    "report",
+    "schedule",
+    "search",
+    "slips",
+    "turing",
+    "untaken",
+    "upgraded",
+    "verify",
+    "watch",
 ]
 __version__ = "1.0.0"

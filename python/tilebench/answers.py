@@ -27,8 +27,10 @@ def closed_told(growth: Growth) -> str:
     closed, system = growth.closed, growth.system
     if closed is None or closed.site is None or closed.name is None:
         return "nothing attaches any more, inside the box or outside"
-    return (f"the box cuts the growth off: {closed.name} would attach at {closed.site}, outside it "
-            f"({held_told(growth, closed.name, closed.site)}, and {tau_told(system)})")
+    return (
+        f"the box cuts the growth off: {closed.name} would attach at {closed.site}, outside it "
+        f"({held_told(growth, closed.name, closed.site)}, and {tau_told(system)})"
+    )
 
 
 def verdict_told(growth: Growth) -> str:
@@ -39,16 +41,29 @@ def verdict_told(growth: Growth) -> str:
     site, name = verdict.site, growth[verdict.site]
     if verdict.condition == 1 and name:
         bonds = bonds_told(system, name, facing_before(growth, site))
-        return (f"{name} at {site} is held by {bonds}, and {tau_told(system)}: it has more bonds than it needs, and may come in "
-                "more than one way. That refutes nothing: tools/outcomes looks for another outcome")
+        return (
+            f"{name} at {site} is held by {bonds}, and {tau_told(system)}: it has more bonds than it needs, and may "
+            f"come in "
+            "more than one way. That refutes nothing: tools/outcomes looks for another outcome"
+        )
     if verdict.condition == 2 and name and verdict.name:
         bonds = bonds_told(system, verdict.name, facing_alone(growth, site))
-        return (f"{verdict.name} could come at {site} in place of {name}, once that and the neighbours that rest on it are away: "
-                f"{bonds}, and {tau_told(system)}")
+        return (
+            f"{verdict.name} could come at {site} in place of {name}, once that and the neighbours that rest on it "
+            f"are away: "
+            f"{bonds}, and {tau_told(system)}"
+        )
     outside, held = beyond(system, site), f"({held_told(growth, verdict.name or '', site)}, and {tau_told(system)})"
     if outside and not any(map(system.in_box, attaching_sites(growth))):
-        return f"growing within the box, nothing else can grow; {verdict.name} still attaches at {site}, outside, to the {outside} {held}"
-    more = f"; that is outside the box, to the {outside}, and all tiles that stand meet the other two conditions" if outside else ""
+        return (
+            f"growing within the box, nothing else can grow; {verdict.name} still attaches at {site}, outside, to the "
+            f"{outside} {held}"
+        )
+    more = (
+        f"; that is outside the box, to the {outside}, and all tiles that stand meet the other two conditions"
+        if outside
+        else ""
+    )
     return f"{verdict.name} still attaches at {site} {held}{more}"
 
 
@@ -71,7 +86,10 @@ def stuck_told(growth: Growth, words: list[str]) -> str:
     site = int(words[2]), int(words[3])
     if words[1] == "seed":
         return f"the seed at {site} is missing"
-    return f"{words[1]} tiles can't be reached from the seeds; {growth[site] or 'the empty site'} at {site} is the first of them"
+    return (
+        f"{words[1]} tiles can't be reached from the seeds; {growth[site] or 'the empty site'} at {site} is the first "
+        f"of them"
+    )
 
 
 # ---- certificates
@@ -110,8 +128,10 @@ def verified_told(marks: Certificate, words: list[str]) -> str:
         return f"the sides that {name} at {site} states bond with {told} = {words[5]}, and {tau}"
     if code == "5":
         side = "NESW".index(words[5])
-        return (f"{name} at {site} has a bond of {bonds[side]} on its {SIDES[side]} side, which neither it states nor "
-                f"{marks[neighbour(site, side)]} beside it")
+        return (
+            f"{name} at {site} has a bond of {bonds[side]} on its {SIDES[side]} side, which neither it states nor "
+            f"{marks[neighbour(site, side)]} beside it"
+        )
     return rival_told(marks, code, site, words[5])
 
 
@@ -124,21 +144,34 @@ def rival_told(marks: Certificate, code: str, site: Site, other: str) -> str:
             left[side] = None
     held = bonds_told(system, other, (left[0], left[1], left[2], left[3]))
     if code == "6":
-        return (f"{other} could come at {site} in place of {marks[site]}, once that and the neighbours that rest on it are away: "
-                f"{held}, and {tau}")
+        return (
+            f"{other} could come at {site} in place of {marks[site]}, once that and the neighbours that rest on it "
+            f"are away: "
+            f"{held}, and {tau}"
+        )
     outside = beyond(system, site)
-    return f"{other} attaches at {site}, which has no mark ({held}, and {tau})" + (f"; that is outside the box, to the {outside}" if outside else "")
+    return f"{other} attaches at {site}, which has no mark ({held}, and {tau})" + (
+        f"; that is outside the box, to the {outside}" if outside else ""
+    )
 
 
 def refused_told(system: System, growth: Growth, event: list[str], words: list[str]) -> str:
     """What a `refused` line of a schedule means, by its event and what stands after all of them."""
     code = words[1]
     if code == "1":
-        return f"scout {event[1]} does not live" + (f", or scout {event[2]} does not, or the two are one" if event[0] == "join" else "")
+        return f"scout {event[1]} does not live" + (
+            f", or scout {event[2]} does not, or the two are one" if event[0] == "join" else ""
+        )
     if code == "3":
-        return f"{int(event[2]), int(event[3])} is outside the box: its corners are {system.box[:2]} and {system.box[2:]}"
+        return (
+            f"{int(event[2]), int(event[3])} is outside the box: its corners are {system.box[:2]} and {system.box[2:]}"
+        )
     if code == "4":
         return f"scout {event[1]} has one number alone, and none to give away"
     site = int(event[2]), int(event[3])
-    return (f"{event[4]} at {site} would be held with {words[2]} by the tiles that scout {event[1]} has seen, and {tau_told(system)}; "
-            f"the tiles that stand there after all events hold it by {held_told(growth, event[4], site)}: let the scout look at them first")
+    return (
+        f"{event[4]} at {site} would be held with {words[2]} by the tiles that scout {event[1]} has seen, and "
+        f"{tau_told(system)}; "
+        f"the tiles that stand there after all events hold it by {held_told(growth, event[4], site)}: let the scout "
+        f"look at them first"
+    )

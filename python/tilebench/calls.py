@@ -1,7 +1,7 @@
 """The commands of the program as calls: each takes the command's words as arguments, and answers what can be read.
 
-A system is a `System` or its text. A refusal is raised as `Refused`, with its line and cause; no program as `NoProgram`;
-want of memory and streams that fail as `ProgramFailed`. docs/FORMATS.md says what each command answers.
+A system is a `System` or its text. A refusal is raised as `Refused`, with its line and cause; no program as
+`NoProgram`; want of memory and streams that fail as `ProgramFailed`. docs/FORMATS.md says what each command answers.
 """
 from __future__ import annotations
 
@@ -49,7 +49,8 @@ def both(places: Places, system: System | None) -> tuple[System, str]:
 
 
 def grow(system: SystemOrText, *, workers: int = 1, choice: int = 0) -> Growth:
-    """Grows a system in its box, by 1 to 16 workers; `choice` (0 to 2^64 - 1) picks among types and branches that race."""
+    """Grows a system in its box, by 1 to 16 workers; `choice` (0 to 2^64 - 1) picks among types and branches that
+    race."""
     _, out = program.answer(["grow", "--workers", workers, "--choice", choice], text_of(system))
     return Growth.read(system_of(system), out)
 
@@ -119,8 +120,9 @@ def one_batch(systems: list[System], workers: int) -> Iterator[Growth]:
 
 @dataclass(frozen=True)
 class Check:
-    """Whether a sequence is legal, and the verdict where it is. `breach` is 1 where it does not begin with the seeds, 2 where
-    the place at `index` has a site that is taken, 3 where it is held by `pull` alone. It is true where it is legal."""
+    """Whether a sequence is legal, and the verdict where it is. `breach` is 1 where it does not begin with the seeds, 2
+    where the place at `index` has a site that is taken, 3 where it is held by `pull` alone. It is true where it is
+    legal."""
 
     is_legal: bool
     breach: int | None = None
@@ -145,7 +147,8 @@ def check(places: Places, system: System | None = None) -> Check:
 
 @dataclass(frozen=True)
 class Stuck:
-    """Tiles that can't grow: the site of a seed that is missing, or how many are `left` and the least site of theirs. It is false."""
+    """Tiles that can't grow: the site of a seed that is missing, or how many are `left` and the least site of theirs.
+    It is false."""
 
     words: str
     site: Site
@@ -181,8 +184,8 @@ def certify(places: Places, system: System | None = None) -> Certificate | Verdi
 
 @dataclass(frozen=True)
 class Verified:
-    """Whether a certificate is good; else the first `code` that fails, 1 to 7, its site, and what is told of it. It is true
-    where the certificate is good."""
+    """Whether a certificate is good; else the first `code` that fails, 1 to 7, its site, and what is told of it. It is
+    true where the certificate is good."""
 
     is_good: bool
     words: str
@@ -200,7 +203,9 @@ def verify(certificate: Certificate, *, workers: int = 1) -> Verified:
     words = out.decode().split()
     if is_good:
         return Verified(True, " ".join(words))
-    return Verified(False, " ".join(words), int(words[2]), (int(words[3]), int(words[4])), words[5] if len(words) > 5 else None)
+    return Verified(
+        False, " ".join(words), int(words[2]), (int(words[3]), int(words[4])), words[5] if len(words) > 5 else None
+    )
 
 
 # ---- what is scheduled, compiled and printed
@@ -208,8 +213,8 @@ def verify(certificate: Certificate, *, workers: int = 1) -> Verified:
 
 @dataclass(frozen=True)
 class Schedule:
-    """What each event of a schedule came to, as a line's words, and the tiles that stand after all. It is true where none was
-    refused."""
+    """What each event of a schedule came to, as a line's words, and the tiles that stand after all. It is true where
+    none was refused."""
 
     replies: list[str]
     growth: Growth = field(repr=False)
@@ -219,7 +224,8 @@ class Schedule:
 
 
 def schedule(system: SystemOrText, events: str | Iterable[str]) -> Schedule:
-    """Goes through events of scouts: `look W X Y`, `claim W X Y NAME`, `split W` and `join W V`, as a text or as lines."""
+    """Goes through events of scouts: `look W X Y`, `claim W X Y NAME`, `split W` and `join W V`, as a text or as
+    lines."""
     text = events if isinstance(events, str) else "".join(f"{it}\n" for it in events)
     _, out = program.answer(["schedule"], text_of(system) + text)
     told = out.decode().splitlines(True)
@@ -238,7 +244,8 @@ def quadrant(rule: Text) -> System:
 
 
 def counter(bits: int, start: int) -> System:
-    """The system of a binary counter of 2 to 32 bits that goes from a start to 2^bits - 1 and on to 0, two rows a number."""
+    """The system of a binary counter of 2 to 32 bits that goes from a start to 2^bits - 1 and on to 0, two rows a
+    number."""
     return System.read(program.answer(["counter", bits, start])[1])
 
 

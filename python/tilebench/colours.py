@@ -1,34 +1,70 @@
-"""Colours by name: the same name has the same colour in every picture, whatever else the system has. The page does the same."""
+"""Colours by name: a name has the same colour in every picture, whatever else the system has. The page does the same,
+in page/src/colours.js."""
 from __future__ import annotations
 
-import colorsys
+import functools
+import math
 
 # a side without a glue
-PALE = "#e9edf2"
-SATURATIONS, LIGHTS = (45, 60, 75), (36, 50, 64, 78)
+BARE = "#b8c0c8"
+# how many hues there are, and for each lightness and chroma a round of them
+HUES, SHADES = 24, ((0.8, 0.085), (0.68, 0.105), (0.88, 0.06))
+# which of all ways to mix names keeps the colours of the examples apart
+SALT = 34727
 U32 = 0xFFFFFFFF
 
 
-def scrambled(name: str) -> int:
-    """32 bits that a name makes: FNV-1a over its bytes, and a last mix."""
-    found = 2166136261
+def channel(linear: float) -> int:
+    """A part of a colour in sRGB, 0 to 255."""
+    it = min(1.0, max(0.0, linear))
+    return math.floor(255 * (12.92 * it if it <= 0.0031308 else 1.055 * it ** (1 / 2.4) - 0.055) + 0.5)
+
+
+def oklch(light: float, chroma: float, hue: float) -> str:
+    """The colour of a lightness, a chroma and a hue (in degrees) in Oklch, as #rrggbb."""
+    a, b = chroma * math.cos(math.radians(hue)), chroma * math.sin(math.radians(hue))
+    long, middle, short = (
+        it**3
+        for it in (
+            light + 0.3963377774 * a + 0.2158037573 * b,
+            light - 0.1055613458 * a - 0.0638541728 * b,
+            light - 0.0894841775 * a - 1.291485548 * b,
+        )
+    )
+    linear = (
+        4.0767416621 * long - 3.3077115913 * middle + 0.2309699292 * short,
+        -1.2684380046 * long + 2.6097574011 * middle - 0.3413193965 * short,
+        -0.0041960863 * long - 0.7034186147 * middle + 1.707614701 * short,
+    )
+    return "#" + "".join(f"{channel(it):02x}" for it in linear)
+
+
+@functools.lru_cache(None)
+def palette() -> list[str]:
+    """All colours."""
+    return [
+        oklch(light, chroma, (at + shade / len(SHADES)) * 360 / HUES + 20)
+        for shade, (light, chroma) in enumerate(SHADES)
+        for at in range(HUES)
+    ]
+
+
+def mixed(name: str) -> int:
+    """32 bits that a name makes: FNV-1a over its bytes, and a mix, so that names which differ by one sign are far
+    apart."""
+    it = 0x811C9DC5
     for byte in name.encode():
-        found = (found ^ byte) * 16777619 & U32
-    found = (found ^ found >> 16) * 0x85EBCA6B & U32
-    found = (found ^ found >> 13) * 0xC2B2AE35 & U32
-    return found ^ found >> 16
+        it = (it ^ byte) * 0x01000193 & U32
+    it = (it ^ it >> 16 ^ SALT) * 0x7FEB352D & U32
+    it = (it ^ it >> 15) * 0x846CA68B & U32
+    return it ^ it >> 16
 
 
 def colour_of(name: str, wished: dict[str, str] | None = None) -> str:
     """The colour of a type, or of a glue, as #rrggbb: the one that is wished for, or the one that its name makes."""
     if wished and name in wished:
         return wished[name]
-    if name == "-":
-        return PALE
-    bits = scrambled(name)
-    light, saturation = LIGHTS[bits >> 8 & 3] / 100, SATURATIONS[(bits & 255) % 3] / 100
-    parts = colorsys.hls_to_rgb((bits >> 16) / 65536, light, saturation)
-    return "#" + "".join(f"{round(255 * it):02x}" for it in parts)
+    return BARE if name == "-" else palette()[mixed(name) % len(palette())]
 
 
 def parts_of(colour: str) -> tuple[int, int, int]:
@@ -39,4 +75,4 @@ def parts_of(colour: str) -> tuple[int, int, int]:
 def is_dark(colour: str) -> bool:
     """Whether light letters are to stand on it."""
     red, green, blue = parts_of(colour)
-    return 0.3 * red + 0.59 * green + 0.11 * blue < 105
+    return 0.299 * red + 0.587 * green + 0.114 * blue < 128

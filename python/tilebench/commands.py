@@ -3,8 +3,8 @@ from typing import NamedTuple, Optional
 
 
 class Argument(NamedTuple):
-    """A number among the words: its name, its range, and what is meant where it is left out. An option can be left out, as
-    --NAME; an argument without a default is a word of its own."""
+    """A number among the words: its name, its range, and what is meant where it is left out. An option can be left out,
+    as --NAME; an argument without a default is a word of its own."""
 
     name: str
     least: int

@@ -1,8 +1,8 @@
 """Where a growth breaks local determinism: all sites of each condition, grouped by the pair of types.
 
-1: a tile is held by more than the temperature as it attaches. 2: another type attaches at its site once the tile and the
-neighbours that rest on it are away. 3: a type attaches at a site that is empty. Beside that, the open sites that are offered
-enough, and that no type takes.
+1: a tile is held by more than the temperature as it attaches. 2: another type attaches at its site once the tile and
+the neighbours that rest on it are away. 3: a type attaches at a site that is empty. Beside that, the open sites that
+are offered enough, and that no type takes.
 """
 from __future__ import annotations
 
@@ -18,9 +18,9 @@ from tilebench.system import SIDES, Sides, Site, System
 
 @dataclass
 class Break:
-    """Sites at which one condition fails for one pair of types: the `name` of the tile there (None at an empty site), the
-    `other` type that attaches there (None at condition 1), the sum of the bonds, and these in words, at the first site. `count`
-    is how many sites there are; `cells` has their numbers in the `grid`."""
+    """Sites at which one condition fails for one pair of types: the `name` of the tile there (None at an empty site),
+    the `other` type that attaches there (None at condition 1), the sum of the bonds, and these in words, at the first
+    site. `count` is how many sites there are; `cells` has their numbers in the `grid`."""
 
     condition: int
     name: str | None
@@ -46,7 +46,8 @@ class Break:
 
 @dataclass
 class Untaken:
-    """Open sites that glues offer the temperature or more, and at which no type attaches: what faces them, and in words."""
+    """Open sites that glues offer the temperature or more, and at which no type attaches: what faces them, and in
+    words."""
 
     facing: Sides
     pull: int
@@ -78,7 +79,11 @@ def facing_without(growth: Growth, site: Site, away: set[int]) -> Sides:
 def later_sides(growth: Growth, site: Site) -> set[int]:
     """The sides at which a tile stands that came later, or none."""
     turn, (x, y) = growth.turn(site), site
-    return {side for side, (a, b) in enumerate(((0, 1), (1, 0), (0, -1), (-1, 0))) if not 0 <= growth.turn((x + a, y + b)) < turn}
+    return {
+        side
+        for side, (a, b) in enumerate(((0, 1), (1, 0), (0, -1), (-1, 0)))
+        if not 0 <= growth.turn((x + a, y + b)) < turn
+    }
 
 
 def facing_before(growth: Growth, site: Site) -> Sides:
@@ -102,7 +107,9 @@ def broken_by(grid: Grid, signature: Signature) -> list[Break]:
     before = [it if is_earlier else None for it, is_earlier in zip(facing, earlier)]
     pull = sum(it for it, is_earlier in zip(bonds, earlier) if is_earlier)
     if pull != system.tau:
-        found.append(Break(1, name, None, pull, bonds_told(system, name, (before[0], before[1], before[2], before[3])), grid))
+        found.append(
+            Break(1, name, None, pull, bonds_told(system, name, (before[0], before[1], before[2], before[3])), grid)
+        )
     left = [it if is_earlier or not bond else None for it, is_earlier, bond in zip(facing, earlier, bonds)]
     alone = left[0], left[1], left[2], left[3]
     for other in system.held_by(alone):
@@ -153,14 +160,18 @@ def breaks(growth: Growth) -> list[Break]:
 
 def offer_of(system: System, facing: Sides) -> tuple[int, str]:
     """What glues offer an empty site at most, and in words."""
-    told = [(SIDES[side], glue, system.strongest(glue)) for side, glue in enumerate(facing) if glue is not None and system.strongest(glue)]
+    told = [
+        (SIDES[side], glue, system.strongest(glue))
+        for side, glue in enumerate(facing)
+        if glue is not None and system.strongest(glue)
+    ]
     pull = sum(strength for _, _, strength in told)
     return pull, f"{' + '.join(f'{side} {glue} {strength}' for side, glue, strength in told)} = {pull}"
 
 
 def untaken(growth: Growth) -> list[Untaken]:
-    """The open sites in the box that are offered the temperature or more and that no type takes, by what they are offered:
-    those that are offered it from most sides first."""
+    """The open sites in the box that are offered the temperature or more and that no type takes, by what they are
+    offered: those that are offered it from most sides first."""
     system = growth.system
     found: dict[Sides, Untaken] = {}
     for site in growth.grid.open_sites():

@@ -30,7 +30,8 @@ def complain(name: str, why: object) -> int:
 
 
 def run(name: str, main: Callable[[], int]) -> None:
-    """Runs a tool. It ends quietly where whoever reads its output has enough of it, and with status 2 where something is amiss."""
+    """Runs a tool. It ends quietly where whoever reads its output has enough of it, and with status 2 where something
+    is amiss."""
     try:
         status = main()
         sys.stdout.flush()

@@ -1,7 +1,7 @@
 """Pictures of a growth: letters or colours for the terminal, an SVG, and a plot by matplotlib.
 
-Tiles are told apart by their type, or by the glue on one side. Only the part of the box that has tiles is shown, the highest
-row first.
+Tiles are told apart by their type, or by the glue on one side. Only the part of the box that has tiles is shown, the
+highest row first.
 """
 from __future__ import annotations
 
@@ -20,7 +20,8 @@ MOST_WORDS, LEAST_CELL = 64, 24
 
 
 class View:
-    """What of a growth is shown: what tiles are told apart by, for each type and in the system's order, and the extent."""
+    """What of a growth is shown: what tiles are told apart by, for each type and in the system's order, and the
+    extent."""
 
     def __init__(self, growth: Growth, by: str | None = None):
         if not len(growth):
@@ -95,7 +96,10 @@ def written(text: str, x: float, y: float, room: float, largest: float, turn: st
 
 def tile_words(system: System, name: str, x: int, y: int, colour: str) -> Iterator[str]:
     """The outline of a tile, its name in its middle, and its glues along its sides: light on a dark tile."""
-    yield f'<g fill="{"#fff" if is_dark(colour) else "#000"}"><rect x="{x}" y="{y}" width="1" height="1" fill="none" stroke="#000" '
+    yield (
+        f'<g fill="{"#fff" if is_dark(colour) else "#000"}"><rect x="{x}" y="{y}" width="1" height="1" fill="none" '
+        f'stroke="#000" '
+    )
     yield 'stroke-opacity="0.3" stroke-width="0.02"/>'
     yield written(name, x + 0.5, y + 0.5, 0.62, 0.3)
     for side, glue in enumerate(system.types[name]):
@@ -111,8 +115,11 @@ def seed_rims(view: View, cell: int, has_words: bool) -> Iterator[str]:
     corners = ' stroke-dasharray="0.15 0.5 0.15 0"' if has_words else ""
     for (x, y), _ in view.system.seeds if cell >= 4 else ():
         if (x, y) in view.growth:
-            yield (f'<rect x="{x - view.x0 + 0.1:g}" y="{view.y1 - y + 0.1:g}" width="0.8" height="0.8" fill="none" stroke="#000" '
-                   f'stroke-width="{0.2 if cell < 16 else 0.06}"{corners}/>\n')
+            yield (
+                f'<rect x="{x - view.x0 + 0.1:g}" y="{view.y1 - y + 0.1:g}" width="0.8" height="0.8" fill="none" '
+                f'stroke="#000" '
+                f'stroke-width="{0.2 if cell < 16 else 0.06}"{corners}/>\n'
+            )
 
 
 class Legend:
@@ -131,9 +138,13 @@ class Legend:
         for at, kind in enumerate(self.view.kinds if self.lines else ()):
             x, y = at % self.columns * wide, self.view.high + (8 + at // self.columns * 20) / cell
             long = min(wide - 20 / cell, len(kind) * 7.2 / cell)
-            yield (f'<rect x="{x:g}" y="{y:g}" width="{12 / cell:g}" height="{12 / cell:g}" fill="{colours[kind]}" stroke="#888" '
-                   f'stroke-width="{1 / cell:g}"/>\n<text x="{x + 16 / cell:g}" y="{y + 7 / cell:g}" textLength="{long:g}" '
-                   f'lengthAdjust="spacingAndGlyphs">{escaped(kind)}</text>\n')
+            yield (
+                f'<rect x="{x:g}" y="{y:g}" width="{12 / cell:g}" height="{12 / cell:g}" fill="{colours[kind]}" '
+                f'stroke="#888" '
+                f'stroke-width="{1 / cell:g}"/>\n<text x="{x + 16 / cell:g}" y="{y + 7 / cell:g}" '
+                f'textLength="{long:g}" '
+                f'lengthAdjust="spacingAndGlyphs">{escaped(kind)}</text>\n'
+            )
         if self.lines:
             yield "</g>\n"
 
@@ -146,8 +157,11 @@ def svg_parts(growth: Growth, cell: int | None = None, by: str | None = None) ->
     has_words = side <= MOST_WORDS and size >= (LEAST_CELL if cell else 40)
     legend, colours = Legend(view, size), view.colours()
     high = view.high + legend.high
-    yield (f'<svg xmlns="http://www.w3.org/2000/svg" width="{view.wide * size}" height="{round(high * size)}" viewBox="0 0 {view.wide} {high:g}" '
-           f'shape-rendering="crispEdges">\n<rect width="{view.wide}" height="{high:g}" fill="{EMPTY}"/>\n')
+    yield (
+        f'<svg xmlns="http://www.w3.org/2000/svg" width="{view.wide * size}" height="{round(high * size)}" viewBox="0 '
+        f'0 {view.wide} {high:g}" '
+        f'shape-rendering="crispEdges">\n<rect width="{view.wide}" height="{high:g}" fill="{EMPTY}"/>\n'
+    )
     for kind, path in paths(view).items():
         yield f'<path fill="{colours[kind]}" d="{path}"/>\n'
     yield '<g font-family="monospace" text-anchor="middle" dominant-baseline="central">\n'
@@ -162,7 +176,8 @@ def svg_parts(growth: Growth, cell: int | None = None, by: str | None = None) ->
 
 
 def svg(growth: Growth, cell: int | None = None, by: str | None = None) -> str:
-    """An SVG picture. `cell` is the size of a tile in pixels; with 24 or more, in up to 64 by 64 sites, names and glues are written."""
+    """An SVG picture. `cell` is the size of a tile in pixels; with 24 or more, in up to 64 by 64 sites, names and glues
+    are written."""
     return "".join(svg_parts(growth, cell, by))
 
 
@@ -179,6 +194,8 @@ def plot(growth: Growth, axes: Any = None) -> Any:
     colours = [EMPTY, *(colour_of(it, view.system.colours) for it in view.system.types)]
     rows = [[it + 1 for it in row] for row in view.rows()]
     extent = view.x0 - 0.5, view.x1 + 0.5, view.y0 - 0.5, view.y1 + 0.5
-    axes.imshow(rows, cmap=ListedColormap(colours), vmin=0, vmax=len(colours) - 1, extent=extent, interpolation="nearest")
+    axes.imshow(
+        rows, cmap=ListedColormap(colours), vmin=0, vmax=len(colours) - 1, extent=extent, interpolation="nearest"
+    )
     axes.set_aspect("equal")
     return axes

@@ -1,7 +1,8 @@
 """One change of a system that makes it grow as it seems to be meant: all types placed, and nothing else can grow.
 
-The changes are tried by the program, many in one batch, the simplest first: another temperature, another strength, two sides
-exchanged, a larger box, a pair, a seed, one type less, another glue on one side. What is told is what the program said of them.
+The changes are tried by the program, many in one batch, the simplest first: another temperature, another strength, two
+sides exchanged, a larger box, a pair, a seed, one type less, another glue on one side. What is told is what the program
+said of them.
 """
 from __future__ import annotations
 
@@ -17,7 +18,8 @@ from tilebench.growth import Growth
 from tilebench.system import SIDES, System
 from tilebench.wider import cut_sides, missing_room, widened
 
-# up to how many sites a box may have for changes to be tried, those of one kind have together, and how many changes are told
+# up to how many sites a box may have for changes to be tried, those of one kind have together, and how many changes are
+# told
 MOST_AREA, MOST_TRIED, MOST_TOLD = 1 << 16, 1 << 22, 3
 # how a change begins, in words, that takes a type away
 LESS = "without "
@@ -47,8 +49,11 @@ class Lines:
         return next(at for at, line in enumerate(self.lines) if line.split()[:1] == [keyword])
 
     def with_line(self, at: int, line: str, more: str | None = None) -> str:
-        """The text with another line at a number; without it where the line is empty, with one more behind it if there is more."""
-        return "\n".join([*self.lines[:at], *([line] if line else []), *([more] if more else []), *self.lines[at + 1 :]])
+        """The text with another line at a number; without it where the line is empty, with one more behind it if there
+        is more."""
+        return "\n".join(
+            [*self.lines[:at], *([line] if line else []), *([more] if more else []), *self.lines[at + 1 :]]
+        )
 
     def with_sides(self, name: str, sides: list[str]) -> str:
         """The text with other sides of a type."""
@@ -75,7 +80,11 @@ def other_orders(system: System, text: Lines, growth: Growth) -> Iterator[Edit]:
             sides = sides_of(system, name)
             lines[text.at("tile", name)] = f"tile {name} {' '.join(sides[order.index(side)] for side in range(4))}"
         told = ", ".join(SIDES[it] for it in order)
-        yield Edit(f"with the sides of all tile lines read as {told} (they are north, east, south, west)", "order", "\n".join(lines))
+        yield Edit(
+            f"with the sides of all tile lines read as {told} (they are north, east, south, west)",
+            "order",
+            "\n".join(lines),
+        )
 
 
 def other_strengths(system: System, text: Lines, growth: Growth) -> Iterator[Edit]:
@@ -83,12 +92,20 @@ def other_strengths(system: System, text: Lines, growth: Growth) -> Iterator[Edi
     for glue, own in system.glues.items():
         for strength in range(1, most + 1):
             if strength != own:
-                yield Edit(f"with strength {strength} of glue {glue} (it is {own})", glue, text.with_line(text.at("glue", glue), f"glue {glue} {strength}"))
+                yield Edit(
+                    f"with strength {strength} of glue {glue} (it is {own})",
+                    glue,
+                    text.with_line(text.at("glue", glue), f"glue {glue} {strength}"),
+                )
     for (one, other), own in system.pairs.items():
         for strength in range(1, most + 1):
             if strength != own:
                 line = f"pair {one} {other} {strength}"
-                yield Edit(f"with strength {strength} of the pair {one} {other} (it is {own})", one, text.with_line(text.at("pair", (one, other)), line))
+                yield Edit(
+                    f"with strength {strength} of the pair {one} {other} (it is {own})",
+                    one,
+                    text.with_line(text.at("pair", (one, other)), line),
+                )
 
 
 def exchanged_sides(system: System, text: Lines, growth: Growth) -> Iterator[Edit]:
@@ -97,12 +114,19 @@ def exchanged_sides(system: System, text: Lines, growth: Growth) -> Iterator[Edi
             sides = sides_of(system, name)
             if sides[one] != sides[other]:
                 sides[one], sides[other] = sides[other], sides[one]
-                yield Edit(f"with the {SIDES[one]} and {SIDES[other]} sides of {name} exchanged", name, text.with_sides(name, sides))
+                yield Edit(
+                    f"with the {SIDES[one]} and {SIDES[other]} sides of {name} exchanged",
+                    name,
+                    text.with_sides(name, sides),
+                )
 
 
 def larger_box(system: System, text: Lines, growth: Growth) -> Iterator[Edit]:
-    """A larger box where this one cuts the growth off; or another type as a seed, which has the growth begin elsewhere."""
-    larger = widened(system, cut_sides(growth)) if growth.closed is not None and growth.closed.site is not None else None
+    """A larger box where this one cuts the growth off; or another type as a seed, which has the growth begin
+    elsewhere."""
+    larger = (
+        widened(system, cut_sides(growth)) if growth.closed is not None and growth.closed.site is not None else None
+    )
     if larger is None:
         return
     yield Edit("with a larger box", "box", text.with_line(text.first("box"), "box {} {} {} {}".format(*larger.box)))
@@ -114,7 +138,11 @@ def other_types_of_seeds(system: System, text: Lines, growth: Growth) -> Iterato
         for name in system.types:
             if name != own:
                 line = f"seed {x} {y} {name}"
-                yield Edit(f"with {name} in place of {own} as the seed at {x, y}", name, text.with_line(text.at("seed", (x, y)), line))
+                yield Edit(
+                    f"with {name} in place of {own} as the seed at {x, y}",
+                    name,
+                    text.with_line(text.at("seed", (x, y)), line),
+                )
 
 
 def further_pairs(system: System, text: Lines, growth: Growth) -> Iterator[Edit]:
@@ -143,7 +171,11 @@ def one_type_less(system: System, text: Lines, growth: Growth) -> Iterator[Edit]
     """One of two types that take one input away."""
     seeds = {name for _, name in system.seeds}
     is_rival = growth.verdict is not None and growth.verdict.condition == 2
-    names = {name for it in breaks_of_tiles(growth) if it.condition == 2 for name in (it.name, it.other)} if is_rival else set()
+    names = (
+        {name for it in breaks_of_tiles(growth) if it.condition == 2 for name in (it.name, it.other)}
+        if is_rival
+        else set()
+    )
     for name in system.types:
         if name in names - seeds:
             yield Edit(f"{LESS}{name}", name, text.with_line(text.at("tile", name), ""))
@@ -164,8 +196,8 @@ Kind = Callable[[System, Lines, Growth], Iterator[Edit]]
 
 
 def kinds(growth: Growth) -> list[Kind]:
-    """The kinds of changes in the order in which they are tried. Where an input is offered that no type takes, sides come before
-    strengths: what is too weak offers too little."""
+    """The kinds of changes in the order in which they are tried. Where an input is offered that no type takes, sides
+    come before strengths: what is too weak offers too little."""
     two: list[Kind] = [exchanged_sides, other_strengths] if untaken(growth) else [other_strengths, exchanged_sides]
     return [*two, other_temperatures, other_orders, larger_box, further_pairs, one_type_less, other_sides, other_seeds]
 
@@ -183,8 +215,8 @@ def answers(texts: list[str], area: int) -> Iterator[bytes]:
 
 
 def is_good(edit: Edit, answer: bytes, names: set[bytes]) -> Growth | None:
-    """The growth, where nothing else can grow, no type is missing, and no input that several sides offer is left open. `names` are
-    those of the system, of which most answers lack some."""
+    """The growth, where nothing else can grow, no type is missing, and no input that several sides offer is left open.
+    `names` are those of the system, of which most answers lack some."""
     if b"\nunique yes\n" not in answer[-200:] and b"\nunique no 3" not in answer[-200:]:
         return None
     away = {edit.subject.encode()} if edit.told.startswith(LESS) else set()
@@ -202,7 +234,11 @@ def changes(before: Growth, after: Growth) -> int:
 
 def least(growth: Growth, found: list[tuple[Edit, Growth]]) -> list[tuple[Edit, Growth]]:
     """The changes after which most of what had grown grows again: what grew before a slip is mostly as it is meant."""
-    boxed = [it for it in found if it[1].system.box == growth.system.box and len(it[1].system.types) == len(growth.system.types)]
+    boxed = [
+        it
+        for it in found
+        if it[1].system.box == growth.system.box and len(it[1].system.types) == len(growth.system.types)
+    ]
     many = {edit: changes(growth, after) for edit, after in boxed}
     return [it for it in found if it[0] not in many or many[it[0]] == min(many.values())]
 
@@ -210,8 +246,8 @@ def least(growth: Growth, found: list[tuple[Edit, Growth]]) -> list[tuple[Edit, 
 def good_edits(growth: Growth) -> list[str]:
     """The changes of the simplest kind that mend the growth, in words, where they are few.
 
-    Of those with which the verdict is a yes it is those that change least of what grew. A growth that its box cuts off is mended by
-    what ends it, where there is such a change, and else by what places all types."""
+    Of those with which the verdict is a yes it is those that change least of what grew. A growth that its box cuts off
+    is mended by what ends it, where there is such a change, and else by what places all types."""
     system = growth.system.copy()
     text, (x0, y0, x1, y1) = Lines(system), system.box
     names, area = {it.encode() for it in system.types}, (x1 - x0 + 1) * (y1 - y0 + 1)
@@ -237,7 +273,10 @@ def few(found: list[tuple[Edit, Growth]], system: System) -> list[str]:
     """The changes in words where they are few: as one line, the ones or the others."""
     if not found or len(found) > MOST_TOLD:
         return []
-    told = [f"with the box larger {missing_room(system.box, grown)}" if edit.subject == "box" else edit.told for edit, grown in found]
+    told = [
+        f"with the box larger {missing_room(system.box, grown)}" if edit.subject == "box" else edit.told
+        for edit, grown in found
+    ]
     types = "all other types" if all(it.startswith(LESS) for it in told) else "all types"
     said = "the verdict is a yes" if found[0][1].verdict else "within the box nothing else can grow"
     return [f"{', or '.join(told)}: {types} are placed then, and {said}"]

@@ -1,4 +1,5 @@
-"""What an answer of the program says, in words: which tiles and glues hold a site, what a rival is held by, what is missing."""
+"""What an answer of the program says, in words: which tiles and glues hold a site, what a rival is held by, what is
+missing."""
 from __future__ import annotations
 
 from collections.abc import Iterator
@@ -38,15 +39,19 @@ def breaks_told(growth: Growth) -> Iterator[str]:
     told = []
     for it in found:
         many = f"at {it.count} sites: " if it.count > 1 else "at "
-        what = {1: f"{it.name} is held by more than it needs", 2: f"{it.other} for {it.name}", 3: f"{it.other} attaches"}[it.condition]
+        what = {
+            1: f"{it.name} is held by more than it needs",
+            2: f"{it.other} for {it.name}",
+            3: f"{it.other} attaches",
+        }[it.condition]
         told.append(f"{what} {many}{sites_told(it)} ({it.bonds})")
     yield "in all:"
     yield from (f"  {it}" for it in named(told, "pairs of types"))
 
 
 def untaken_told(growth: Growth) -> Iterator[str]:
-    """The open sites that are offered enough and that no type takes. One strong glue that no type takes often ends a pattern on
-    purpose: it is told where types are missing alone."""
+    """The open sites that are offered enough and that no type takes. One strong glue that no type takes often ends a
+    pattern on purpose: it is told where types are missing alone."""
     if is_compiled(growth.system):
         return
     found = [it for it in conditions.untaken(growth) if it.count > 1 or growth.unplaced]
@@ -133,7 +138,9 @@ def answer_told(command: str, text: bytes, answer: bytes) -> Iterator[str]:
         many = answer.count(b"\n")
         yield f"a certificate of {many} tiles: nothing else can grow"
         return
-    growth = Growth.read(system, rest, number + 1) if command in ("check", "certify", "replay", "verify") else Growth(system)
+    growth = (
+        Growth.read(system, rest, number + 1) if command in ("check", "certify", "replay", "verify") else Growth(system)
+    )
     if command == "certify" and answer.startswith(b"unique "):
         # (the verdict is that on the order of replay)
         order = calls.replay(growth)

@@ -13,7 +13,8 @@ class NoProgram(TilebenchError, OSError):
 
 
 class ProgramFailed(TilebenchError):
-    """The program ended with a status that is no answer: 4 to 6 (no input, no output, no memory), or a signal below 0."""
+    """The program ended with a status that is no answer: 4 to 6 (no input, no output, no memory), or a signal below
+    0."""
 
     def __init__(self, status: int, said: str):
         super().__init__(f"status {status}: {said}" if said else f"status {status}")
@@ -23,12 +24,14 @@ class ProgramFailed(TilebenchError):
 class Refused(TilebenchError):
     """Words or a text that were refused.
 
-    `line` is the number of the line, from 1 on (0 for the whole input, None for words and for calls that make a system);
-    `cause` the cause's name, as `UnknownName`; `words` the program's line, as `refused text line 5 UnknownName`; `text` the
-    text that was refused and `command` the command that read it, where there are such.
+    `line` is the number of the line, from 1 on (0 for the whole input, None for words and for calls that make a
+    system); `cause` the cause's name, as `UnknownName`; `words` the program's line, as `refused text line 5
+    UnknownName`; `text` the text that was refused and `command` the command that read it, where there are such.
     """
 
-    def __init__(self, cause: str, line: int | None = None, why: str = "", *, text: str | None = None, command: str = "grow"):
+    def __init__(
+        self, cause: str, line: int | None = None, why: str = "", *, text: str | None = None, command: str = "grow"
+    ):
         self.cause, self.line, self.why, self.text, self.command = cause, line, why, text, command
         self.words = f"refused words {cause}" if line is None else f"refused text line {line} {cause}"
         super().__init__(self.words)

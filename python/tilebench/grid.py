@@ -69,7 +69,8 @@ class Grid:
                 yield low.bit_length() - 1 + self.west, row + self.south
 
     def signatures(self, order: array[int]) -> Iterator[Any]:
-        """For each cell within the border a Signature: the type there, those around it, and which of these came earlier."""
+        """For each cell within the border a Signature: the type there, those around it, and which of these came
+        earlier."""
         wide, cells = self.wide, self.cells
         end = len(cells) - wide
         beside = [(at, cells[wide + at : end + at]) for at in (wide, 1, -wide, -1)]

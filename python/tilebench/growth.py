@@ -40,8 +40,8 @@ class Closed:
 class Verdict:
     """The verdict on local determinism. It is true where it is a yes.
 
-    A no has the `condition` that fails, 1 to 3, the `site`, and the cause: for 1 the `pull` with which the tile is held, for 2
-    and 3 the `name` of the type that attaches there.
+    A no has the `condition` that fails, 1 to 3, the `site`, and the cause: for 1 the `pull` with which the tile is
+    held, for 2 and 3 the `name` of the type that attaches there.
     """
 
     words: str
@@ -85,9 +85,9 @@ class Numbers(dict[bytes, int]):
 class Growth:
     """An assembly as a sequence of places.
 
-    `xs`, `ys` and `kinds` are arrays of whole numbers, one entry for each tile in the order of its attachment: the site, and
-    the index of its type in `system.names`. `closed` and `verdict` are what the program said, None where it said nothing;
-    `frames` how many of the places of `seen` each frame has, where the growth was watched.
+    `xs`, `ys` and `kinds` are arrays of whole numbers, one entry for each tile in the order of its attachment: the
+    site, and the index of its type in `system.names`. `closed` and `verdict` are what the program said, None where it
+    said nothing; `frames` how many of the places of `seen` each frame has, where the growth was watched.
     """
 
     def __init__(self, system: System):
@@ -108,7 +108,8 @@ class Growth:
 
     @classmethod
     def read(cls, system: System, text: str | bytes, first: int = 1) -> Growth:
-        """The growth that a text behind its system says, or the `Refused` line; `first` is the number of its first line."""
+        """The growth that a text behind its system says, or the `Refused` line; `first` is the number of its first
+        line."""
         return Reader(system, first).read(text.encode() if isinstance(text, str) else text)
 
     @classmethod
@@ -193,13 +194,15 @@ class Growth:
     # ---- what is shown of it, by the modules that do
 
     def explain(self) -> str:
-        """What was said of the growth, in words: where a condition fails, what holds the tile there, and what is missing."""
+        """What was said of the growth, in words: where a condition fails, what holds the tile there, and what is
+        missing."""
         from tilebench.explain import growth_told
 
         return "\n".join(growth_told(self))
 
     def svg(self, cell: int | None = None, by: str | None = None) -> str:
-        """A picture, with `cell` pixels to a tile; `by` a side tells tiles apart by the glue there. See `drawing.svg`."""
+        """A picture, with `cell` pixels to a tile; `by` a side tells tiles apart by the glue there. See
+        `drawing.svg`."""
         from tilebench.drawing import svg
 
         return svg(self, cell=cell, by=by)
@@ -223,7 +226,8 @@ class Growth:
 
 
 class Certificate(Growth):
-    """A growth with what a certificate states of each tile: `sides`, the letters of NESW by which it came, and its `ranks`."""
+    """A growth with what a certificate states of each tile: `sides`, the letters of NESW by which it came, and its
+    `ranks`."""
 
     def __init__(self, system: System):
         super().__init__(system)
@@ -240,7 +244,9 @@ class Certificate(Growth):
     def text(self) -> str:
         """The `mark` lines."""
         told = zip(self, self.sides, self.ranks)
-        return "".join("mark %d %d %s %s %d\n" % (x, y, name, sides or "-", rank) for ((x, y), name), sides, rank in told)
+        return "".join(
+            "mark %d %d %s %s %d\n" % (x, y, name, sides or "-", rank) for ((x, y), name), sides, rank in told
+        )
 
 
 class Reader:
@@ -270,7 +276,9 @@ class Reader:
         if len(words) != 4 * many or words[::4].count(b"place") != many or isinstance(growth, Certificate):
             return False
         try:
-            xs, ys = array("i", map(self.numbers.__getitem__, words[1::4])), array("i", map(self.numbers.__getitem__, words[2::4]))
+            xs, ys = array("i", map(self.numbers.__getitem__, words[1::4])), array(
+                "i", map(self.numbers.__getitem__, words[2::4])
+            )
             kinds = array("i", map(self.kinds.__getitem__, words[3::4]))
         except (KeyError, ValueError, OverflowError):
             return False
@@ -318,4 +326,8 @@ class Reader:
         xs, ys = self.growth.xs, self.growth.ys
         if xs and not (x0 <= min(xs) and max(xs) <= x1 and y0 <= min(ys) and max(ys) <= y1):
             at = next(at for at, site in enumerate(zip(xs, ys)) if not self.system.in_box(site))
-            raise Refused("OutsideBox", None, f"place {at} is at {xs[at], ys[at]}, and the corners of the box are {x0, y0} and {x1, y1}")
+            raise Refused(
+                "OutsideBox",
+                None,
+                f"place {at} is at {xs[at], ys[at]}, and the corners of the box are {x0, y0} and {x1, y1}",
+            )

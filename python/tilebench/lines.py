@@ -1,11 +1,12 @@
-"""The lines of texts, as docs/FORMATS.md has them: words parted by spaces, remarks and empty lines skipped, numbered from 1."""
+"""The lines of texts, as docs/FORMATS.md has them: words parted by spaces, remarks and empty lines skipped, numbered
+from 1."""
 from __future__ import annotations
 
 import re
 from collections.abc import Iterator
 
 Row = tuple[int, list[str]]
-COLOUR = re.compile(r"^ *# *colour +([A-Za-z0-9_:.-]{1,40}) +(#[0-9a-fA-F]{6}) *$", re.M)
+COLOUR = re.compile(r"^ *# *colou?r +([A-Za-z0-9_:.-]{1,40}) +(#[0-9a-fA-F]{6}) *$", re.M)
 
 
 def as_text(text: str | bytes) -> str:

@@ -17,11 +17,19 @@ SHOWN, TRIES = 12, 32
 # how many pairs of types that take one input are told
 MOST_PAIRS = 3
 # the names that the compilers give to types: of a machine, of a two-input rule, of a counter
-COMPILED = [re.compile(it) for it in (r"(?:t:\d+|[aRL]:\w+:\w+|[rl]:\w+)", r"(?:o|[ab]:\d+|q:\w+:\w+)", r"(?:t:\d+|(?:ie|cw|cm|ce):[01]|(?:im|iw):[01]{2})")]
+COMPILED = [
+    re.compile(it)
+    for it in (
+        r"(?:t:\d+|[aRL]:\w+:\w+|[rl]:\w+)",
+        r"(?:o|[ab]:\d+|q:\w+:\w+)",
+        r"(?:t:\d+|(?:ie|cw|cm|ce):[01]|(?:im|iw):[01]{2})",
+    )
+]
 
 
 def is_compiled(system: System) -> bool:
-    """Whether a compiler made the system: it makes types and glues that a run never needs, and ends patterns on purpose."""
+    """Whether a compiler made the system: it makes types and glues that a run never needs, and ends patterns on
+    purpose."""
     return len(system.types) > 2 and any(all(map(it.fullmatch, system.types)) for it in COMPILED)
 
 
@@ -36,7 +44,8 @@ def bearers(system: System) -> dict[str, list[set[str]]]:
 
 
 def glues_told(system: System, is_yes: bool) -> Iterator[str]:
-    """Glues that bond with nothing. (Where the verdict is a yes those on one side only mostly end a pattern on purpose.)"""
+    """Glues that bond with nothing. (Where the verdict is a yes those on one side only mostly end a pattern on
+    purpose.)"""
     borne = bearers(system)
     unborne = [it for it, sides in borne.items() if not any(sides)]
     if unborne:
@@ -44,7 +53,10 @@ def glues_told(system: System, is_yes: bool) -> Iterator[str]:
     for glue, sides in borne.items() if not is_yes else ():
         for side in range(4):
             if sides[side] and not any(borne[it][opposite(side)] for it in system.partners(glue)):
-                yield f"glue {glue} stands on the {SIDES[side]} side of {listed(sorted(sides[side]))}, and on no {SIDES[opposite(side)]} side"
+                yield (
+                    f"glue {glue} stands on the {SIDES[side]} side of {listed(sorted(sides[side]))}, and on no "
+                    f"{SIDES[opposite(side)]} side"
+                )
     none = [it for it, sides in borne.items() if any(sides) and not system.strongest(it)]
     if none:
         yield f"strength 0, so no bond: {listed(none)}"
@@ -54,9 +66,16 @@ def types_told(system: System) -> Iterator[str]:
     """Types that can't attach at all, and types with the same sides."""
     seeds = {it for _, it in system.seeds}
     most = {glue: system.strongest(glue) for glue in system.glues}
-    weak = [it for it, sides in system.types.items() if it not in seeds and sum(most[g] for g in sides if g is not None) < system.tau]
+    weak = [
+        it
+        for it, sides in system.types.items()
+        if it not in seeds and sum(most[g] for g in sides if g is not None) < system.tau
+    ]
     if weak:
-        yield f"too weak to attach anywhere, with all four glues together below the temperature {system.tau}: {listed(weak)}"
+        yield (
+            f"too weak to attach anywhere, with all four glues together below the temperature {system.tau}: "
+            f"{listed(weak)}"
+        )
     same: dict[tuple[str | None, ...], list[str]] = {}
     for name, sides in system.types.items():
         same.setdefault(sides, []).append(name)
@@ -85,16 +104,25 @@ class Missing:
                 found.setdefault(self.system.names[kind], site)
         for name in [it for it in self.names if it in found][:SHOWN]:
             x, y = found[name]
-            yield f"{name} would attach at {x} {y}, beyond the box to the {beyond(self.system, found[name])}: is the box too small?"
+            yield (
+                f"{name} would attach at {x} {y}, beyond the box to the {beyond(self.system, found[name])}: is the box "
+                f"too small?"
+            )
 
     def nearly(self) -> Iterator[str]:
-        """The types that a glue which is theirs alone holds too weakly; where an input is offered that no type takes, that is told."""
+        """The types that a glue which is theirs alone holds too weakly; where an input is offered that no type takes,
+        that is told."""
         nearest: dict[str, tuple[int, Site]] = {}
         taken = {site for it in self.untaken for site in it.sites}
         holders = self.system.holders()
         for site in self.open:
             facing = self.facing(site)
-            near = {name for side, glue in enumerate(facing) if glue is not None for name, _ in holders.get((side, glue), ())}
+            near = {
+                name
+                for side, glue in enumerate(facing)
+                if glue is not None
+                for name, _ in holders.get((side, glue), ())
+            }
             for name in near.intersection(self.names) if site not in taken else ():
                 pull = sum(self.system.bonds(name, facing))
                 if nearest.get(name, (0, site))[0] < pull < self.system.tau:
@@ -102,10 +130,17 @@ class Missing:
         for name in [it for it in self.names if it in nearest][:SHOWN]:
             pull, site = nearest[name]
             bonds = self.system.bonds(name, self.facing(site))
-            glues = [str(self.system.types[name][side]) for side, it in enumerate(bonds) if it and is_link(self.system, name, side)]
+            glues = [
+                str(self.system.types[name][side])
+                for side, it in enumerate(bonds)
+                if it and is_link(self.system, name, side)
+            ]
             if glues:
-                yield (f"{name} is nearly held at {site[0]} {site[1]}: {bonds_told(self.system, name, self.facing(site))}, and the temperature is "
-                       f"{self.system.tau}; is glue {' or '.join(glues)} too weak?")
+                yield (
+                    f"{name} is nearly held at {site[0]} {site[1]}: "
+                    f"{bonds_told(self.system, name, self.facing(site))}, and the temperature is "
+                    f"{self.system.tau}; is glue {' or '.join(glues)} too weak?"
+                )
 
     def waiting(self) -> Iterator[str]:
         """The types that can't attach anywhere, with the glue that they wait for in vain."""
@@ -114,8 +149,11 @@ class Missing:
         for name in [it for it in self.names if it not in found][:SHOWN]:
             for side, glue in enumerate(self.system.types[name]):
                 if glue is not None and not any((opposite(side), it) in borne for it in self.system.partners(glue)):
-                    yield (f"{name} can't attach anywhere: its {SIDES[side]} side waits for glue {glue}, and no type bears one that binds to "
-                           f"it on its {SIDES[opposite(side)]} side")
+                    yield (
+                        f"{name} can't attach anywhere: its {SIDES[side]} side waits for glue {glue}, and no type "
+                        f"bears one that binds to "
+                        f"it on its {SIDES[opposite(side)]} side"
+                    )
 
     def without_room(self) -> Iterator[str]:
         """The types that are held nowhere since another tile stands where a link of theirs was to hold them."""
@@ -126,17 +164,26 @@ class Missing:
         for name in self.names[:SHOWN]:
             for side, glue in enumerate(self.system.types[name]):
                 beside = where.get((opposite(side), glue))
-                if glue is None or beside is None or not is_link(self.system, name, side) or not self.system.bond(glue, glue):
+                if (
+                    glue is None
+                    or beside is None
+                    or not is_link(self.system, name, side)
+                    or not self.system.bond(glue, glue)
+                ):
                     continue
                 x, y = neighbour(beside, opposite(side))
                 if (x, y) in self.growth:
-                    yield (f"{name} finds no room: at {x} {y}, where its {SIDES[side]} side would bond with {self.growth[beside]}, stands "
-                           f"{self.growth[x, y]}")
+                    yield (
+                        f"{name} finds no room: at {x} {y}, where its {SIDES[side]} side would bond with "
+                        f"{self.growth[beside]}, stands "
+                        f"{self.growth[x, y]}"
+                    )
                 break
 
 
 def is_link(system: System, name: str, side: int) -> bool:
-    """Whether the glue on this side of the type has no other bearer there and one across, so that it alone was to hold the two."""
+    """Whether the glue on this side of the type has no other bearer there and one across, so that it alone was to hold
+    the two."""
     glue = system.types[name][side]
     return [sum(sides[it] == glue for sides in system.types.values()) for it in (side, opposite(side))] == [1, 1]
 
@@ -166,8 +213,8 @@ def reachable(system: System) -> set[str]:
 
 
 def missing_told(growths: list[Growth], names: list[str], mended: list[str]) -> Iterator[str]:
-    """The types that no growth placed, and behind them what seems to keep them away: what is offered and taken by no type, then
-    what a change of one word mends, and else guesses."""
+    """The types that no growth placed, and behind them what seems to keep them away: what is offered and taken by no
+    type, then what a change of one word mends, and else guesses."""
     many = f" in {len(growths)} growths" if len(growths) > 1 else ""
     yield f"not placed{many}: {listed(names)}"
     missing = Missing(growths, names)
@@ -205,12 +252,14 @@ def with_strength(text: str, names: tuple[str, ...], strength: int) -> str:
 
 
 def weakened(growth: Growth, site: Site) -> Iterator[str]:
-    """Weaker glues and pairs of a tile and of those beside it, one at a time, with which the verdict is a yes and no type less is
-    placed."""
+    """Weaker glues and pairs of a tile and of those beside it, one at a time, with which the verdict is a yes and no
+    type less is placed."""
     system, placed = growth.system, {*growth.placed}
     beside = [growth[it] for it in (site, *(neighbour(site, side) for side in range(4)))]
     near = {glue for name in beside if name is not None for glue in system.types[name] if glue is not None}
-    known: list[tuple[tuple[str, ...], int]] = [(it, strength) for it, strength in system.pairs.items() if {*it} <= near]
+    known: list[tuple[tuple[str, ...], int]] = [
+        (it, strength) for it, strength in system.pairs.items() if {*it} <= near
+    ]
     known += [((glue,), strength) for glue, strength in system.glues.items() if glue in near]
     tries = [(names, less) for names, strength in known for less in range(strength - 1, 0, -1)][:TRIES]
     text = "batch 1\n" + "".join(f"job 0\n{with_strength(system.text, *it)}" for it in tries)
@@ -222,19 +271,26 @@ def weakened(growth: Growth, site: Site) -> Iterator[str]:
         if b"\nunique yes\n" in answer[-200:]:
             other = Growth.read(system, answer.partition(b"\n")[2].partition(b"\ndone ")[0] + b"\n")
             if placed <= {*other.placed}:
-                yield f"with strength {strength} of {'the pair ' if len(names) == 2 else 'glue '}{' '.join(names)} the verdict is a yes"
+                yield (
+                    f"with strength {strength} of {'the pair ' if len(names) == 2 else 'glue '}{' '.join(names)} the "
+                    f"verdict is a yes"
+                )
 
 
 def weaker(system: System, name: str, bonds: list[int], glue: str | None) -> str | None:
     """With which strength of the glue the tile would be held by just enough, in words, if with one."""
     own = [it for side, it in enumerate(bonds) if it and system.types[name][side] == glue]
     rest = system.tau - sum(bonds) + sum(own)
-    return f"with strength {rest // len(own)} of glue {glue} it would be held by just enough" if own and rest >= 0 and rest % len(own) == 0 else None
+    return (
+        f"with strength {rest // len(own)} of glue {glue} it would be held by just enough"
+        if own and rest >= 0 and rest % len(own) == 0
+        else None
+    )
 
 
 def overbound_told(growths: list[Growth], is_mended: bool = False) -> Iterator[str]:
-    """The tile that a verdict calls held by more than the temperature, with the glues that hold it; and where nothing is known that
-    mends it, weaker glues that do."""
+    """The tile that a verdict calls held by more than the temperature, with the glues that hold it; and where nothing
+    is known that mends it, weaker glues that do."""
     for growth in growths:
         verdict, system = growth.verdict, growth.system
         if verdict is None or verdict.condition != 1 or verdict.site is None:
@@ -242,7 +298,9 @@ def overbound_told(growths: list[Growth], is_mended: bool = False) -> Iterator[s
         (x, y), name = verdict.site, growth[verdict.site] or ""
         facing = facing_before(growth, verdict.site)
         bonds = system.bonds(name, facing)
-        told = f"{name} at {x} {y} is held by more than the temperature {system.tau}: {bonds_told(system, name, facing)}"
+        told = (
+            f"{name} at {x} {y} is held by more than the temperature {system.tau}: {bonds_told(system, name, facing)}"
+        )
         hints = {hint for hint in (weaker(system, name, bonds, it) for it in system.types[name]) if hint}
         exact = [] if is_mended else list(weakened(growth, verdict.site)) or sorted(hints)
         yield told + (f"; {', or '.join(exact)}" if exact else "")

@@ -1,10 +1,11 @@
 """Whether a system has more than one outcome in its box: a search that is exact where it comes to its end.
 
-Take one growth that is closed in the box. Another sequence first differs from it where it places another type at some site, over
-tiles of this growth that came without that site's tile. What can come without it is the more the better, since a tile never
-weakens a bond: so it is enough to look, for each site, at all of the growth that can stand while the site is empty, and whether
-another type attaches there then. If none does at any site, no sequence ever differs, and the growth is the one outcome in the
-box. If one does, two legal sequences have different tiles at one site, and no assembly has both.
+Take one growth that is closed in the box. Another sequence first differs from it where it places another type at some
+site, over tiles of this growth that came without that site's tile. What can come without it is the more the better,
+since a tile never weakens a bond: so it is enough to look, for each site, at all of the growth that can stand while the
+site is empty, and whether another type attaches there then. If none does at any site, no sequence ever differs, and the
+growth is the one outcome in the box. If one does, two legal sequences have different tiles at one site, and no assembly
+has both.
 """
 from __future__ import annotations
 
@@ -52,8 +53,9 @@ class Progress:
 class Found:
     """What a search found. `is_one` is True for one outcome in the box, False for two, None where it stays open.
 
-    `growth` is the growth that it began with. Of two outcomes `other` is the second sequence, `site` where they differ, and
-    `name` the type there in the second one. `searched` and `left` count the sites at which another type could be held.
+    `growth` is the growth that it began with. Of two outcomes `other` is the second sequence, `site` where they differ,
+    and `name` the type there in the second one. `searched` and `left` count the sites at which another type could be
+    held.
     """
 
     growth: Growth
@@ -84,7 +86,8 @@ class Search:
         return self.known[key]
 
     def standing_without(self, hole: int) -> tuple[list[int], bytearray]:
-        """The cells of all tiles that can come while a cell stays empty, in an order in which they can, and where they stand."""
+        """The cells of all tiles that can come while a cell stays empty, in an order in which they can, and where they
+        stand."""
         cells, known, tau, bond = self.grid.cells, self.known, self.system.tau, self.bond
         stands, pulls = bytearray(len(cells)), array("i", [0]) * len(cells)
         order = list(self.seeds)
@@ -108,8 +111,8 @@ class Search:
         return order, stands
 
     def rivals(self) -> list[tuple[Site, list[int]]]:
-        """Each site, but for the seeds', at which all its neighbours would hold another type too, with these types. First come those
-        at which the input sides alone hold one."""
+        """Each site, but for the seeds', at which all its neighbours would hold another type too, with these types.
+        First come those at which the input sides alone hold one."""
         cells, found = self.grid.cells, []
         at_seeds, others = {*self.seeds}, {}
         signatures = self.grid.signatures(array("i", [-1]) * len(cells))
@@ -205,7 +208,9 @@ def search(system: System, *, seconds: float = 60, most_choices: int = 16, is_to
         return found
 
 
-def is_found(found: Found, looking: Search, rivals: list[tuple[Site, list[int]]], progress: Progress, seconds: float) -> bool:
+def is_found(
+    found: Found, looking: Search, rivals: list[tuple[Site, list[int]]], progress: Progress, seconds: float
+) -> bool:
     """Searches sites one after the other while there is time. Whether a second outcome was found."""
     for at, (site, kinds) in enumerate(rivals, 1):
         if progress.seconds() > seconds:

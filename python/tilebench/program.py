@@ -17,7 +17,8 @@ PIECE = 1 << 16
 
 
 def path() -> str:
-    """The program: TILEBENCH, or the one beside this checkout (or beside the tools where they are installed), or the one in PATH."""
+    """The program: TILEBENCH, or the one beside this checkout (or beside the tools where they are installed), or the
+    one in PATH."""
     named = os.environ.get("TILEBENCH")
     if named:
         return named
@@ -32,8 +33,8 @@ def path() -> str:
 
 @functools.lru_cache(None)
 def require(program: str) -> None:
-    """Sees that the program grows a system, and raises NoProgram where it does not. One that is to be built first is built
-    here, and says so in the terminal; where a signal ends this process, the build ends too."""
+    """Sees that the program grows a system, and raises NoProgram where it does not. One that is to be built first is
+    built here, and says so in the terminal; where a signal ends this process, the build ends too."""
     try:
         ran = subprocess.Popen([program, "grow"], stdin=subprocess.PIPE, stdout=subprocess.DEVNULL)
     except OSError as why:
@@ -52,7 +53,12 @@ def asked(words: Iterable[object], given: str | bytes = b"") -> subprocess.Compl
     """What the program answers: its status and both outputs, whatever they are."""
     program = path()
     require(program)
-    return subprocess.run([program, *map(str, words)], input=given.encode() if isinstance(given, str) else given, capture_output=True, check=False)
+    return subprocess.run(
+        [program, *map(str, words)],
+        input=given.encode() if isinstance(given, str) else given,
+        capture_output=True,
+        check=False,
+    )
 
 
 def raised(words: list[str], given: str | bytes, status: int, err: bytes) -> Exception:

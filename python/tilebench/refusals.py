@@ -8,18 +8,80 @@ import difflib
 import re
 from collections.abc import Callable, Iterator
 
-WORDS = {"tiles": 2, "tau": 2, "glue": 3, "pair": 4, "tile": 6, "box": 5, "seed": 4, "end": 1, "place": 4, "mark": 6, "look": 4, "claim": 5, "split": 2, "join": 3}
-BEFORE = {"tau": "the header `tiles 1` or `tiles 2`", "glue": "`tau`, and no `pair` or `tile` line", "pair": "a `glue` line, and no `tile` line", "tile": "`tau`", "box": "a `tile` line", "seed": "`box`", "end": "`seed`"}
-MACHINE_WORDS = {"machine": 2, "state": 2, "symbol": 2, "rule": 6, "cells": 2, "rows": 2, "head": 2, "tape": 2, "end": 1}
-MACHINE_BEFORE = {"state": "the header `machine 1`, and no `symbol` line", "symbol": "a `state` line, and no `rule` line", "rule": "a `symbol` line", "cells": "a `symbol` line", "rows": "`cells`", "head": "`rows`", "tape": "`head`", "end": "`head`"}
+WORDS = {
+    "tiles": 2,
+    "tau": 2,
+    "glue": 3,
+    "pair": 4,
+    "tile": 6,
+    "box": 5,
+    "seed": 4,
+    "end": 1,
+    "place": 4,
+    "mark": 6,
+    "look": 4,
+    "claim": 5,
+    "split": 2,
+    "join": 3,
+}
+BEFORE = {
+    "tau": "the header `tiles 1` or `tiles 2`",
+    "glue": "`tau`, and no `pair` or `tile` line",
+    "pair": "a `glue` line, and no `tile` line",
+    "tile": "`tau`",
+    "box": "a `tile` line",
+    "seed": "`box`",
+    "end": "`seed`",
+}
+MACHINE_WORDS = {
+    "machine": 2,
+    "state": 2,
+    "symbol": 2,
+    "rule": 6,
+    "cells": 2,
+    "rows": 2,
+    "head": 2,
+    "tape": 2,
+    "end": 1,
+}
+MACHINE_BEFORE = {
+    "state": "the header `machine 1`, and no `symbol` line",
+    "symbol": "a `state` line, and no `rule` line",
+    "rule": "a `symbol` line",
+    "cells": "a `symbol` line",
+    "rows": "`cells`",
+    "head": "`rows`",
+    "tape": "`head`",
+    "end": "`head`",
+}
 RULE_WORDS = {"quadrant": 2, "symbol": 2, "rule": 5, "size": 3, "bottom": 2, "left": 2, "end": 1}
-RULE_BEFORE = {"symbol": "the header `quadrant 1`, and no `rule` line", "rule": "a `symbol` line, and no `size` line", "size": "a `symbol` line", "bottom": "`size`, and no `left` line", "left": "`size`", "end": "`size`"}
+RULE_BEFORE = {
+    "symbol": "the header `quadrant 1`, and no `rule` line",
+    "rule": "a `symbol` line, and no `size` line",
+    "size": "a `symbol` line",
+    "bottom": "`size`, and no `left` line",
+    "left": "`size`",
+    "end": "`size`",
+}
 BATCH_BEFORE = {**BEFORE, "job": "the header `batch 1`, or the `end` of a system"}
-LIMITS = {"job": "at most 1024 jobs", "end": "at most 4194304 sites in the boxes of all jobs", "glue": "at most 8192 glues", "pair": "at most 65536 pairs", "tile": "at most 16384 types", "seed": "at most 4096 seeds", "state": "at most 64 states", "symbol": "at most 64 symbols", "tape": "at most as many symbols as cells", "bottom": "at most as many symbols as columns", "left": "at most as many symbols as rows"}
+LIMITS = {
+    "job": "at most 1024 jobs",
+    "end": "at most 4194304 sites in the boxes of all jobs",
+    "glue": "at most 8192 glues",
+    "pair": "at most 65536 pairs",
+    "tile": "at most 16384 types",
+    "seed": "at most 4096 seeds",
+    "state": "at most 64 states",
+    "symbol": "at most 64 symbols",
+    "tape": "at most as many symbols as cells",
+    "bottom": "at most as many symbols as columns",
+    "left": "at most as many symbols as rows",
+}
 WORDS_CAUSES = {
     "BitsOutOfRange": "a counter has 2 to 32 bits",
     "StartTooLarge": "a counter of BITS bits starts below 2^BITS",
-    "TooTall": "a counter has two rows for each number from START to 2^BITS - 1, and its box at most 1024 rows; so START is at least 2^BITS - 512",
+    "TooTall": "a counter has two rows for each number from START to 2^BITS - 1, and its box at most 1024 rows; "
+    "so START is at least 2^BITS - 512",
     "NoCommand": "the first word is no command",
     "Usage": "the command does not take these words",
 }
@@ -30,7 +92,8 @@ CAUSES = {
     "BadLine": "the first word is no keyword here, or the line has not its keyword's number of words",
     "OutOfOrder": "the keyword may not stand here",
     "TooMany": "there are too many of these: {limit}",
-    "BadName": "a name is 1 to 40 of the bytes A-Z a-z 0-9 _ : . (of a machine or a rule 1 to 8 of A-Z a-z 0-9 _; a move is L, R or S)",
+    "BadName": "a name is 1 to 40 of the bytes A-Z a-z 0-9 _ : . (of a machine or a rule 1 to 8 of A-Z a-z 0-9 _; "
+    "a move is L, R or S)",
     "DoubleName": "the name is declared twice",
     "UnknownName": "the name is not declared",
     "BadNumber": "a number is an optional - and 1 to 10 decimal digits",
@@ -54,20 +117,51 @@ SYSTEM = Kind("system", "tiles 1` or `tiles 2", WORDS, BEFORE)
 KINDS = {
     "turing": Kind("machine", "machine 1", MACHINE_WORDS, MACHINE_BEFORE),
     "quadrant": Kind("two-input rule", "quadrant 1", RULE_WORDS, RULE_BEFORE),
-    "batch": Kind("batch", "batch 1", {**{it: many for it, many in WORDS.items() if it in BEFORE}, "tiles": 2, "batch": 2, "job": 2}, BATCH_BEFORE),
+    "batch": Kind(
+        "batch",
+        "batch 1",
+        {**{it: many for it, many in WORDS.items() if it in BEFORE}, "tiles": 2, "batch": 2, "job": 2},
+        BATCH_BEFORE,
+    ),
 }
 # what some lines have, behind their keyword
 FIELDS = {
-    "tau": "the temperature", "glue": "a name, then its strength", "pair": "the names of two glues, then a strength", "tile": "a name, then its north, east, south and west sides, - for none",
-    "box": "x and y of the lower left corner, then of the upper right one", "seed": "x, then y, then the name of a type", "place": "x, then y, then the name of a type", "mark": "x, then y, then the name of a type, then sides and a rank",
+    "tau": "the temperature",
+    "glue": "a name, then its strength",
+    "pair": "the names of two glues, then a strength",
+    "tile": "a name, then its north, east, south and west sides, - for none",
+    "box": "x and y of the lower left corner, then of the upper right one",
+    "seed": "x, then y, then the name of a type",
+    "place": "x, then y, then the name of a type",
+    "mark": "x, then y, then the name of a type, then sides and a rank",
 }
 # where numbers stand in a line
-NUMBERS = {"tau": (1,), "glue": (2,), "pair": (3,), "box": (1, 2, 3, 4), "seed": (1, 2), "place": (1, 2), "mark": (1, 2, 5), "job": (1,), "look": (1, 2, 3), "claim": (1, 2, 3), "split": (1,), "join": (1, 2)}
+NUMBERS = {
+    "tau": (1,),
+    "glue": (2,),
+    "pair": (3,),
+    "box": (1, 2, 3, 4),
+    "seed": (1, 2),
+    "place": (1, 2),
+    "mark": (1, 2, 5),
+    "job": (1,),
+    "look": (1, 2, 3),
+    "claim": (1, 2, 3),
+    "split": (1,),
+    "join": (1, 2),
+}
 NUMBERS |= {"cells": (1,), "rows": (1,), "head": (1,), "size": (1, 2)}
 # where coordinates stand
 SITES = {"box": (1, 2, 3, 4), "seed": (1, 2), "place": (1, 2), "mark": (1, 2), "look": (2, 3), "claim": (2, 3)}
 # what stands behind a system, by the command that reads it
-BEHIND = {"check": "place", "replay": "place", "certify": "place", "picture": "place", "verify": "mark", "schedule": "look, claim, split and join"}
+BEHIND = {
+    "check": "place",
+    "replay": "place",
+    "certify": "place",
+    "picture": "place",
+    "verify": "mark",
+    "schedule": "look, claim, split and join",
+}
 # the command that reads a text, by the first word of its header
 READERS = {"machine": "turing", "quadrant": "quadrant", "batch": "batch"}
 
@@ -103,7 +197,8 @@ def guess_header(line: bytes, words: list[str], command: str) -> Iterator[str]:
         what = {"turing": "a Turing machine", "quadrant": "a two-input rule", "batch": "a batch"}[reader]
         yield f"this is {what}: tools/explain {reader} FILE"
     elif words[:1] == ["tiles"] and command in KINDS and len(words) == 2:
-        yield "this is a tile system: a batch begins with `batch 1`, and in front of each system stands a `job` line" if command == "batch" else f"this is a tile system, which {command} does not read"
+        batch = "a batch begins with `batch 1`, and in front of each system stands a `job` line"
+        yield f"this is a tile system{f': {batch}' if command == 'batch' else f', which {command} does not read'}"
     elif words[:1] in (["place"], ["mark"], ["look"], ["claim"], ["split"], ["join"]):
         yield "the system stands first: cat SYSTEM FILE"
     elif words and words[0] in KINDS.get(command, SYSTEM).before:
@@ -131,7 +226,9 @@ def guess_number(words: list[str]) -> Iterator[str]:
         if re.fullmatch("-?[0-9]{11,}", it):
             yield "it has more than ten digits"
         elif not re.fullmatch("-?[0-9]+", it):
-            yield f"{visible(it.encode())} is no number" + (f": a {words[0]} line has {FIELDS[words[0]]}" if words[0] in FIELDS else "")
+            yield f"{visible(it.encode())} is no number" + (
+                f": a {words[0]} line has {FIELDS[words[0]]}" if words[0] in FIELDS else ""
+            )
         else:
             continue
         return
@@ -146,7 +243,9 @@ def guess_word(words: list[str], is_short: bool) -> Iterator[str]:
         if words[0] == "tile" and re.fullmatch("-[0-9]+", it):
             yield f"{it} is no name; a side without a glue is -"
             return
-        signs = sorted({sign for sign in it if not re.fullmatch("[A-Za-z0-9_]" if is_short else "[A-Za-z0-9_:.]", sign)})
+        signs = sorted(
+            {sign for sign in it if not re.fullmatch("[A-Za-z0-9_]" if is_short else "[A-Za-z0-9_:.]", sign)}
+        )
         if signs and not re.fullmatch("-[0-9]*", it):
             yield f"{visible(it.encode())} has {' '.join(visible(sign.encode()) for sign in signs)}, which no name has"
             return
@@ -165,9 +264,14 @@ def guess_line(words: list[str], lines: list[bytes], known: dict[str, int], comm
         yield "a remark needs a line of its own"
     elif words and words[0] in known and len(words) != known[words[0]]:
         fields = {it: f": {FIELDS[it]}" for it in ("tile", "mark")}
-        fields["rule"] = {5: ": west and south, then what goes east and north", 6: ": a state and a symbol, then the new state, the new symbol and the move"}.get(known["rule"] if "rule" in known else 0, "")
+        fields["rule"] = {
+            5: ": west and south, then what goes east and north",
+            6: ": a state and a symbol, then the new state, the new symbol and the move",
+        }.get(known["rule"] if "rule" in known else 0, "")
         more = " or more" if words[0] in ("tape", "bottom", "left") else ""
-        yield f"a {words[0]} line has {known[words[0]]} words{more}, and this one {len(words)}{fields.get(words[0], '')}"
+        yield (
+            f"a {words[0]} line has {known[words[0]]} words{more}, and this one {len(words)}{fields.get(words[0], '')}"
+        )
     elif words and command not in KINDS:
         yield from guess_place(words, lines, command)
 
@@ -183,6 +287,7 @@ def guess_place(words: list[str], lines: list[bytes], command: str) -> Iterator[
 
 def first_like(lines: list[bytes], words: list[str]) -> int:
     """The number of the first line that declares the same name, or has the same site."""
+
     def what(row: list[str]) -> list[str | int]:
         found: list[str | int] = [*row[:2]]
         if row[0] in ("place", "mark", "seed"):
@@ -202,8 +307,19 @@ def guess_name(words: list[str], lines: list[bytes], at: int) -> Iterator[str]:
         known, what = names_before(lines, at, "tile"), "type"
         unknown = [words[3] if words[0] == "mark" else words[-1]]
     for it in unknown[:1]:
-        bearers = sum(row[:1] == ["tile"] and it in row[2:] for row in (line.decode(errors="replace").split() for line in lines)) if what == "glue" else 0
-        later = [n for n, line in enumerate(lines[at:], at + 1) if line.decode(errors="replace").split()[:2] == ["glue" if what == "glue" else "tile", it]]
+        bearers = (
+            sum(
+                row[:1] == ["tile"] and it in row[2:]
+                for row in (line.decode(errors="replace").split() for line in lines)
+            )
+            if what == "glue"
+            else 0
+        )
+        later = [
+            n
+            for n, line in enumerate(lines[at:], at + 1)
+            if line.decode(errors="replace").split()[:2] == ["glue" if what == "glue" else "tile", it]
+        ]
         if later:
             yield f"{what} {it} is declared further down, in line {later[0]}: each line names what stands above it"
             return
@@ -229,7 +345,11 @@ def guess_symbol(words: list[str], lines: list[bytes], at: int) -> Iterator[str]
 
 def guess_machine_name(words: list[str], lines: list[bytes], at: int) -> Iterator[str]:
     states, symbols = names_before(lines, at, "state"), names_before(lines, at, "symbol")
-    fields = zip(words[1:5], ("state", "symbol", "state", "symbol")) if words[0] == "rule" else ((it, "symbol") for it in words[1:])
+    fields = (
+        zip(words[1:5], ("state", "symbol", "state", "symbol"))
+        if words[0] == "rule"
+        else ((it, "symbol") for it in words[1:])
+    )
     for it, what in fields:
         known = states if what == "state" else symbols
         if it not in known:
@@ -263,8 +383,8 @@ def guess_range(words: list[str]) -> Iterator[str]:
 
 
 class Case:
-    """A refused line: its bytes, its number, its words, the lines of the text, and the command that read it. `before` has the words
-    of the line before it that is neither empty nor a remark."""
+    """A refused line: its bytes, its number, its words, the lines of the text, and the command that read it. `before`
+    has the words of the line before it that is neither empty nor a remark."""
 
     def __init__(self, text: bytes, number: int, command: str):
         self.number, self.command, self.kind = number, command, KINDS.get(command, SYSTEM)
@@ -330,11 +450,18 @@ def bad_line(case: Case) -> Iterator[str]:
 def out_of_order(case: Case) -> Iterator[str]:
     if case.keyword in ("place", "closed", "unique"):
         yield "a growth ends with its closed and unique lines: do two growths stand here, one behind the other?"
-    elif case.keyword == "seed" and version_of(case.lines) == "1" and any(it.split()[:1] == [b"seed"] for it in case.above):
+    elif (
+        case.keyword == "seed"
+        and version_of(case.lines) == "1"
+        and any(it.split()[:1] == [b"seed"] for it in case.above)
+    ):
         yield "several seeds are of version 2: the first line must be `tiles 2`"
     else:
-        yield (f"the line itself may be fine: before {case.keyword} stands {case.kind.before.get(case.keyword, 'something else')}; "
-               "is a line missing above, or misplaced?")
+        yield (
+            f"the line itself may be fine: before {case.keyword} stands "
+            f"{case.kind.before.get(case.keyword, 'something else')}; "
+            "is a line missing above, or misplaced?"
+        )
 
 
 def unknown_name(case: Case) -> Iterator[str]:
@@ -346,12 +473,18 @@ def double_name(case: Case) -> Iterator[str]:
     words = case.words
     if case.keyword == "rule":
         pair = f"the state {words[1]} and the symbol {words[2]}"
-        yield f"there is a rule for {pair if case.command == 'turing' else f'{words[1]} from the west and {words[2]} from the south'} above"
+        yield (
+            f"there is a rule for "
+            f"{pair if case.command == 'turing' else f'{words[1]} from the west and {words[2]} from the south'} above"
+        )
     elif case.keyword == "pair":
         rows = [it.decode(errors="replace").split() for it in case.above]
         first = [at for at, row in enumerate(rows, 1) if row[:1] == ["pair"] and {*row[1:3]} == {*words[1:3]}]
-        yield (f"line {first[0]} pairs them already" if first
-               else "a glue is not paired with itself: its own strength stands in its `glue` line")
+        yield (
+            f"line {first[0]} pairs them already"
+            if first
+            else "a glue is not paired with itself: its own strength stands in its `glue` line"
+        )
     else:
         yield from double_site(case)
 
@@ -399,13 +532,27 @@ def after_end(case: Case) -> Iterator[str]:
     if case.command in KINDS:
         yield "nothing stands behind the `end` line: take away what follows it"
     else:
-        yield "places behind a system are for check, certify, replay and picture, marks for verify, steps of scouts for schedule"
+        yield (
+            "places behind a system are for check, certify, replay and picture, marks for verify, steps of scouts for "
+            "schedule"
+        )
 
 
 guess_of: dict[str, Callable[[Case], Iterator[str]]] = {
-    "NoHeader": no_header, "NoEnd": no_end, "BadLine": bad_line, "OutOfOrder": out_of_order, "UnknownName": unknown_name,
-    "DoubleName": double_name, "DoubleSite": double_site, "BadName": bad_name, "BadNumber": bad_number, "SeedOutside": outside,
-    "OutsideBox": outside, "TooMany": too_many, "OutOfRange": out_of_range, "AfterEnd": after_end,
+    "NoHeader": no_header,
+    "NoEnd": no_end,
+    "BadLine": bad_line,
+    "OutOfOrder": out_of_order,
+    "UnknownName": unknown_name,
+    "DoubleName": double_name,
+    "DoubleSite": double_site,
+    "BadName": bad_name,
+    "BadNumber": bad_number,
+    "SeedOutside": outside,
+    "OutsideBox": outside,
+    "TooMany": too_many,
+    "OutOfRange": out_of_range,
+    "AfterEnd": after_end,
 }
 
 

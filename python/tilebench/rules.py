@@ -15,8 +15,9 @@ def border(word: str, given: list[str], many: int, default: str) -> list[str]:
 
 
 def bordered(text: str, *, bottom: str | None = None, left: str | None = None) -> str:
-    """The text of a two-input rule with both borders written out: behind the symbols that its `bottom` and `left` lines have come
-    those that are handed in, each for its side; the first symbol of the rule for a side of which none is handed in."""
+    """The text of a two-input rule with both borders written out: behind the symbols that its `bottom` and `left` lines
+    have come those that are handed in, each for its side; the first symbol of the rule for a side of which none is
+    handed in."""
     symbols, size, given = [], (0, 0), {"bottom": list[str](), "left": list[str]()}
     kept, end = [], 0
     for number, line in enumerate(text.split("\n"), 1):
@@ -33,9 +34,13 @@ def bordered(text: str, *, bottom: str | None = None, left: str | None = None) -
         else:
             kept.append(line)
     if not end or not symbols or size == (0, 0):
-        raise Refused("NoEnd", text.count("\n") + 1, "a rule has symbols, a size and an end line", text=text, command="quadrant")
+        raise Refused(
+            "NoEnd", text.count("\n") + 1, "a rule has symbols, a size and an end line", text=text, command="quadrant"
+        )
     for default in (bottom, left):
         if default is not None and default not in symbols:
             raise Refused("UnknownName", why=f"no symbol is named {default}")
-    told = border("bottom", given["bottom"], size[0], bottom or symbols[0]) + border("left", given["left"], size[1], left or symbols[0])
+    told = border("bottom", given["bottom"], size[0], bottom or symbols[0]) + border(
+        "left", given["left"], size[1], left or symbols[0]
+    )
     return "\n".join([*kept, *told, "end", ""])

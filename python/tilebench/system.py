@@ -1,7 +1,8 @@
 """A tile system: glues, pairs of unlike glues, tile types, a box and seeds, made by calls or read from a text.
 
-A site is (x, y), and north is up. A type has four sides, in the order north, east, south, west, each the name of a glue or
-None. Strengths and the temperature have no unit. docs/FORMATS.md has the text of a system, docs/MODEL.md what it means.
+A site is (x, y), and north is up. A type has four sides, in the order north, east, south, west, each the name of a glue
+or None. Strengths and the temperature have no unit. docs/FORMATS.md has the text of a system, docs/MODEL.md what it
+means.
 """
 from __future__ import annotations
 
@@ -67,14 +68,15 @@ def number_in(value: int | str, least: int, most: int, what: str) -> int:
 class System:
     """A tile system.
 
-    `tau` is the temperature; `glues` has the strength of each glue, `pairs` that of each pair of unlike glues, and `types`
-    the four sides of each tile type, all by name and in the order in which they were declared; `seeds` has (site, type);
-    `box` is (x0, y0, x1, y1), both corners inside; `colours` the colours that are wished for names; `lines` the number of the
-    line of each glue, type, pair and seed, where the system was read from a text.
+    `tau` is the temperature; `glues` has the strength of each glue, `pairs` that of each pair of unlike glues, and
+    `types` the four sides of each tile type, all by name and in the order in which they were declared; `seeds` has
+    (site, type); `box` is (x0, y0, x1, y1), both corners inside; `colours` the colours that are wished for names;
+    `lines` the number of the line of each glue, type, pair and seed, where the system was read from a text.
     """
 
     def __init__(self, tau: int = 2, box: tuple[int, int, int, int] | None = None):
-        """An empty system of a temperature from 1 to 1000. Without a box it gets the smallest one that has all seeds."""
+        """An empty system of a temperature from 1 to 1000. Without a box it gets the smallest one that has all
+        seeds."""
         self.tau = number_in(tau, 1, 1000, "a temperature")
         self.glues: dict[str, int] = {}
         self.pairs: dict[tuple[str, str], int] = {}
@@ -123,7 +125,9 @@ class System:
     def tile(self, name: str, north: Glue = None, east: Glue = None, south: Glue = None, west: Glue = None) -> str:
         """Declares a tile type by the glues on its sides, None or "-" for none, and answers its name."""
         new_name(name, self.types, "type")
-        sides = [None if it is None or it == "-" else old_name(it, self.glues, "glue") for it in (north, east, south, west)]
+        sides = [
+            None if it is None or it == "-" else old_name(it, self.glues, "glue") for it in (north, east, south, west)
+        ]
         self.types[name] = (sides[0], sides[1], sides[2], sides[3])
         self._forget()
         return name
@@ -154,7 +158,9 @@ class System:
     def box(self, box: tuple[int, int, int, int]) -> None:
         x0, y0, x1, y1 = (number_in(it, -FARTHEST, FARTHEST, "a coordinate") for it in box)
         if not (0 <= x1 - x0 < LONGEST_SIDE and 0 <= y1 - y0 < LONGEST_SIDE):
-            raise Refused("OutOfRange", why=f"the lower left corner comes first, and a side has at most 1024 sites: {box}")
+            raise Refused(
+                "OutOfRange", why=f"the lower left corner comes first, and a side has at most 1024 sites: {box}"
+            )
         self._box = (x0, y0, x1, y1)
         self._text = None
 
@@ -162,8 +168,8 @@ class System:
 
     @classmethod
     def read(cls, text: str | bytes) -> System:
-        """The system that a text begins with. A text that can't be read is `Refused`; whether one is in order in all is the
-        program's to say, which reads it more strictly."""
+        """The system that a text begins with. A text that can't be read is `Refused`; whether one is in order in all is
+        the program's to say, which reads it more strictly."""
         return cls.read_with_rest(text)[0]
 
     @classmethod
@@ -189,14 +195,22 @@ class System:
                 raise Refused(why.cause, number, why.why, text=text) from None
         else:
             raise Refused("NoEnd", text.count("\n") + 1, text=text)
-        system.colours = lines.colours(text)
         system._text = "\n".join(text.split("\n", number)[:number]) + "\n"
+        system.colours = lines.colours(system._text)
         return system, number
 
     def _take(self, number: int, words: list[str], version: str) -> bool:
         """Takes a line of a text, and answers whether it is the last one."""
         keyword, *fields = words
-        many = {"tau": 1, "glue": 2, "tile": 5, "box": 4, "seed": 3, "end": 0, **({"pair": 3} if version == "2" else {})}
+        many = {
+            "tau": 1,
+            "glue": 2,
+            "tile": 5,
+            "box": 4,
+            "seed": 3,
+            "end": 0,
+            **({"pair": 3} if version == "2" else {}),
+        }
         if len(fields) != many.get(keyword, -1):
             raise Refused("BadLine", why=f"{' '.join(words)[:40]} is no line of a system")
         if keyword == "end":
@@ -206,10 +220,13 @@ class System:
         if keyword == "tau":
             self.tau = number_in(fields[0], 1, 1000, "a temperature")
         elif keyword == "box":
-            self.box = tuple(number_in(it, -FARTHEST, FARTHEST, "a coordinate") for it in fields)  # type: ignore[assignment]
+            x0, y0, x1, y1 = (number_in(it, -FARTHEST, FARTHEST, "a coordinate") for it in fields)
+            self.box = x0, y0, x1, y1
         else:
             getattr(self, keyword)(*fields)
-            of: object = {"pair": tuple(fields[:2]), "seed": self.seeds[-1][0] if self.seeds else None}.get(keyword, fields[0])
+            of: object = {"pair": tuple(fields[:2]), "seed": self.seeds[-1][0] if self.seeds else None}.get(
+                keyword, fields[0]
+            )
             self.lines[keyword, of] = number
         return False
 
@@ -219,11 +236,20 @@ class System:
         if self._text is not None:
             return self._text
         version = 1 if len(self.seeds) == 1 and not self.pairs else 2
-        told = [f"tiles {version}", *(f"# colour {name} {colour}" for name, colour in self.colours.items()), f"tau {self.tau}"]
+        told = [
+            f"tiles {version}",
+            *(f"# colour {name} {colour}" for name, colour in self.colours.items()),
+            f"tau {self.tau}",
+        ]
         told += [f"glue {name} {strength}" for name, strength in self.glues.items()]
         told += [f"pair {one} {other} {strength}" for (one, other), strength in self.pairs.items()]
         told += [f"tile {name} {' '.join(it or '-' for it in sides)}" for name, sides in self.types.items()]
-        told += ["box {} {} {} {}".format(*self.box), *(f"seed {x} {y} {name}" for (x, y), name in self.seeds), "end", ""]
+        told += [
+            "box {} {} {} {}".format(*self.box),
+            *(f"seed {x} {y} {name}" for (x, y), name in self.seeds),
+            "end",
+            "",
+        ]
         return "\n".join(told)
 
     def __str__(self) -> str:
@@ -276,7 +302,9 @@ class System:
 
     def facing_of(self, around: tuple[int, int, int, int]) -> Sides:
         """The glues that face a site with these types around it, by index and side, -1 for none."""
-        north, east, south, west = ((None if it < 0 else self.types[self.names[it]][opposite(side)]) for side, it in enumerate(around))
+        north, east, south, west = (
+            (None if it < 0 else self.types[self.names[it]][opposite(side)]) for side, it in enumerate(around)
+        )
         return north, east, south, west
 
     def holders(self) -> dict[tuple[int, str], list[tuple[str, int]]]:
@@ -307,7 +335,8 @@ class System:
         return self._held[facing]
 
     def attaching(self, around: tuple[int, int, int, int]) -> list[int]:
-        """The types, by index, that attach at an empty site with these types around it, by index and side, -1 for none."""
+        """The types, by index, that attach at an empty site with these types around it, by index and side, -1 for
+        none."""
         if around not in self._around:
             self._around[around] = [self.index[it] for it in self.held_by(self.facing_of(around))]
         return self._around[around]

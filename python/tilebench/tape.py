@@ -31,7 +31,9 @@ class Machine:
             try:
                 self.take(words)
             except (IndexError, ValueError):
-                raise Refused("BadLine", number, f"{' '.join(words)[:40]} is no line of a machine", text=text, command="turing") from None
+                raise Refused(
+                    "BadLine", number, f"{' '.join(words)[:40]} is no line of a machine", text=text, command="turing"
+                ) from None
         self.tape += self.symbols[:1] * (self.cells - len(self.tape))
 
     def take(self, words: list[str]) -> None:
@@ -56,7 +58,8 @@ class Machine:
         return (rest[1], rest[0]) if kind in ("R", "L") else (rest[0], None)
 
     def end(self, last: int, before: tuple[str, str] | None, head: tuple[str, str] | None) -> tuple[str, bool]:
-        """How the run ended and whether it did so by itself: its last step, and the heads of the row before and of the last one."""
+        """How the run ended and whether it did so by itself: its last step, and the heads of the row before and of the
+        last one."""
         if head is None:
             move = self.rules[before][2] if before else ""
             return f"ran off the {'west' if move == 'L' else 'east'} end in step {last}", True
@@ -77,7 +80,9 @@ def machine_told(text: str, growth: Growth | None = None) -> tuple[list[str], bo
         row = [machine.shown(it) for it in names if it is not None]
         if len(row) < len(names):
             break
-        told.append(f"{step:5}  " + " ".join(symbol if state is None else f"[{state} {symbol}]" for symbol, state in row))
+        told.append(
+            f"{step:5}  " + " ".join(symbol if state is None else f"[{state} {symbol}]" for symbol, state in row)
+        )
         before, head = head, next(((state, symbol) for symbol, state in row if state is not None), None)
         last = step
     said, is_ended = machine.end(last, before, head)
@@ -120,8 +125,8 @@ def quadrant_told(text: str, growth: Growth | None = None) -> tuple[list[str], b
 
 
 def told(text: str, answer: bytes | None = None) -> tuple[Iterator[str], bool]:
-    """What a machine, a counter or a two-input rule shows, by its text and the answer of `grow`, if there is one; and whether it
-    came to its end."""
+    """What a machine, a counter or a two-input rule shows, by its text and the answer of `grow`, if there is one; and
+    whether it came to its end."""
     first = next(lines.rows(text), (1, ["nothing"]))[1][0]
     tellers = {"machine": machine_told, "quadrant": quadrant_told, "tiles": counter_told}
     if first not in tellers:
@@ -129,7 +134,11 @@ def told(text: str, answer: bytes | None = None) -> tuple[Iterator[str], bool]:
     if first == "tiles":
         system = System.read(text)
         if "cw:0" not in system.types:
-            raise Refused("NoHeader", 1, "this system is no counter's; of a machine and of a two-input rule hand in their own text")
+            raise Refused(
+                "NoHeader",
+                1,
+                "this system is no counter's; of a machine and of a two-input rule hand in their own text",
+            )
     elif answer is not None:
         system = {"machine": calls.turing, "quadrant": calls.quadrant}[first](text)
     growth = None if answer is None else Growth.read(system, answer)

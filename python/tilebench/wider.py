@@ -63,7 +63,10 @@ def wider_told(growth: Growth) -> str:
     told += f" cuts it off again, at {again[0]}"
     repeats = repeats_told(further, closed.site, beyond(system, closed.site))
     if repeats:
-        return f"{told}: {repeats}. So no box ends it. If it is to end, a tile for that is missing, or one of those that repeat is not as it is meant"
+        return (
+            f"{told}: {repeats}. So no box ends it. If it is to end, a tile for that is missing, or one of those that "
+            f"repeat is not as it is meant"
+        )
     return f"{told}: widen it further, or add tiles that end the growth"
 
 
@@ -79,7 +82,8 @@ def line_along(growth: Growth, at: int, is_upward: bool) -> list[int]:
 
 
 def period_of(line: list[int]) -> tuple[int, int] | None:
-    """The shortest period with which a line ends, three times at least and over its half, and where that begins; or None."""
+    """The shortest period with which a line ends, three times at least and over its half, and where that begins; or
+    None."""
     size = len(line)
     for period in range(1, size // 3 + 1):
         at = size - period
@@ -91,7 +95,8 @@ def period_of(line: list[int]) -> tuple[int, int] | None:
 
 
 def repeats_told(growth: Growth, site: Site, beyond_side: str) -> str:
-    """From which row (or column) on a growth repeats what it had, along the line of a site and on that side of it; or nothing."""
+    """From which row (or column) on a growth repeats what it had, along the line of a site and on that side of it; or
+    nothing."""
     side = next(it for it in range(4) if beyond_side.startswith(SIDES[it]))
     x0, y0, x1, y1 = growth.system.box
     is_upward = side % 2 == 0
@@ -116,4 +121,7 @@ def repeats_told(growth: Growth, site: Site, beyond_side: str) -> str:
     if period == 1:
         kind = growth.grid.at((across, begin) if is_upward else (begin, across))
         return f"from {along} {begin} on {lines} has {growth.system.names[kind]} alone"
-    return f"from {along} {begin} on {lines} repeat{'s' if len(found) == 1 else ''}: {along} {begin + sign * period} is as {along} {begin}"
+    return (
+        f"from {along} {begin} on {lines} repeat{'s' if len(found) == 1 else ''}: {along} {begin + sign * period} is "
+        f"as {along} {begin}"
+    )
