@@ -17,7 +17,8 @@ U32 = 0xFFFFFFFF
 def channel(linear: float) -> int:
     """A part of a colour in sRGB, 0 to 255."""
     it = min(1.0, max(0.0, linear))
-    return math.floor(255 * (12.92 * it if it <= 0.0031308 else 1.055 * it ** (1 / 2.4) - 0.055) + 0.5)
+    shown = 12.92 * it if it <= 0.0031308 else 1.055 * math.pow(it, 1 / 2.4) - 0.055
+    return math.floor(255 * shown + 0.5)
 
 
 def oklch(light: float, chroma: float, hue: float) -> str:
