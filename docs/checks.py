@@ -81,6 +81,12 @@ def commands():
         told += [f"{path}: nothing of {it}" for it in names if not re.search(rf"\b{it}\b", read(path))]
     synopsis, _, rest = read("docs/tilebench.1").partition(".SH COMMANDS")
     parts = rest.partition(".SH OPTIONS")[0]
+    listed = dict(re.findall(r'^    "(\w+)": \((.*)\),$', read("python/tilebench/commands.py"), re.M))
+    for it in names:
+        block = re.search(rf"^\.B tilebench {it}$(.*?)(?=^\.br$|\Z)", synopsis, re.M | re.S)
+        stands = re.findall(r"\\-\\-(\w+)", block[1]) if block else []
+        wanted = [name.lower() for name in re.findall(r"(\w+)_OPTION", listed.get(it, ""))]
+        told += [] if stands == wanted else [f"docs/tilebench.1: {it} has the options {stands}, of {wanted}"]
     for it in names:
         found = [len(re.findall(rf"^\.B tilebench {it}$", synopsis, re.M)),
                  len(re.findall(rf"^\.TP\n\.BI? {it}\b", parts, re.M))]
