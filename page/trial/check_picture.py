@@ -2,7 +2,7 @@
 import collections
 
 from trial.check import check
-from trial.reading import CHAIN, STATE, TRIANGLE, add, chips, colour, editor, pick, pixel, put, selected, site
+from trial.reading import CHAIN, STATE, TRIANGLE, add, chips, colour, editor, pick, pixel, pixels, put, selected, site
 
 EXAMPLES = ("chain.tiles", "sierpinski.tiles", "square20.tiles", "corners.tiles", "counter.tiles",
     "busy_beaver.machine")
@@ -22,16 +22,16 @@ def card(page):
 def colours(page):
     for name in EXAMPLES:
         pick(page, name)
-        page.value("(() => { tilebench.page.view.isFit = false; })()")
         page.click("#fit-box")
         found = places(page)
-        known = {it: colour(page, it) for it in {name for _, _, name in found}}
-        wrong = [it for it in found[:60] + found[-20:] if pixel(page, it[0], it[1]) != known[it[2]]]
-        assert not wrong, (name, wrong[:4])
+        known = {it: colour(page, it) for it in {it[2] for it in found}}
+        drawn = pixels(page, [it[:2] for it in found])
+        wrong = [it for it, is_drawn in zip(found, drawn) if is_drawn != known[it[2]]]
+        assert not wrong, (name, len(wrong), wrong[:4])
     stands = {(x, y) for x, y, _ in found}
     x0, y0, x1, y1 = page.value(f"{STATE}.system.box")
-    empty = next(((x, y) for y in range(y1, y0, -1) for x in range(x0, x1 + 1) if (x, y) not in stands), None)
-    assert empty is None or pixel(page, *empty) == "#ffffff", empty
+    empty = [(x, y) for y in range(y0, y1 + 1) for x in range(x0, x1 + 1) if (x, y) not in stands]
+    assert empty and set(pixels(page, empty)) == {"#ffffff"}
 
 
 @check("the legend counts what is shown, at each step")

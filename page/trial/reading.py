@@ -102,16 +102,23 @@ def site(page, x, y):
     return found
 
 
-def pixel(page, x, y):
-    """The colour in the middle of a quarter of a site, as #rrggbb: what is drawn there, names and bars apart."""
+def pixels(page, sites):
+    """The colours in the middle of a quarter of each site, as #rrggbb: what is drawn there, names and bars apart."""
     return page.value(f"""(() => {{
       tilebench.page.drawNow();
       const {{ view, state }} = tilebench.page, canvas = document.querySelector("#canvas"), ratio = devicePixelRatio;
-      const px = (view.left + ({x} - state.system.box[0] + 0.26) * view.scale) * ratio;
-      const py = (view.top + (state.system.box[3] - {y} + 0.26) * view.scale) * ratio;
-      const at = canvas.getContext("2d").getImageData(Math.floor(px), Math.floor(py), 1, 1).data;
-      return "#" + [...at.slice(0, 3)].map((it) => it.toString(16).padStart(2, "0")).join("");
+      const {{ data }} = canvas.getContext("2d").getImageData(0, 0, canvas.width, canvas.height);
+      return {json.dumps([list(it) for it in sites])}.map(([x, y]) => {{
+        const px = Math.floor((view.left + (x - state.system.box[0] + 0.26) * view.scale) * ratio);
+        const py = Math.floor((view.top + (state.system.box[3] - y + 0.26) * view.scale) * ratio);
+        const at = 4 * (py * canvas.width + px);
+        return "#" + [...data.slice(at, at + 3)].map((it) => it.toString(16).padStart(2, "0")).join("");
+      }});
     }})()""")
+
+
+def pixel(page, x, y):
+    return pixels(page, [(x, y)])[0]
 
 
 def colour(page, name):
