@@ -17,8 +17,8 @@ from tilebench.system import Site, System
 Text = Union[str, bytes]
 SystemOrText = Union[System, str, bytes]
 Places = Union[Growth, Iterable[tuple[Site, str]]]
-# how many jobs a batch has at most, and how many sites their boxes have together
-MOST_JOBS, MOST_SITES = 1024, 4194304
+# how many jobs a batch has at most, how many sites their boxes have together, and how many bytes of it are handed in
+MOST_JOBS, MOST_SITES, MOST_BYTES = 1024, 4194304, (1 << 26) - 1024
 
 
 def system_of(system: SystemOrText) -> System:
@@ -88,16 +88,16 @@ def batch(systems: Iterable[SystemOrText], *, workers: int = 1) -> Iterator[Grow
     several. In each system the least open site gets the first type that attaches there.
     """
     taken: list[System] = []
-    sites = 0
+    sites = size = 0
     for it in systems:
         system = system_of(it)
         x0, y0, x1, y1 = system.box
-        area = (x1 - x0 + 1) * (y1 - y0 + 1)
-        if taken and (len(taken) == MOST_JOBS or sites + area > MOST_SITES):
+        area, bytes_more = (x1 - x0 + 1) * (y1 - y0 + 1), len(system.text.encode()) + 16
+        if taken and (len(taken) == MOST_JOBS or sites + area > MOST_SITES or size + bytes_more > MOST_BYTES):
             yield from one_batch(taken, workers)
-            taken, sites = [], 0
+            taken, sites, size = [], 0, 0
         taken.append(system)
-        sites += area
+        sites, size = sites + area, size + bytes_more
     if taken:
         yield from one_batch(taken, workers)
 

@@ -7,7 +7,7 @@ said of them.
 from __future__ import annotations
 
 from collections.abc import Callable, Iterator
-from itertools import combinations, permutations
+from itertools import combinations, islice, permutations
 from typing import NamedTuple
 
 from tilebench import program
@@ -21,6 +21,8 @@ from tilebench.wider import cut_sides, missing_room, widened
 # up to how many sites a box may have for changes to be tried, those of one kind have together, and how many changes are
 # told
 MOST_AREA, MOST_TRIED, MOST_TOLD = 1 << 16, 1 << 22, 3
+# how many bytes the texts of one kind have together
+MOST_BYTES = 1 << 25
 # how a change begins, in words, that takes a type away
 LESS = "without "
 
@@ -253,9 +255,10 @@ def good_edits(growth: Growth) -> list[str]:
     names, area = {it.encode() for it in system.types}, (x1 - x0 + 1) * (y1 - y0 + 1)
     within: list[tuple[Edit, Growth]] = []
     for kind in kinds(growth) if area <= MOST_AREA else ():
-        edits = list(kind(system, text, growth))
         size = 4 * area if kind is larger_box else area
-        if len(edits) * size > MOST_TRIED:
+        most = min(MOST_TRIED // size, MOST_BYTES // len(system.text))
+        edits = list(islice(kind(system, text, growth), most + 1))
+        if len(edits) > most:
             continue
         try:
             came = list(answers([it.text for it in edits], size))

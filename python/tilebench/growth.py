@@ -175,7 +175,8 @@ class Growth:
     @property
     def unplaced(self) -> list[str]:
         """The types of which no tile stands, in the system's order."""
-        return [it for it in self.system.names if it not in {*self.placed}]
+        placed = {*self.placed}
+        return [it for it in self.system.names if it not in placed]
 
     @property
     def text(self) -> str:
