@@ -36,7 +36,9 @@ def require(program: str) -> None:
     """Sees that the program grows a system, and raises NoProgram where it does not. One that is to be built first is
     built here, and says so in the terminal; where a signal ends this process, the build ends too."""
     try:
-        ran = subprocess.Popen([program, "grow"], stdin=subprocess.PIPE, stdout=subprocess.DEVNULL)
+        # (an answer of the unproved program, by a trial, would not do)
+        way = dict(os.environ, TILEBENCH_TRIAL="0")
+        ran = subprocess.Popen([program, "grow"], stdin=subprocess.PIPE, stdout=subprocess.DEVNULL, env=way)
     except OSError as why:
         raise NoProgram(f"{program}: {why.strerror}") from None
     try:
