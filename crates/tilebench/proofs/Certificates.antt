@@ -42,9 +42,9 @@ use Rattle.tilebench.specs.Inputs.{IsAssemblyOf, IsSystemThenCertificate, IsSyst
 
 -- what keeps tiles from having an order is told
 no_order_told : (sys : TileSystem) (tiles : List Place) (reordering : Reordering) → IsReordering sys tiles reordering → is_whole reordering ≡ false → TellsNoOrder sys tiles (reordering_text sys reordering)
-no_order_told sys tiles (Whole order) reordered no = absurd (cc no)
-no_order_told sys tiles (SeedMissing site) reordered no = inl (site, reordered, refl)
-no_order_told sys tiles (Stuck left least) reordered no = inr (left, least, reordered, refl)
+no_order_told sys tiles (Whole order) reordered not_whole = absurd (cc not_whole)
+no_order_told sys tiles (SeedMissing site) reordered not_whole = inl (site, reordered, refl)
+no_order_told sys tiles (Stuck left least) reordered not_whole = inr (left, least, reordered, refl)
 
 -- the certificate, or what stands in its place
 certificate_told : (sys : TileSystem) (tiles : List Place) (certification : Certification) → IsCertification sys tiles certification →

@@ -1,6 +1,6 @@
 -- An input that is read in parts: a front with a system, and what follows it in blocks.
 use Rattle.tile_io.specs.Lines.{first_mark}
-use Rattle.std.proofs.Common.{◌≡◌, ◌++◌, ◌∙◌, ℕ, true, Bool, List, [], length, Option, Result, Ok, Err, refl, sym, subst, arith, inl, inr}
+use Rattle.std.proofs.Common.{◌≡◌, ◌≤◌, ◌++◌, ◌∙◌, ℕ, true, Bool, List, [], length, Option, Result, Ok, Err, refl, sym, subst, arith, inl, inr}
 use Rattle.std.proofs.Math.Nat.{le_trans}
 use Rattle.std.specs.Io.KnownBytes.{Consumes}
 use Rattle.tile_io.specs.declared.blocks.InputStop.{InputStop}

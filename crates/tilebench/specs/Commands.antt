@@ -5,7 +5,6 @@ use Rattle.tile_io.specs.Formats.{Fault}
 use Rattle.tile_text.specs.SystemText.{FaultAny, ReadsAny}
 use Rattle.seq_text.specs.GrowthText.{grid_format, sequence_format}
 use Rattle.seq_text.specs.ScheduleText.{schedule_format}
-use Rattle.cert_text.specs.CertificateText.{certificate_format}
 use Rattle.machine_text.specs.MachineText.{ReadsMachine, machine_format}
 use Rattle.quadrant_compile.specs.WeaveText.{ReadsQuadrant, quadrant_format}
 use Rattle.tilebench.specs.Growing.{TellsNoGrowth}
@@ -26,7 +25,7 @@ use Rattle.tilebench.specs.Commands.Report.{report_row}
 use Rattle.tilebench.specs.Commands.Schedule.{IsScheduleAnswer}
 use Rattle.tilebench.specs.Commands.Turing.{IsTuringAnswer}
 use Rattle.tilebench.specs.Commands.Upgrade.{IsUpgradeAnswer}
-use Rattle.tilebench.specs.Commands.Verify.{IsVerifyAnswer}
+use Rattle.tilebench.specs.Commands.Verify.{verify_row}
 use Rattle.tilebench.specs.Commands.Watch.{watch_row}
 pub mod Batch
 pub mod Certify
@@ -64,7 +63,6 @@ room_of command.Quadrant =
     reading ReadsQuadrant (Fault quadrant_format) alone (TellsNoGrowth IsQuadrantAnswer)
 room_of command.Picture = reading ReadsAny FaultAny grid_format (TellsNoGrowth IsPictureAnswer)
 room_of command.Certify = reading ReadsAny FaultAny grid_format (TellsNoGrowth IsCertifyAnswer)
-room_of (command.Verify workers) =
-    reading ReadsAny FaultAny certificate_format (TellsNoGrowth IsVerifyAnswer)
+room_of (command.Verify workers) = verify_row
 room_of (command.Counter bits start) = counter_row bits start
 room_of (command.Load number) = load_row number

@@ -7,11 +7,12 @@ use Rattle.cert_check.specs.declared.verdict.CertVerdict.{CertVerdict}
 use Rattle.cert_check.specs.declared.verdict.CertVerdict.TheVariants.{Yes}
 use Rattle.cert_check.specs.Judgement.{IsVerdict}
 use Rattle.cert_check.specs.Laws.{IsCertified}
+use Rattle.tile_text.specs.SystemText.{FaultAny, ReadsAny}
 use Rattle.cert_text.specs.CertificateLines.{verified_line}
 use Rattle.cert_text.specs.CertificateText.{certificate_format}
 use Rattle.tilebench.specs.Growing.{TellsNoGrowth}
 use Rattle.tilebench.specs.Inputs.{IsSystemThenCertificate}
-use Rattle.tilebench.specs.Rows.{RoomRow, refuses_none}
+use Rattle.tilebench.specs.Rows.{RoomRow, reading}
 
 -- it is a yes where no check fails
 abbrev pub is_verified : CertVerdict → Bool
@@ -29,3 +30,6 @@ pub record IsVerifyAnswer (input : List ℕ) (is_yes : Bool) (text : List ℕ) :
   pub answer : is_yes ≡ is_verified verdict
   -- a yes exactly where some locally deterministic sequence has exactly the entries' places, their sides as its input sides, and ranks that rise
   pub certified : is_yes ≡ true ↔ ((s : List Place) × IsCertified sys entries s)
+
+abbrev pub verify_row : RoomRow
+verify_row = reading ReadsAny FaultAny certificate_format (TellsNoGrowth IsVerifyAnswer)

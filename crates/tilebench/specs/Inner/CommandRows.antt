@@ -29,6 +29,3 @@ turing_row = room_of command.Turing
 
 abbrev pub upgrade_row : RoomRow
 upgrade_row = room_of command.Upgrade
-
-abbrev pub verify_row : RoomRow
-verify_row = room_of command.Verify

@@ -1,3 +1,4 @@
+use Rattle.std.proofs.Math.Nat.{le_trans}
 use Rattle.std.proofs.Common.{◌∙◌, ℕ, List, Option}
 use Rattle.std.proofs.lemmas.Result.{err_from_is_err_and}
 use Rattle.cert_check.specs.declared.entry.Entry.{Entry}
@@ -33,4 +34,4 @@ returns-clause-read g c =
     let found = c.in_ok-certificate.ensures.read in
     let whole = found.0.0 in
     let all = front_whole g.S.Source.left c.args.source.now c.front_of.new.source front read.0 c.read_certificate_in_blocks.new.source whole found.0.1 in
-    ((whole, all.0, record { end = front.end; reads = all.1; rest = found.0.2 }), found.1 ∙ read.1)
+    ((whole, all.0, record { end = front.end; reads = all.1; rest = found.0.2 }), le_trans read.1 found.1)

@@ -1,3 +1,4 @@
+use Rattle.std.proofs.Math.Nat.{le_trans}
 use Rattle.std.proofs.Common.{◌∙◌, ℕ, List, Option}
 use Rattle.std.proofs.lemmas.Result.{err_from_is_err_and}
 use Rattle.atam.specs.declared.place.Place.{Place}
@@ -35,4 +36,4 @@ returns-clause-read g c =
     let whole = found.0.0 in
     let all = front_whole g.S.Source.left c.args.source.now c.front_of.new.source front read.0 c.read_grid_in_blocks.new.source whole found.0.1 in
     let grid = found.0.2 in
-    ((whole, all.0, (grid.places, record { end = front.end; reads = all.1; rest = grid.reads }, record { same = grid.same; distinct = c.in_ok-grid.ensures.distinct })), found.1 ∙ read.1)
+    ((whole, all.0, (grid.places, record { end = front.end; reads = all.1; rest = grid.reads }, record { same = grid.same; distinct = c.in_ok-grid.ensures.distinct })), le_trans read.1 found.1)

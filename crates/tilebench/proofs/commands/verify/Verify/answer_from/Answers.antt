@@ -4,8 +4,7 @@ use Rattle.atam.specs.TileSystem.{TileSystem}
 use Rattle.cert_check.specs.declared.entry.Entry.{Entry}
 use Rattle.cert_text.specs.CertificateLines.{NamesKnownType, verified_line}
 use Rattle.tilebench.specs.declared.commands.verify.Verified.{Verified}
-use Rattle.tilebench.specs.Commands.Verify.{is_verified}
-use Rattle.tilebench.specs.Inner.CommandRows.{verify_row}
+use Rattle.tilebench.specs.Commands.Verify.{is_verified, verify_row}
 use Rattle.tilebench.specs.Inputs.{IsSystemThenCertificate}
 use Rattle.tilebench.specs.Inner.Gives.{HoldsWhole}
 use Rattle.tilebench.proofs.Certificates.{verify_answer}

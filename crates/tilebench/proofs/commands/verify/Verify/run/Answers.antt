@@ -1,8 +1,7 @@
 use Rattle.cert_text.specs.CertificateLines.{NamesKnownType, verified_line}
 use Rattle.cert_text.specs.CertificateText.{certificate_format}
 use Rattle.tilebench.specs.declared.commands.verify.Verified.{Verified}
-use Rattle.tilebench.specs.Commands.Verify.{is_verified}
-use Rattle.tilebench.specs.Inner.CommandRows.{verify_row}
+use Rattle.tilebench.specs.Commands.Verify.{is_verified, verify_row}
 use Rattle.tilebench.specs.Inner.Readings.{taken_or_faulty}
 use Rattle.tilebench.proofs.Endings.{run_ends}
 use Rattle.tilebench.proofs.commands.verify.Verify.run.Goals as goal
