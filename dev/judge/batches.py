@@ -1,9 +1,10 @@
-"""What `batch` must answer: many systems, each grown by least sites and least types, from docs/FORMATS.md."""
-import heapq
+"""What `batch` must answer: many systems, each grown by the choice of its job, from docs/FORMATS.md."""
+import re
 
-from judge.model import growth_text
+from judge.model import full_growth, growth_text
 from judge.systems import read_system
-from judge.texts import Cause, Fault, number_in, STEPS, TooLarge, U32
+from judge.texts import Cause, Fault, number_in, U32
+from judge.wanted import check_growth, is_only_one, Wanted
 
 MOST_JOBS, MOST_SITES = 1024, 4194304
 
@@ -33,36 +34,38 @@ def read_batch(lines):
     return systems
 
 
-def least_growth(system, most):
-    """What grows where each time the least open site of the box gets the first type that attaches there."""
-    tiles, ready = dict(system.seeds), []
-
-    def look_beside(x, y):
-        for a, b in STEPS:
-            site = x + a, y + b
-            if site not in tiles and system.has(site) and system.attaching(system.facing(tiles, *site)):
-                heapq.heappush(ready, (site[1], site[0]))
-
-    for site, _ in system.seeds:
-        look_beside(*site)
-    while ready:
-        y, x = heapq.heappop(ready)
-        if (x, y) not in tiles:
-            # (what attached once still does, and others may do so too by now)
-            tiles[x, y] = system.attaching(system.facing(tiles, x, y))[0]
-            look_beside(x, y)
-            if len(tiles) > most:
-                raise TooLarge
-    return tiles
+def objection(check, part):
+    """What is wrong with a job's part: `check` is the one text that is right, or says what is wrong with one."""
+    if callable(check):
+        return check(part)
+    return None if part == check else f"wanted {check[-300:]!r} at its end"
 
 
-def batch_text(systems, most):
-    """The answer, and whether it is a yes."""
-    parts, yes = [], 0
-    for number, system in enumerate(systems):
-        tiles = least_growth(system, most)
+def check_batch(checks, end):
+    """Judges what `batch` printed, job by job: each part as what `grow` prints with the job's number."""
+
+    def check(out):
+        if not out.endswith(end):
+            return f"it does not end with {end!r}"
+        parts = re.split(rb"(?m)^job ([0-9]+)\n", out[: -len(end)])
+        if parts[0] != b"" or [int(it) for it in parts[1::2]] != list(range(len(checks))):
+            return "it is not one part for each job, in their order"
+        for number, (wanted, part) in enumerate(zip(checks, parts[2::2])):
+            wrong = objection(wanted, part)
+            if wrong:
+                return f"job {number}: {wrong}"
+        return None
+
+    return check
+
+
+def wanted_batch(systems, most):
+    """What must come: which of several growths a job shows is free where more than one is right."""
+    checks, yes = [], 0
+    for system in systems:
+        tiles = full_growth(system, most)
         text, said = growth_text(system, tiles)
-        parts.append(b"job %d\n%s" % (number, text))
         most, yes = most - len(tiles), yes + (said == b"yes")
-    parts.append(b"done %d yes %d\n" % (len(systems), yes))
-    return b"".join(parts), yes == len(systems)
+        checks.append(text if is_only_one(said) else check_growth(system))
+    end = b"done %d yes %d\n" % (len(systems), yes)
+    return Wanted(0 if yes == len(systems) else 1, check=check_batch(checks, end))

@@ -1,5 +1,5 @@
 """The judge: for words and an input what the program must answer."""
-from judge.batches import batch_text, read_batch
+from judge.batches import read_batch, wanted_batch
 from judge.certificates import certified, read_certificate, verified
 from judge.frames import check_watch
 from judge.machines import counter_refusal, counter_text, load_text, read_machine
@@ -86,8 +86,7 @@ class Judge:
             lines.end()
             return Wanted(0, compiled.system())
         if command == "batch":
-            text, is_yes = batch_text(read_batch(lines), self.most_tiles)
-            return Wanted(0 if is_yes else 1, text)
+            return wanted_batch(read_batch(lines), self.most_tiles)
         system = read_system(lines)
         if command in ("format", "upgrade"):
             lines.end()

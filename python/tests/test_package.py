@@ -142,6 +142,18 @@ def test_a_batch_answers_as_it_comes_and_in_its_order():
     assert list(tb.batch([])) == []
 
 
+def test_a_job_grows_as_one_worker_does_by_its_choice():
+    """64 jobs of a system in which several types attach at most sites, and 64 calls of `grow`."""
+    tiles = [f"tile T{at} g{at % 3} g{(at + 1) % 3} g{at % 3} g{(at + 2) % 3}\n" for at in range(9)]
+    system = "tiles 1\ntau 1\nglue g0 1\nglue g1 1\nglue g2 1\n" + "".join(tiles) + "box 0 0 9 9\nseed 3 3 T0\nend\n"
+    jobs = "batch 1\n" + "".join(f"job {choice}\n{system}" for choice in range(64))
+    alone = [program.answer(["grow", "--choice", choice], system)[1] for choice in range(64)]
+    together = program.answer(["batch", "--workers", 4], jobs)[1]
+    assert together == b"".join(b"job %d\n%s" % it for it in enumerate(alone)) + b"done 64 yes 0\n"
+    assert len(set(alone)) > 1
+    assert [it.text for it in tb.batch([system] * 3, choice=5)] == [tb.grow(system, choice=5).text] * 3
+
+
 def test_a_batch_that_is_left_early_ends():
     for growth in tb.batch([triangle(64)] * 200):
         assert len(growth) == 4096

@@ -81,11 +81,12 @@ def report(system: SystemOrText, *, workers: int = 1, choice: int = 0) -> dict[s
     return dict(json.loads(program.answer(["report", "--workers", workers, "--choice", choice], text_of(system))[1]))
 
 
-def batch(systems: Iterable[SystemOrText], *, workers: int = 1) -> Iterator[Growth]:
+def batch(systems: Iterable[SystemOrText], *, choice: int = 0, workers: int = 1) -> Iterator[Growth]:
     """Grows many systems, and answers the growths one after the other, as they come.
 
     One run of the program takes up to 1024 systems whose boxes have at most 4194304 sites together; of more there are
-    several. In each system the least open site gets the first type that attaches there.
+    several. Each grows as one worker of `grow` grows it with this choice, 0 to 4294967295; `workers` share the systems
+    out among them, and no growth depends on their number.
     """
     taken: list[System] = []
     sites = size = 0
@@ -94,17 +95,17 @@ def batch(systems: Iterable[SystemOrText], *, workers: int = 1) -> Iterator[Grow
         x0, y0, x1, y1 = system.box
         area, bytes_more = (x1 - x0 + 1) * (y1 - y0 + 1), len(system.text.encode()) + 16
         if taken and (len(taken) == MOST_JOBS or sites + area > MOST_SITES or size + bytes_more > MOST_BYTES):
-            yield from one_batch(taken, workers)
+            yield from one_batch(taken, choice, workers)
             taken, sites, size = [], 0, 0
         taken.append(system)
         sites, size = sites + area, size + bytes_more
     if taken:
-        yield from one_batch(taken, workers)
+        yield from one_batch(taken, choice, workers)
 
 
-def one_batch(systems: list[System], workers: int) -> Iterator[Growth]:
+def one_batch(systems: list[System], choice: int, workers: int) -> Iterator[Growth]:
     """The growths of one run."""
-    text = "batch 1\n" + "".join(f"job {at % 1024}\n{it.text}" for at, it in enumerate(systems))
+    text = "batch 1\n" + "".join(f"job {choice}\n{it.text}" for it in systems)
     at, part = -1, [b""]
     for line in program.answered_lines(["batch", "--workers", workers], text):
         if line.startswith((b"job ", b"done ")):

@@ -153,7 +153,10 @@ const BOXES: [Change; 3] = [
 
 #[test]
 fn a_verdict_on_a_cut_growth_is_of_its_box(rt: HostRuntime) -> Result<(), Fail> {
-    assert_eq!(rt; first_unlike_change(&rt, rt.alloc(), ROUND, &BOXES)?, None);
+    assert_eq!(rt;
+        first_unlike_change(&rt, rt.alloc(), "grow", ROUND, &BOXES)?,
+        None
+    );
     Ok(())
 }
 
