@@ -51,13 +51,13 @@ const RUNS: [Case; 10] = [
             done 1 yes 1\n",
         err: "",
     },
-    // whatever the choice, the least of the types that attach is placed
+    // a job's choice picks among the types that attach, as one worker of grow does by it
     Case {
         words: &["batch"],
         system: "batch 1\njob 1\n",
         behind: RIVALS,
         status: Status::No,
-        out: "job 0\nplace 0 0 S\nplace 1 0 A\nclosed terminal\nunique no 2 1 0 B\n\
+        out: "job 0\nplace 0 0 S\nplace 1 0 B\nclosed terminal\nunique no 2 1 0 A\n\
             done 1 yes 0\n",
         err: "",
     },
