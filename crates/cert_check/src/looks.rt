@@ -97,7 +97,6 @@ pub(crate) struct Looks {
 }
 
 impl Drop for Looks {
-    // One call wherever it is given back.
     fn drop(self) {
         let Looks {
             last: _last,

@@ -127,11 +127,11 @@ fn check_all<R: Threads + Sync, G: Gate>(
             )
         },
     )?;
-    unite(verdicts)
+    first_fault(verdicts)
 }
 
 // The first fault that was found in portions that follow each other.
-fn unite(verdicts: Vec<Result<CertVerdict, NoMemory>>) -> Result<CertVerdict, NoMemory>
+fn first_fault(verdicts: Vec<Result<CertVerdict, NoMemory>>) -> Result<CertVerdict, NoMemory>
     ensures { IfOk result (λ verdict. (sys : TileSystem) (c : List Entry) (end : ℕ) →
         InARow (ChecksPortion sys c) 0 0 end verdicts.items → IsChecked sys c 0 end verdict) }
 {

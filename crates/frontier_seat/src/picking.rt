@@ -33,7 +33,6 @@ pub(crate) struct Picker<'i> {
 }
 
 impl<'i> Drop for Picker<'i> {
-    // One call wherever it is given back.
     fn drop(self) {
         let Picker {
             types: _types,

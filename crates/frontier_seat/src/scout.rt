@@ -47,7 +47,6 @@ pub struct Scout<'i> {
 }
 
 impl<'i> Drop for Scout<'i> {
-    // One call wherever it is given back.
     fn drop(self) {
         let Scout {
             growing: _growing,

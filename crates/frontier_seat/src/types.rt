@@ -20,7 +20,6 @@ pub(crate) struct Types<'i> {
 }
 
 impl<'i> Drop for Types<'i> {
-    // One call wherever it is given back.
     fn drop(self) {
         let Types { holding: _holding } = self;
     }

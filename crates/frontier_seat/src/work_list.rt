@@ -34,7 +34,6 @@ pub(crate) struct WorkList {
 }
 
 impl Drop for WorkList {
-    // One call wherever it is given back.
     fn drop(self) {
         let WorkList {
             area: _area,

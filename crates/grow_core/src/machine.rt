@@ -30,7 +30,6 @@ pub struct Core {
 }
 
 impl Drop for Core {
-    // One call wherever it is given back.
     fn drop(self) {
         let Core {
             alloc: _alloc,

@@ -24,7 +24,6 @@ pub(crate) struct PlacedTiles {
 }
 
 impl Drop for PlacedTiles {
-    // One call wherever it is given back.
     fn drop(self) {
         let PlacedTiles {
             grid: _grid,

@@ -29,7 +29,6 @@ pub(crate) struct Scouts {
 }
 
 impl Drop for Scouts {
-    // One call wherever it is given back.
     fn drop(self) {
         let Scouts {
             area: _area,

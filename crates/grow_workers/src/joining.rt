@@ -48,13 +48,13 @@ pub(crate) fn join<G: Gate>(
         log: first.log,
     };
     while let Some(part) = left.pop() {
-        team = unite(shared, team, part?)?;
+        team = join_part(shared, team, part?)?;
     }
     Ok(team)
 }
 
 // What several workers leave, and one that was parted off from them.
-fn unite<G: Gate>(shared: &Shared<'_, G>, rest: Harvest, part: Part) -> Result<Harvest, NoMemory>
+fn join_part<G: Gate>(shared: &Shared<'_, G>, rest: Harvest, part: Part) -> Result<Harvest, NoMemory>
     requires shared { IsShared shared.now }
     requires first { HasSeen shared.now rest.seat rest.grid }
     requires log { IfSome rest.log (IsLogOf shared.now.sys.now rest.grid) }

@@ -22,7 +22,6 @@ pub struct Board<'a> {
 }
 
 impl<'a> Drop for Board<'a> {
-    // One call wherever it is given back.
     fn drop(self) {
         let Board {
             jobs: _jobs,

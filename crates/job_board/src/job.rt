@@ -10,7 +10,6 @@ pub struct Job {
 }
 
 impl Drop for Job {
-    // One call wherever it is given back.
     fn drop(self) {
         let Job {
             sys: _sys,

@@ -31,7 +31,6 @@ pub struct Outcome {
 }
 
 impl Drop for Outcome {
-    // One call wherever it is given back.
     fn drop(self) {
         let Outcome {
             sequence: _sequence,

@@ -54,7 +54,6 @@ pub(crate) struct Findings {
 }
 
 impl Drop for Findings {
-    // One call wherever it is given back.
     fn drop(self) {
         let Findings {
             last: _last,

@@ -51,7 +51,6 @@ pub(crate) struct Glances {
 }
 
 impl Drop for Glances {
-    // One call wherever it is given back.
     fn drop(self) {
         let Glances {
             last: _last,

@@ -36,7 +36,6 @@ pub struct SideSets<'a> {
 }
 
 impl<'a> Drop for SideSets<'a> {
-    // One call wherever it is given back.
     fn drop(self) {
         let SideSets {
             grid: _grid,

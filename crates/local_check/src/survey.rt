@@ -48,11 +48,11 @@ pub(crate) fn survey_all<R: Threads + Sync>(
             ensures { IfOk result (IsSurvey sys.entry.now seq.entry.now places.start places.end) }
         { survey_range(alloc, sys, seq, whole, types, places.start, places.end) },
     )?;
-    unite(surveys)
+    one_survey(surveys)
 }
 
 // What was found in portions that follow each other.
-fn unite(mut surveys: Vec<Result<Survey, NoMemory>>) -> Result<Survey, NoMemory>
+fn one_survey(mut surveys: Vec<Result<Survey, NoMemory>>) -> Result<Survey, NoMemory>
     requires { 0 < length surveys.items }
     ensures { IfOk result (λ survey. (sys : TileSystem) (s : List Place) (end : ℕ) →
         InARow (SurveysPortion sys s) 0 0 end surveys.items → IsSurvey sys s 0 end survey) }

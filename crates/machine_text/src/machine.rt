@@ -26,7 +26,6 @@ pub struct Machine {
 }
 
 impl Drop for Machine {
-    // One call wherever it is given back.
     fn drop(self) {
         let Machine {
             states: _states,

@@ -17,7 +17,6 @@ pub struct NameList {
 }
 
 impl Drop for NameList {
-    // One call wherever it is given back.
     fn drop(self) {
         let NameList {
             names: _names,

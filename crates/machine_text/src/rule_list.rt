@@ -18,7 +18,6 @@ pub(crate) struct RuleList {
 }
 
 impl Drop for RuleList {
-    // One call wherever it is given back.
     fn drop(self) {
         let RuleList {
             transitions: _transitions,

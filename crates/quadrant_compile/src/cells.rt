@@ -22,8 +22,8 @@ pub fn cell_at(quadrant: &Quadrant, grid: &Grid, column: u32, row: u32) -> Optio
     // Where only tiles of cells are at cells, it is none exactly where the site is empty.
     ensures there { HasCells quadrant.now grid.now.tiles →
         is_some result ≡ is_some (tile_at grid.now.tiles (cell_site column row)) }
-    // Of what nothing extends in the box it is what the recurrence has there, where that has a
-    // rule.
+    // Of a producible assembly that nothing extends in the box it is what the recurrence has there,
+    // where that has a rule.
     ensures recurrence { (e n : ℕ → ℕ → Option ℕ) → IsRecurrence quadrant.now e n →
         IsFullGrowth quadrant.now grid.now.tiles →
         result ≡ ruled_inputs quadrant.now (e (column - 1) row) (n column (row - 1)) }

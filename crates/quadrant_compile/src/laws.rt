@@ -29,9 +29,9 @@ pub fn law_recurrence()
     ensures one { TheRecurrenceIsOne }
 {}
 
-/// Whatever is placed, in whatever order, lies in the box and has the tile that belongs there; what
-/// nothing extends in the box shows the recurrence cell by cell, and is empty where it has none;
-/// and nothing else grows.
+/// Whatever a legal sequence places lies in the box and has the tile that belongs there; a producible
+/// assembly that nothing extends in the box shows the recurrence cell by cell, and is empty where it
+/// has none; and nothing else grows.
 pub fn law_quadrant()
     ensures places { PlacesAreOfTheWeave }
     ensures in_box { PlacesAreInTheBox }

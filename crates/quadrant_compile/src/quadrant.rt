@@ -24,7 +24,6 @@ pub struct Quadrant {
 }
 
 impl Drop for Quadrant {
-    // One call wherever it is given back.
     fn drop(self) {
         let Quadrant {
             symbols: _symbols,

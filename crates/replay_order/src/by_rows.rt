@@ -74,7 +74,7 @@ fn order_by_rows<R: Threads + Sync>(
                 rows.worker rows.start rows.end result }
         { list_rows(alloc, sys, grid, rows) },
     )?;
-    let order = unite(parts)?;
+    let order = one_sequence(parts)?;
     if order.len() < grid.count() as usize {
         return Ok(None);
     }
@@ -116,7 +116,7 @@ fn log_of(alloc: Global, sys: &System, worker: u32, count: usize) -> Result<Plac
 }
 
 // What all workers have listed, one behind the other.
-fn unite(mut parts: Vec<Result<Sequence, NoMemory>>) -> Result<Sequence, NoMemory>
+fn one_sequence(mut parts: Vec<Result<Sequence, NoMemory>>) -> Result<Sequence, NoMemory>
     requires { 0 < length parts.items }
     ensures { IfOk result (λ order. (sys : TileSystem) (grid : TileGrid) (end : ℕ) →
         CanList sys grid → InARow (ListsRows sys grid) 0 0 end parts.items →

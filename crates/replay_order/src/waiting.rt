@@ -28,7 +28,6 @@ pub(crate) struct WaitingSites {
 }
 
 impl Drop for WaitingSites {
-    // One call wherever it is given back.
     fn drop(self) {
         let WaitingSites {
             area: _area,

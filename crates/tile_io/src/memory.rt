@@ -21,7 +21,6 @@ pub struct MemorySource {
 }
 
 impl Drop for MemorySource {
-    // One call wherever it is given back.
     fn drop(self) {
         let MemorySource {
             bytes: _bytes,
@@ -143,7 +142,6 @@ pub struct MemorySink {
 }
 
 impl Drop for MemorySink {
-    // One call wherever it is given back.
     fn drop(self) {
         let MemorySink {
             bytes: _bytes,

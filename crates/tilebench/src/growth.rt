@@ -22,7 +22,6 @@ pub struct Growth {
 }
 
 impl Drop for Growth {
-    // One call wherever it is given back.
     fn drop(self) {
         let Growth {
             sys: _sys,

@@ -1,9 +1,9 @@
 // Laws of the tiles of a machine, each as the contract of a function that does nothing.
 ghost use Rattle.turing_compile.specs.Laws.{PlacesShowTheRun, FullGrowthsShowTheRun, FullGrowthsReadBack, StoppedRunsAreDeterministic, CompiledSystemsAreValid, CompiledSystemsAreSmall};
 
-/// Whatever is placed, in whatever order, shows a cell of the machine's run; what nothing extends
-/// in the box shows the run row by row; and where the machine stops within the rows, nothing else
-/// grows.
+/// Whatever a legal sequence places shows a cell of the machine's run; a producible assembly that
+/// nothing extends in the box shows the run row by row; and where the machine stops within the rows,
+/// nothing else grows.
 pub fn law_run()
     ensures places { PlacesShowTheRun }
     ensures rows { FullGrowthsShowTheRun }

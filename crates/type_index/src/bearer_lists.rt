@@ -21,7 +21,6 @@ pub(crate) struct BearerLists {
 }
 
 impl Drop for BearerLists {
-    // One call wherever it is given back.
     fn drop(self) {
         let BearerLists {
             first: _first,

@@ -30,7 +30,6 @@ pub(crate) struct GlueTable {
 }
 
 impl Drop for GlueTable {
-    // One call wherever it is given back.
     fn drop(self) {
         let GlueTable {
             strengths: _strengths,

@@ -26,7 +26,6 @@ pub struct HeldList {
 }
 
 impl Drop for HeldList {
-    // One call wherever it is given back.
     fn drop(self) {
         let HeldList {
             key: _key,

@@ -34,7 +34,6 @@ pub(crate) struct MeetingLists {
 }
 
 impl Drop for MeetingLists {
-    // One call wherever it is given back.
     fn drop(self) {
         let MeetingLists {
             first: _first,

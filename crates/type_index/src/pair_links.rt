@@ -20,7 +20,6 @@ pub(crate) struct PairLinks {
 }
 
 impl Drop for PairLinks {
-    // One call wherever it is given back.
     fn drop(self) {
         let PairLinks {
             first: _first,

@@ -15,7 +15,6 @@ pub struct Frames {
 }
 
 impl Drop for Frames {
-    // One call wherever it is given back.
     fn drop(self) {
         let Frames {
             places: _places,

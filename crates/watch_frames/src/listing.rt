@@ -27,7 +27,6 @@ pub(crate) struct Listing {
 }
 
 impl Drop for Listing {
-    // One call wherever it is given back.
     fn drop(self) {
         let Listing {
             listed: _listed,

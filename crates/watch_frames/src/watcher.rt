@@ -25,7 +25,6 @@ pub struct Watcher {
 }
 
 impl Drop for Watcher {
-    // One call wherever it is given back.
     fn drop(self) {
         let Watcher {
             seat: _seat,

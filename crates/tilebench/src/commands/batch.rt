@@ -89,7 +89,6 @@ pub struct Batched {
 }
 
 impl Drop for Batched {
-    // One call wherever it is given back.
     fn drop(self) {
         let Batched {
             jobs: _jobs,

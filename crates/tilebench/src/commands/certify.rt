@@ -61,7 +61,6 @@ pub struct Certified {
 }
 
 impl Drop for Certified {
-    // One call wherever it is given back.
     fn drop(self) {
         let Certified {
             sys: _sys,

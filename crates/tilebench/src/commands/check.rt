@@ -60,7 +60,6 @@ pub struct Checked {
 }
 
 impl Drop for Checked {
-    // One call wherever it is given back.
     fn drop(self) {
         let Checked {
             sys: _sys,

@@ -110,7 +110,6 @@ pub struct Loaded {
 }
 
 impl Drop for Loaded {
-    // One call wherever it is given back.
     fn drop(self) {
         let Loaded {
             number: _number,

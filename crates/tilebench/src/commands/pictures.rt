@@ -52,7 +52,6 @@ pub struct Pictured {
 }
 
 impl Drop for Pictured {
-    // One call wherever it is given back.
     fn drop(self) {
         let Pictured {
             sys: _sys,

@@ -52,7 +52,6 @@ pub struct Replayed {
 }
 
 impl Drop for Replayed {
-    // One call wherever it is given back.
     fn drop(self) {
         let Replayed {
             sys: _sys,

@@ -63,7 +63,6 @@ pub struct Scheduled {
 }
 
 impl Drop for Scheduled {
-    // One call wherever it is given back.
     fn drop(self) {
         let Scheduled {
             sys: _sys,

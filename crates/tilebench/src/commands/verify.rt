@@ -110,7 +110,6 @@ pub struct Verified {
 }
 
 impl Drop for Verified {
-    // One call wherever it is given back.
     fn drop(self) {
         let Verified {
             sys: _sys,

@@ -129,7 +129,6 @@ pub struct Watched {
 }
 
 impl Drop for Watched {
-    // One call wherever it is given back.
     fn drop(self) {
         let Watched {
             frames: _frames,

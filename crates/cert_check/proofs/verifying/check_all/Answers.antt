@@ -13,4 +13,4 @@ returns g c =
     let row : InARow (ChecksPortion sys entries) 0 0 c.len.result verdicts =
     row_map _ (ChecksPortion sys entries) (λ worker start end found below said. search rules) 0 0 c.len.result verdicts c.in_ok-verdicts.ensures.each
     in
-    IfOk-weaker c.unite.result _ _ (λ verdict all. all sys entries (length entries) (subst (λ (end : ℕ). InARow (ChecksPortion sys entries) 0 0 end verdicts) c.len.ensures row)) c.unite.ensures
+    IfOk-weaker c.first_fault.result _ _ (λ verdict all. all sys entries (length entries) (subst (λ (end : ℕ). InARow (ChecksPortion sys entries) 0 0 end verdicts) c.len.ensures row)) c.first_fault.ensures

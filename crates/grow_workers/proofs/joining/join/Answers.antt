@@ -29,8 +29,8 @@ loop-part-init g c =
           (joined_first shared old grid starts done left part last are works);
     }
 
-pub unite-requires-clause-second : goal.unite-requires-clause-second
-unite-requires-clause-second g c κs within =
+pub join_part-requires-clause-second : goal.join_part-requires-clause-second
+join_part-requires-clause-second g c κs within =
     let shared = c.args.shared.now in
     let new = c.pop-in-loop-part.new.self.items in
     let part : Part = c.in_ok-part.field-0 in

@@ -13,4 +13,4 @@ returns g c =
     let row : InARow (SurveysPortion sys s) 0 0 c.len.result surveys =
     row_map _ (SurveysPortion sys s) (λ worker start end found below said. search rules) 0 0 c.len.result surveys c.in_ok-surveys.ensures.each
     in
-    IfOk-weaker c.unite.result _ _ (λ survey all. all sys s (length s) (subst (λ (end : ℕ). InARow (SurveysPortion sys s) 0 0 end surveys) c.len.ensures row)) c.unite.ensures
+    IfOk-weaker c.one_survey.result _ _ (λ survey all. all sys s (length s) (subst (λ (end : ℕ). InARow (SurveysPortion sys s) 0 0 end surveys) c.len.ensures row)) c.one_survey.ensures

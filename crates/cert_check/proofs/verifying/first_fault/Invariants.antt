@@ -3,7 +3,7 @@ use Rattle.atam.specs.TileSystem.{TileSystem}
 use Rattle.fan_out.specs.Portions.{InARow}
 use Rattle.cert_check.specs.declared.entry.Entry.{Entry}
 use Rattle.cert_check.specs.Inner.Checks.{ChecksPortion, IsChecked}
-use Rattle.cert_check.proofs.verifying.unite.Given as goal
+use Rattle.cert_check.proofs.verifying.first_fault.Given as goal
 
 -- the portions before some entry are united, and the others follow
 abbrev pub invariant-loop-verdict : goal.invariant-loop-verdict

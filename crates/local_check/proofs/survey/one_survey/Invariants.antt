@@ -4,7 +4,7 @@ use Rattle.atam.specs.TileSystem.{TileSystem}
 use Rattle.fan_out.specs.Portions.{InARow}
 use Rattle.local_check.specs.Inner.Portions.{SurveysPortion}
 use Rattle.local_check.specs.Inner.Surveys.{IsSurvey}
-use Rattle.local_check.proofs.survey.unite.Given as goal
+use Rattle.local_check.proofs.survey.one_survey.Given as goal
 
 -- the portions before some place are united, and the others follow
 abbrev pub invariant-loop-survey : goal.invariant-loop-survey

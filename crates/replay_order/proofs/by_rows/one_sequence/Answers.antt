@@ -10,7 +10,7 @@ use Rattle.fan_out.proofs.InARow.{first_rest}
 use Rattle.replay_order.specs.Inner.Rows.{begun_by, ListsRows}
 use Rattle.replay_order.specs.Inner.Spans.{IsListedBehind}
 use Rattle.replay_order.proofs.Rows.{rows_more}
-use Rattle.replay_order.proofs.by_rows.unite.Goals as goal
+use Rattle.replay_order.proofs.by_rows.one_sequence.Goals as goal
 
 pub loop-part-init : goal.loop-part-init
 loop-part-init c sys grid end can row =

@@ -7,7 +7,7 @@ use Rattle.grow_workers.specs.Inner.Wins.{PartedGrowth}
 use Rattle.grow_workers.proofs.Winning.{united_grew, united_seen}
 use Rattle.grow_workers.proofs.Stages.{far_joined}
 use Rattle.grow_workers.proofs.Whole.{closed_by_log, log_stays, nothing_comes}
-use Rattle.grow_workers.proofs.joining.unite.Goals as goal
+use Rattle.grow_workers.proofs.joining.join_part.Goals as goal
 
 pub take_over-requires-clause-agree : goal.take_over-requires-clause-agree
 take_over-requires-clause-agree g c m t u one other =

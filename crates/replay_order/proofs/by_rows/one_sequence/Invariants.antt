@@ -5,7 +5,7 @@ use Rattle.assembly.specs.Grids.{TileGrid}
 use Rattle.fan_out.specs.Portions.{InARow}
 use Rattle.replay_order.specs.Inner.Rows.{ListsRows}
 use Rattle.replay_order.specs.Inner.Spans.{IsListedBehind, CanList}
-use Rattle.replay_order.proofs.by_rows.unite.Given as goal
+use Rattle.replay_order.proofs.by_rows.one_sequence.Given as goal
 
 -- the rows before some row are listed, and those of the other workers follow
 abbrev pub invariant-loop-part : goal.invariant-loop-part

@@ -7,7 +7,7 @@ use Rattle.fan_out.proofs.InARow.{first_rest}
 use Rattle.local_check.specs.declared.survey.Survey.{Survey}
 use Rattle.local_check.specs.Inner.Portions.{SurveysPortion}
 use Rattle.local_check.specs.Inner.Surveys.{IsSurvey}
-use Rattle.local_check.proofs.survey.unite.Goals as goal
+use Rattle.local_check.proofs.survey.one_survey.Goals as goal
 
 pub loop-survey-init : goal.loop-survey-init
 loop-survey-init c sys s end row =

@@ -6,7 +6,7 @@ use Rattle.fan_out.specs.Portions.{InARow}
 use Rattle.cert_check.specs.declared.verdict.CertVerdict.{CertVerdict}
 use Rattle.cert_check.specs.Inner.Checks.{ChecksPortion, IsChecked}
 use Rattle.cert_check.proofs.Chunks.{chunks_join, nothing_checked}
-use Rattle.cert_check.proofs.verifying.unite.Goals as goal
+use Rattle.cert_check.proofs.verifying.first_fault.Goals as goal
 
 pub loop-verdict-init : goal.loop-verdict-init
 loop-verdict-init c sys s end row =
