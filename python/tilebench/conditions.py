@@ -7,11 +7,12 @@ are offered enough, and that no type takes.
 from __future__ import annotations
 
 from array import array
-from collections import Counter
 from collections.abc import Iterator
 from dataclasses import dataclass, field
+from itertools import islice
 
-from tilebench.grid import Grid, Signature
+from tilebench.alike import Alike, Cells
+from tilebench.grid import Grid
 from tilebench.growth import Growth
 from tilebench.system import SIDES, Sides, Site, System
 
@@ -28,7 +29,7 @@ class Break:
     pull: int
     bonds: str
     grid: Grid = field(repr=False)
-    cells: array[int] = field(default_factory=lambda: array("i"), repr=False)
+    cells: array[int] | Cells = field(repr=False)
 
     @property
     def count(self) -> int:
@@ -41,7 +42,7 @@ class Break:
 
     def first_sites(self, most: int) -> list[Site]:
         """The first of them."""
-        return [self.grid.site(it) for it in self.cells[:most]]
+        return [self.grid.site(it) for it in islice(self.cells, min(most, self.count))]
 
 
 @dataclass
@@ -98,41 +99,38 @@ def facing_alone(growth: Growth, site: Site) -> Sides:
     return facing_without(growth, site, {side for side in later_sides(growth, site) if bonds[side]})
 
 
-def broken_by(grid: Grid, signature: Signature) -> list[Break]:
-    """What a tile breaks of the first two conditions, by the types around it and which of these came earlier."""
-    system = grid.system
-    kind, around, earlier = signature[0], signature[1:5], signature[5:]
-    name, facing = system.names[kind], system.facing_of(around)
-    bonds, found = system.bonds(name, facing), []
-    before = [it if is_earlier else None for it, is_earlier in zip(facing, earlier)]
-    pull = sum(it for it, is_earlier in zip(bonds, earlier) if is_earlier)
-    if pull != system.tau:
-        found.append(
-            Break(1, name, None, pull, bonds_told(system, name, (before[0], before[1], before[2], before[3])), grid)
-        )
+def broken_at(growth: Growth, cell: int) -> Iterator[tuple[int, str | None, Sides]]:
+    """What the tile at a cell breaks of the first two conditions: the condition, the other type that attaches there
+    (None at the first one), and the glues that hold the tile, or the other type."""
+    grid, system, order = growth.grid, growth.system, growth.order
+    earlier = [order[cell + step] < order[cell] for step in grid.steps]
+    name, facing = system.names[grid.cells[cell]], system.facing_of(grid.around(grid.site(cell)))
+    bonds = system.bonds(name, facing)
+    if sum(it for it, is_earlier in zip(bonds, earlier) if is_earlier) != system.tau:
+        before = [it if is_earlier else None for it, is_earlier in zip(facing, earlier)]
+        yield 1, None, (before[0], before[1], before[2], before[3])
     left = [it if is_earlier or not bond else None for it, is_earlier, bond in zip(facing, earlier, bonds)]
     alone = left[0], left[1], left[2], left[3]
     for other in system.held_by(alone):
         if other != name:
-            found.append(Break(2, name, other, sum(system.bonds(other, alone)), bonds_told(system, other, alone), grid))
-    return found
+            yield 2, other, alone
 
 
 def breaks_of_tiles(growth: Growth) -> list[Break]:
     """All tiles that break one of the first two conditions: what stands at most sites first."""
-    grid = growth.grid
-    found: dict[tuple[int, str | None, str | None], Break] = {}
-    known: dict[Signature, list[Break]] = {}
-    seeds = {grid.number(site) for site, _ in grid.system.seeds}
-    for signature in Counter(grid.signatures(growth.order)):
-        broken = broken_by(grid, signature) if signature[0] >= 0 else []
-        if broken:
-            known[signature] = broken
-    for at, signature in enumerate(grid.signatures(growth.order), grid.wide) if known else ():
-        if signature in known and at not in seeds:
-            for it in known[signature]:
-                found.setdefault((it.condition, it.name, it.other), it).cells.append(at)
-    return sorted(found.values(), key=lambda it: (it.condition, -it.count))
+    grid, system = growth.grid, growth.system
+    found: dict[tuple[int, str, str | None], tuple[Sides, set[int]]] = {}
+    alike = Alike(grid, growth.order, (grid.number(site) for site, _ in system.seeds))
+    for number, cell in enumerate(alike.firsts):
+        kind = grid.cells[cell]
+        for condition, other, facing in broken_at(growth, cell) if kind >= 0 and alike.counts[number] else ():
+            found.setdefault((condition, system.names[kind], other), (facing, set()))[1].add(number)
+    told = []
+    for (condition, name, other), (facing, groups) in found.items():
+        held = other or name
+        pull, bonds = sum(system.bonds(held, facing)), bonds_told(system, held, facing)
+        told.append(Break(condition, name, other, pull, bonds, grid, Cells(alike, groups)))
+    return sorted(told, key=lambda it: (it.condition, -it.count))
 
 
 def attaching_sites(growth: Growth) -> Iterator[Site]:
@@ -142,15 +140,18 @@ def attaching_sites(growth: Growth) -> Iterator[Site]:
 
 def breaks_of_sites(growth: Growth) -> list[Break]:
     """All empty sites at which a type attaches, which breaks the third condition: what attaches at most sites first."""
-    system = growth.system
-    found: dict[str, Break] = {}
+    system, grid = growth.system, growth.grid
+    found: dict[str, tuple[Sides, array[int]]] = {}
     for site in attaching_sites(growth):
-        around = growth.grid.around(site)
-        for kind in system.attaching(around):
-            facing, other = system.facing_of(around), system.names[kind]
-            it = Break(3, None, other, sum(system.bonds(other, facing)), bonds_told(system, other, facing), growth.grid)
-            found.setdefault(other, it).cells.append(growth.grid.number(site))
-    return sorted(found.values(), key=lambda it: -it.count)
+        facing = system.facing_of(grid.around(site))
+        for other in system.held_by(facing):
+            found.setdefault(other, (facing, array("i")))[1].append(grid.number(site))
+    told = []
+    for other, (facing, cells) in found.items():
+        told.append(
+            Break(3, None, other, sum(system.bonds(other, facing)), bonds_told(system, other, facing), grid, cells)
+        )
+    return sorted(told, key=lambda it: -it.count)
 
 
 def breaks(growth: Growth) -> list[Break]:

@@ -2,7 +2,8 @@
 missing."""
 from __future__ import annotations
 
-from collections.abc import Iterator
+from collections.abc import Iterable, Iterator
+from itertools import islice
 
 from tilebench import answers, calls, conditions, lines, refusals, wider
 from tilebench.faults import TilebenchError
@@ -21,11 +22,22 @@ def sites_told(broken: conditions.Break) -> str:
     return ", ".join(map(str, broken.first_sites(MOST_SITES))) + more
 
 
-def named(told: list[str], what: str) -> Iterator[str]:
-    """The first of some lines, and how many more there are."""
-    yield from told[:MOST_NAMED]
-    if len(told) > MOST_NAMED:
-        yield f"and {len(told) - MOST_NAMED} more {what}"
+def named(told: Iterable[str], many: int, what: str) -> Iterator[str]:
+    """The first of so many lines, and how many more there are."""
+    yield from islice(told, MOST_NAMED)
+    if many > MOST_NAMED:
+        yield f"and {many - MOST_NAMED} more {what}"
+
+
+def break_told(it: conditions.Break) -> str:
+    """What breaks a condition at some sites."""
+    what = {
+        1: f"{it.name} is held by more than it needs",
+        2: f"{it.other} for {it.name}",
+        3: f"{it.other} attaches",
+    }[it.condition]
+    many = f"at {it.count} sites: " if it.count > 1 else "at "
+    return f"{what} {many}{sites_told(it)} ({it.bonds})"
 
 
 def breaks_told(growth: Growth) -> Iterator[str]:
@@ -36,17 +48,8 @@ def breaks_told(growth: Growth) -> Iterator[str]:
     found = conditions.breaks_of_sites(growth) if verdict.condition == 3 else conditions.breaks_of_tiles(growth)
     if sum(it.count for it in found) < 2:
         return
-    told = []
-    for it in found:
-        many = f"at {it.count} sites: " if it.count > 1 else "at "
-        what = {
-            1: f"{it.name} is held by more than it needs",
-            2: f"{it.other} for {it.name}",
-            3: f"{it.other} attaches",
-        }[it.condition]
-        told.append(f"{what} {many}{sites_told(it)} ({it.bonds})")
     yield "in all:"
-    yield from (f"  {it}" for it in named(told, "pairs of types"))
+    yield from (f"  {it}" for it in named(map(break_told, found), len(found), "pairs of types"))
 
 
 def untaken_told(growth: Growth) -> Iterator[str]:
@@ -55,7 +58,7 @@ def untaken_told(growth: Growth) -> Iterator[str]:
     if is_compiled(growth.system):
         return
     found = [it for it in conditions.untaken(growth) if it.count > 1 or growth.unplaced]
-    yield from named([conditions.untaken_told(it) for it in found], "inputs that no type takes")
+    yield from named(map(conditions.untaken_told, found), len(found), "inputs that no type takes")
 
 
 def growth_told(growth: Growth) -> Iterator[str]:

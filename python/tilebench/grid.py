@@ -1,32 +1,33 @@
 """The tiles of an assembly by their sites, in flat arrays that have one empty row and column around the box."""
 from __future__ import annotations
 
-import operator
 import sys
 from array import array
-from collections.abc import Iterable, Iterator
-from typing import Any
+from collections.abc import Iterator
 
+from tilebench.lanes import Lanes
 from tilebench.system import STEPS, Site, System
 
 # which of the two bytes of an index tells whether a tile stands, and what it is turned into
 HIGH = 1 if sys.byteorder == "little" else 0
 STANDS = bytes([ord("1")] * 128 + [ord("0")] * 128)
-# the types around a site, by index and side, and those that came before the tile at it
-Signature = tuple[int, int, int, int, int, bool, bool, bool, bool]
 
 
 class Grid:
-    """What stands where: `cells` has the index of the type at each site, row by row from the south, -1 for none."""
+    """What stands where: `cells` has the index of the type at each site, row by row from the south, -1 for none;
+    `steps` how far away the cell on each side is; `sequence` the cells of the tiles as they came."""
 
-    def __init__(self, system: System, xs: Iterable[int], ys: Iterable[int], kinds: Iterable[int]):
+    def __init__(self, system: System, xs: array[int], ys: array[int], kinds: array[int]):
         x0, y0, x1, y1 = system.box
         self.system, self.west, self.south = system, x0 - 1, y0 - 1
         self.wide, self.high = x1 - x0 + 3, y1 - y0 + 3
+        self.steps = [a + b * self.wide for a, b in STEPS]
         self.cells = array("h", [-1]) * (self.wide * self.high)
-        cells, wide, first = self.cells, self.wide, self.south * self.wide + self.west
-        for x, y, kind in zip(xs, ys, kinds):
-            cells[y * wide + x - first] = kind
+        lanes = Lanes(len(xs))
+        self.sequence = lanes.items(lanes.of(ys, self.south) * self.wide + lanes.of(xs, self.west))
+        cells = self.cells
+        for number, kind in zip(self.sequence, kinds):
+            cells[number] = kind
 
     def number(self, site: Site) -> int:
         """The number of a site's cell, or -1 for a site that has none."""
@@ -68,21 +69,9 @@ class Grid:
                 near ^= low
                 yield low.bit_length() - 1 + self.west, row + self.south
 
-    def signatures(self, order: array[int]) -> Iterator[Any]:
-        """For each cell within the border a Signature: the type there, those around it, and which of these came
-        earlier."""
-        wide, cells = self.wide, self.cells
-        end = len(cells) - wide
-        beside = [(at, cells[wide + at : end + at]) for at in (wide, 1, -wide, -1)]
-        own = order[wide:end]
-        earlier = [map(operator.lt, order[wide + at : end + at], own) for at, _ in beside]
-        north, east, south, west = (it for _, it in beside)
-        return zip(cells[wide:end], north, east, south, west, *earlier)
-
-    def order(self, xs: Iterable[int], ys: Iterable[int]) -> array[int]:
+    def order(self) -> array[int]:
         """For each cell the number in the sequence of the tile there, -1 where none stands."""
         found = array("i", [-1]) * len(self.cells)
-        wide, first = self.wide, self.south * self.wide + self.west
-        for at, (x, y) in enumerate(zip(xs, ys)):
-            found[y * wide + x - first] = at
+        for at, number in enumerate(self.sequence):
+            found[number] = at
         return found

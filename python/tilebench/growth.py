@@ -154,7 +154,7 @@ class Growth:
     @cached_property
     def order(self) -> array[int]:
         """For each cell of the grid the number in the sequence of the tile there, or -1."""
-        return self.grid.order(self.xs, self.ys)
+        return self.grid.order()
 
     def turn(self, site: Site) -> int:
         """The number in the sequence of the tile at a site, or -1."""
@@ -277,10 +277,9 @@ class Reader:
         if len(words) != 4 * many or words[::4].count(b"place") != many or isinstance(growth, Certificate):
             return False
         try:
-            xs, ys = array("i", map(self.numbers.__getitem__, words[1::4])), array(
-                "i", map(self.numbers.__getitem__, words[2::4])
-            )
-            kinds = array("i", map(self.kinds.__getitem__, words[3::4]))
+            # (a list first: an array takes one at once, and any other iterable item by item)
+            xs, ys = (array("i", [*map(self.numbers.__getitem__, words[at::4])]) for at in (1, 2))
+            kinds = array("i", [*map(self.kinds.__getitem__, words[3::4])])
         except (KeyError, ValueError, OverflowError):
             return False
         growth.xs += xs

@@ -17,9 +17,10 @@ from collections.abc import Iterator
 from dataclasses import dataclass, field
 
 from tilebench import calls
+from tilebench.alike import Alike, Cells
 from tilebench.conditions import facing_alone
 from tilebench.growth import Growth
-from tilebench.system import STEPS, Site, System, neighbour, opposite
+from tilebench.system import Site, System, neighbour, opposite
 
 # up to how many sites a box may have for a sequence to be gone on with until it is closed
 MOST_EXTENDED = 1 << 16
@@ -73,7 +74,6 @@ class Search:
 
     def __init__(self, growth: Growth):
         self.growth, self.system, self.grid = growth, growth.system, growth.grid
-        self.steps = [a + b * self.grid.wide for a, b in STEPS]
         self.known: dict[tuple[int, int, int], int] = {}
         self.seeds = [self.grid.number(site) for site, _ in self.system.seeds]
 
@@ -96,7 +96,7 @@ class Search:
         for cell in order:
             # (the list grows while it is gone through)
             kind = cells[cell]
-            for side, step in enumerate(self.steps):
+            for side, step in enumerate(self.grid.steps):
                 beside = cell + step
                 other = cells[beside]
                 if other < 0 or stands[beside] or beside == hole:
@@ -113,15 +113,13 @@ class Search:
     def rivals(self) -> list[tuple[Site, list[int]]]:
         """Each site, but for the seeds', at which all its neighbours would hold another type too, with these types.
         First come those at which the input sides alone hold one."""
-        cells, found = self.grid.cells, []
-        at_seeds, others = {*self.seeds}, {}
-        signatures = self.grid.signatures(array("i", [-1]) * len(cells))
-        for at, signature in enumerate(signatures, self.grid.wide):
-            key = signature[:5]
-            if key not in others:
-                others[key] = [it for it in self.system.attaching(key[1:]) if it != key[0]] if key[0] >= 0 else []
-            if others[key] and at not in at_seeds:
-                found.append((self.grid.site(at), others[key]))
+        grid, others = self.grid, []
+        alike = Alike(grid, apart=self.seeds)
+        for cell in alike.firsts:
+            kinds = self.system.attaching(grid.around(grid.site(cell))) if grid.cells[cell] >= 0 else []
+            others.append([it for it in kinds if it != grid.cells[cell]])
+        held = Cells(alike, {number for number, kinds in enumerate(others) if kinds})
+        found = [(grid.site(at), others[alike.groups[at]]) for at in held]
         # (of very many the order is not worth its time)
         far = {site: not self.is_held_by_inputs(site, kinds) for site, kinds in found} if len(found) < 20000 else {}
         return sorted(found, key=lambda it: far.get(it[0], False))
@@ -144,7 +142,7 @@ class Search:
         """A sequence in which another one of these types comes first at the site, or None where there is none."""
         hole = self.grid.number(site)
         order, stands = self.standing_without(hole)
-        around = [self.grid.cells[hole + step] if stands[hole + step] else -1 for step in self.steps]
+        around = [self.grid.cells[hole + step] if stands[hole + step] else -1 for step in self.grid.steps]
         held = self.system.attaching((around[0], around[1], around[2], around[3]))
         kind = next((it for it in kinds if it in held), None)
         if kind is None:
