@@ -185,9 +185,12 @@ def names():
 
 
 def manual():
-    """The manual page is what docs/manual makes."""
-    made = subprocess.run([f"{TOP}/docs/manual"], check=True, stdout=subprocess.PIPE).stdout.decode()
-    return [] if made == read("docs/tilebench.1") else ["docs/tilebench.1 is old: docs/manual --write"]
+    """The manual page, and the table of commands in README.md, are what docs/manual makes."""
+    told = []
+    for path, words in (("docs/tilebench.1", []), ("README.md", ["--readme"])):
+        made = subprocess.run([f"{TOP}/docs/manual", *words], check=True, stdout=subprocess.PIPE).stdout.decode()
+        told += [] if made == read(path) else [f"{path} is old: docs/manual --write"]
+    return told
 
 
 def headline():

@@ -44,6 +44,7 @@ from tilebench.growth import Certificate, Closed, Growth, Verdict
 from tilebench.outcomes import Found, search
 from tilebench.rules import bordered
 from tilebench.lint import slips
+from tilebench.program import answer
 from tilebench.system import SIDES, System
 
 __all__ = [
@@ -66,6 +67,7 @@ __all__ = [
     "Untaken",
     "Verdict",
     "Verified",
+    "answer",
     "batch",
     "bordered",
     "breaks",

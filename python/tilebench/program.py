@@ -75,7 +75,8 @@ def raised(words: list[str], given: str | bytes, status: int, err: bytes) -> Exc
 
 
 def answer(words: Iterable[object], given: str | bytes = b"") -> tuple[bool, bytes]:
-    """Whether the answer is a yes, and the answer; or what is to be raised."""
+    """Any command by its words, as `["grow", "--choice", 7]`, on an input: whether its answer is a yes, and the answer.
+    A refusal is raised as `Refused`, a status that is no answer as `ProgramFailed`."""
     told = [*map(str, words)]
     ran = asked(told, given)
     if ran.returncode not in (0, 1):
