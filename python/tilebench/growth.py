@@ -255,7 +255,9 @@ class Reader:
 
     def __init__(self, system: System, first: int):
         self.system, self.number, self.growth = system, first, Growth(system)
-        self.numbers, self.kinds = Numbers(), {name.encode(): at for at, name in enumerate(system.names)}
+        # the columns and the rows that were met, by their words, and the types by their names
+        self.columns, self.rows = Numbers(), Numbers()
+        self.kinds = {name.encode(): at for at, name in enumerate(system.names)}
 
     def read(self, text: bytes) -> Growth:
         at, size = 0, len(text)
@@ -278,7 +280,8 @@ class Reader:
             return False
         try:
             # (a list first: an array takes one at once, and any other iterable item by item)
-            xs, ys = (array("i", [*map(self.numbers.__getitem__, words[at::4])]) for at in (1, 2))
+            xs = array("i", [*map(self.columns.__getitem__, words[1::4])])
+            ys = array("i", [*map(self.rows.__getitem__, words[2::4])])
             kinds = array("i", [*map(self.kinds.__getitem__, words[3::4])])
         except (KeyError, ValueError, OverflowError):
             return False
@@ -301,7 +304,7 @@ class Reader:
         """Takes a line, if it is one of a growth text."""
         growth, keyword, many = self.growth, words[0], len(words)
         if keyword == "place" and many == 4:
-            growth.add(int(words[1]), int(words[2]), self.system.index[words[3]])
+            growth.add(*self.site(words), self.system.index[words[3]])
         elif keyword == "closed" and many > 1:
             growth.closed = Closed.of(words)
         elif keyword == "unique" and many > 1:
@@ -309,7 +312,7 @@ class Reader:
         elif keyword == "mark" and many == 6:
             if not isinstance(growth, Certificate):
                 growth = self.growth = Certificate(self.system)
-            growth.mark(int(words[1]), int(words[2]), words[3], words[4].replace("-", ""), int(words[5]))
+            growth.mark(*self.site(words), words[3], words[4].replace("-", ""), int(words[5]))
         elif keyword == "frame" and many == 3 and growth.seen is None:
             growth.frames.append(int(words[2]))
         elif words == ["grown"] and growth.frames and growth.seen is None:
@@ -320,14 +323,20 @@ class Reader:
             return False
         return True
 
+    def site(self, words: list[str]) -> Site:
+        """The site of a line."""
+        return self.columns[words[1].encode()], self.rows[words[2].encode()]
+
     def look_at_sites(self) -> None:
         """Refuses a place outside the box: the grid has no room for it."""
         x0, y0, x1, y1 = self.system.box
-        xs, ys = self.growth.xs, self.growth.ys
-        if xs and not (x0 <= min(xs) and max(xs) <= x1 and y0 <= min(ys) and max(ys) <= y1):
-            at = next(at for at, site in enumerate(zip(xs, ys)) if not self.system.in_box(site))
-            raise Refused(
-                "OutsideBox",
-                None,
-                f"place {at} is at {xs[at], ys[at]}, and the corners of the box are {x0, y0} and {x1, y1}",
-            )
+        if all(x0 <= it <= x1 for it in self.columns.values()) and all(y0 <= it <= y1 for it in self.rows.values()):
+            return
+        for growth in (self.growth.seen, self.growth):
+            for at, (site, _) in enumerate(growth or ()):
+                if not self.system.in_box(site):
+                    raise Refused(
+                        "OutsideBox",
+                        None,
+                        f"place {at} is at {site}, and the corners of the box are {x0, y0} and {x1, y1}",
+                    )
