@@ -42,5 +42,5 @@ class Lanes:
 
     def keys(self, lanes: int) -> Iterable[Any]:
         """What is in each lane, to be looked up, of a number that may have some more."""
-        raw = memoryview(lanes.to_bytes(2 * self.many * self.size, "little"))[: self.many * self.size]
-        return raw.cast("Q") if self.size == 8 else struct.iter_unpack("16s", raw)
+        raw = lanes.to_bytes(2 * self.many * self.size, "little")[: self.many * self.size]
+        return array("Q", raw) if self.size == 8 else struct.iter_unpack("16s", raw)
