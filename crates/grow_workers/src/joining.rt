@@ -54,7 +54,11 @@ pub(crate) fn join<G: Gate>(
 }
 
 // What several workers leave, and one that was parted off from them.
-fn join_part<G: Gate>(shared: &Shared<'_, G>, rest: Harvest, part: Part) -> Result<Harvest, NoMemory>
+fn join_part<G: Gate>(
+    shared: &Shared<'_, G>,
+    rest: Harvest,
+    part: Part,
+) -> Result<Harvest, NoMemory>
     requires shared { IsShared shared.now }
     requires first { HasSeen shared.now rest.seat rest.grid }
     requires log { IfSome rest.log (IsLogOf shared.now.sys.now rest.grid) }
