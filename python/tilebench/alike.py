@@ -11,7 +11,7 @@ from itertools import compress
 from typing import Any
 
 from tilebench.grid import Grid
-from tilebench.lanes import Lanes
+from tilebench.lanes import PIECE, Lanes
 
 
 class Numbered(dict[Any, int]):
@@ -29,8 +29,9 @@ class Alike:
     each group, and `counts` how many cells it has."""
 
     def __init__(self, grid: Grid, order: array[int] | None = None, apart: Iterable[int] = ()):
-        numbered = Numbered()
-        groups = [*map(numbered.__getitem__, keys_of(grid, order))]
+        numbered, groups, rows = Numbered(), list[int](), max(1, PIECE // grid.wide)
+        for row in range(0, grid.high, rows):
+            groups += map(numbered.__getitem__, keys_of(grid, order, row, min(row + rows, grid.high)))
         self.groups, self.counts, self.firsts = array("i", groups), Counter(groups), list[int]()
         for number in range(len(numbered)):
             self.firsts.append(groups.index(number, self.firsts[-1] if number else 0))
@@ -55,18 +56,20 @@ class Cells:
         return compress(range(first, first + len(rest)), map(self.groups.__contains__, rest))
 
 
-def keys_of(grid: Grid, order: array[int] | None) -> Iterable[Any]:
-    """For each cell what stands there and around, and which of the latter came earlier, as one key."""
-    bits, cells = len(grid.system.types).bit_length(), grid.cells
+def keys_of(grid: Grid, order: array[int] | None, first: int, end: int) -> Iterable[Any]:
+    """For each cell of some rows what stands there and around, and which of the latter came earlier, as one key."""
+    bits, wide, low = len(grid.system.types).bit_length(), grid.wide, max(first - 1, 0)
+    part = slice(low * wide, (end + 1) * wide)
+    cells = grid.cells[part]
     lanes = Lanes(len(cells), 64 if 5 * bits + 4 <= 64 else 128)
     own = lanes.of(cells, -1)
     keys = own
     for side, step in enumerate(grid.steps, 1):
         keys |= lanes.beside(own, step) << side * bits
     if order is not None:
-        turns = lanes.of(order, -1)
+        turns = lanes.of(order[part], -1)
         # (which of two neighbours came earlier is seen from the one, and kept for both)
         for at, step in enumerate(grid.steps[:2]):
             earlier = lanes.less(lanes.beside(turns, step), turns)
             keys |= (earlier | lanes.beside(earlier, -step) << 2) << 5 * bits + at
-    return lanes.keys(keys)
+    return lanes.keys(keys, (first - low) * wide, (end - low) * wide)

@@ -5,7 +5,7 @@ import sys
 from array import array
 from collections.abc import Iterator
 
-from tilebench.lanes import Lanes
+from tilebench.lanes import PIECE, Lanes
 from tilebench.system import STEPS, Site, System
 
 # which of the two bytes of an index tells whether a tile stands, and what it is turned into
@@ -23,9 +23,11 @@ class Grid:
         self.wide, self.high = x1 - x0 + 3, y1 - y0 + 3
         self.steps = [a + b * self.wide for a, b in STEPS]
         self.cells = array("h", [-1]) * (self.wide * self.high)
-        lanes = Lanes(len(xs))
-        self.sequence = lanes.items(lanes.of(ys, self.south) * self.wide + lanes.of(xs, self.west))
-        cells = self.cells
+        self.sequence, cells = array("q"), self.cells
+        for at in range(0, len(xs), PIECE):
+            lanes = Lanes(len(xs[at : at + PIECE]))
+            rows, columns = lanes.of(ys[at : at + PIECE], self.south), lanes.of(xs[at : at + PIECE], self.west)
+            self.sequence += lanes.items(rows * self.wide + columns)
         for number, kind in zip(self.sequence, kinds):
             cells[number] = kind
 

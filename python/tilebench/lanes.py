@@ -1,4 +1,6 @@
-"""Arrays as whole numbers that have an item in each lane of their bits: one operation of Python's is then on all items."""
+"""Arrays as whole numbers that have an item in each lane of their bits: one operation of Python's is then on all items.
+
+Of large arrays it is best done in pieces of PIECE items or so, which stay in a processor's cache."""
 from __future__ import annotations
 
 import struct
@@ -6,6 +8,8 @@ import sys
 from array import array
 from collections.abc import Iterable
 from typing import Any
+
+PIECE = 1 << 13
 
 
 class Lanes:
@@ -40,7 +44,7 @@ class Lanes:
             found.byteswap()
         return found
 
-    def keys(self, lanes: int) -> Iterable[Any]:
-        """What is in each lane, to be looked up, of a number that may have some more."""
-        raw = lanes.to_bytes(2 * self.many * self.size, "little")[: self.many * self.size]
+    def keys(self, lanes: int, first: int, end: int) -> Iterable[Any]:
+        """What is in each lane from a first one on, to be looked up, of a number that may have up to twice as many."""
+        raw = lanes.to_bytes(2 * self.many * self.size, "little")[first * self.size : end * self.size]
         return array("Q", raw) if self.size == 8 else struct.iter_unpack("16s", raw)
