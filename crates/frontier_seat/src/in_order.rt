@@ -107,44 +107,10 @@ fn fill_all<C: Chooser>(
     }
 }
 
-/// What grows from the seeds on where always the least open site of the box is filled, and the
-/// order in which its tiles came, which is the canonical one (`law_least_first`). It is for growth
-/// that is not handed out, and so needs no table. Beside the grid and the sequence it takes an index of types
-/// and a quarter of a byte a site.
-pub fn fill_least_first<C: Chooser>(
-    alloc: Global,
-    sys: &System,
-    chooser: &mut C,
-) -> Result<(Grid, Sequence), NoMemory>
-    ensures area { IfOk result (λ r. r.0.area ≡ sys.now.area) }
-    ensures full { IfOk result (λ r. IsFullGrowth sys.now r.0.tiles) }
-    ensures order { IfOk result (λ r. IsCanonical sys.now r.0.tiles r.1) }
-{
-    let types = TypeIndex::build(alloc, sys)?;
-    fill_least_first_by_index(alloc, sys, &types, chooser)
-}
-
-/// The same where an index of the types is lent.
-pub fn fill_least_first_by_index<C: Chooser>(
-    alloc: Global,
-    sys: &System,
-    types: &TypeIndex,
-    chooser: &mut C,
-) -> Result<(Grid, Sequence), NoMemory>
-    requires { IsIndexOf sys.now types.now }
-    ensures area { IfOk result (λ r. r.0.area ≡ sys.now.area) }
-    ensures full { IfOk result (λ r. IsFullGrowth sys.now r.0.tiles) }
-    ensures order { IfOk result (λ r. IsCanonical sys.now r.0.tiles r.1) }
-{
-    let FilledInOrder {
-        grid,
-        order,
-        clean: _clean,
-    } = fill_least_first_seeing(alloc, sys, types, chooser)?;
-    Ok((grid, order))
-}
-
-/// The same, and whether it is clear that each tile came clean, which was seen as it came.
+/// What grows from the seeds on where always the least open site of the box is filled, the order in
+/// which its tiles came, which is the canonical one (`law_least_first`), and whether it is clear that
+/// each tile came clean, which was seen as it came. It is for growth that is not handed out, and so
+/// needs no table. Beside the grid and the sequence it takes a quarter of a byte a site.
 pub fn fill_least_first_seeing<C: Chooser>(
     alloc: Global,
     sys: &System,

@@ -19,10 +19,8 @@ mod types;
 mod work_list;
 
 pub use bursting::Burst;
-pub use chooser::{Chooser, First, RngChooser, Wanderer};
+pub use chooser::{Chooser, First, RngChooser};
 pub use claim_log::ClaimLog;
 pub use growing::Growing;
-pub use in_order::{
-    FilledInOrder, fill_least_first, fill_least_first_by_index, fill_least_first_seeing,
-};
+pub use in_order::{FilledInOrder, fill_least_first_seeing};
 pub use scout::Scout;
