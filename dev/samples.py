@@ -113,7 +113,7 @@ XOR = b"""glue 0 1;glue 1 1;glue h 2;glue v 2;tile S v h - -;tile B 1 h - h;tile
 tile r00 0 0 0 0;tile r01 1 1 1 0;tile r10 1 1 0 1;tile r11 0 0 1 1""".replace(b"\n", b";").split(b";")
 
 
-def woven_system(rng, side=9):
+def exclusive_or_system(rng, side=9):
     """Tiles that are held by two sides each: the exclusive or, whose growth the box cuts off, with or without a slip."""
     lines = list(XOR)
     if rng.random() < 0.3:
@@ -227,7 +227,7 @@ def widened(rng, lines):
 SYSTEMS = {
     "loose": (loose_system, 6),
     "shaped": (shaped_system, 5),
-    "woven": (woven_system, 2),
+    "exclusive_or": (exclusive_or_system, 2),
     "rivals": (rivals_system, 1),
     "counter": (counter_system, 1),
     "machine": (machine_system, 1),

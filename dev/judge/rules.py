@@ -1,4 +1,4 @@
-"""What `quadrant` must answer: two-input rules and the systems that they are woven into, from docs/FORMATS.md and
+"""What `quadrant` must answer: two-input rules and the systems that they are compiled to, from docs/FORMATS.md and
 docs/MODEL.md."""
 from judge.texts import Cause, declared, number_in, read_text, referred, SHORT_NAME
 
@@ -48,7 +48,7 @@ class Quadrant:
         return self.given[kind] + [0] * (many - len(self.given[kind]))
 
     def system(self):
-        """The text of the woven system, by the table in docs/MODEL.md."""
+        """The text of the rule's system, by the table in docs/MODEL.md."""
         symbols, (width, height) = list(self.symbols), self.size
         glues = [(b"%s:%s" % (way, it), 1) for way in (b"h", b"v") for it in symbols]
         glues += [(b"b:%d" % it, 2) for it in range(1, width + 1)] + [(b"a:%d" % it, 2) for it in range(1, height + 1)]

@@ -9,8 +9,8 @@ use Rattle.tile_io.specs.LineReader.{TakesItem}
 use Rattle.quadrant_compile.specs.declared.border.Border.{Border}
 use Rattle.quadrant_compile.specs.declared.border.Border.TheVariants as borders
 use Rattle.quadrant_compile.specs.declared.line_kind.LineKind.{LineKind}
-use Rattle.quadrant_compile.specs.Weaves.{Weave}
-use Rattle.quadrant_compile.specs.WeaveText.{WeaveItem, weave_of, bottom_row, left_row, word_of, quadrant_table}
+use Rattle.quadrant_compile.specs.Quadrants.{RuleQuadrant}
+use Rattle.quadrant_compile.specs.QuadrantText.{QuadrantItem, quadrant_of, bottom_row, left_row, word_of, quadrant_table}
 use Rattle.quadrant_compile.specs.Inner.Keywords.{kind_of, row_of, is_last, may_stand_after}
 use Rattle.quadrant_compile.specs.Inner.Borders.{HasPlace, border_kind, border_room}
 use Rattle.quadrant_compile.specs.Inner.SoFar.{Gets, HoldsLines, IsFit, with_item}
@@ -26,14 +26,14 @@ count_is : (border : Border) (words : List (List ℕ)) → nat_le 2 (length word
 count_is borders.Bottom words count = count
 count_is borders.Left words count = count
 
-room_is : (border : Border) (w : Weave) (items : List WeaveItem) (words : List (List ℕ)) → w ≡ weave_of items → border_room border w words ≡ true → (row_of (border_kind border)).has_room items words ≡ true
-room_is borders.Bottom w items words same room = ap (λ v. bottom_row.has_room v words) (sym same) ∙ room
-room_is borders.Left w items words same room = ap (λ v. left_row.has_room v words) (sym same) ∙ room
+room_is : (border : Border) (q : RuleQuadrant) (items : List QuadrantItem) (words : List (List ℕ)) → q ≡ quadrant_of items → border_room border q words ≡ true → (row_of (border_kind border)).has_room items words ≡ true
+room_is borders.Bottom q items words same room = ap (λ v. bottom_row.has_room v words) (sym same) ∙ room
+room_is borders.Left q items words same room = ap (λ v. left_row.has_room v words) (sym same) ∙ room
 
 -- the checks before the fields, as they are made
-pub has_place : (border : Border) (w : Weave) (last : Option LineKind) (words : List (List ℕ)) (kind : LineKind) (count : ℕ) (stands room : Bool) → count ≡ length words → 2 ≤ count →
-    kind ≡ border_kind border → stands ≡ may_stand_after kind last → stands ≡ true → room ≡ border_room border w words → room ≡ true → HasPlace border w last words
-has_place border w last words kind count stands room count_is two kind_is stands_is stand room_is has =
+pub has_place : (border : Border) (q : RuleQuadrant) (last : Option LineKind) (words : List (List ℕ)) (kind : LineKind) (count : ℕ) (stands room : Bool) → count ≡ length words → 2 ≤ count →
+    kind ≡ border_kind border → stands ≡ may_stand_after kind last → stands ≡ true → room ≡ border_room border q words → room ≡ true → HasPlace border q last words
+has_place border q last words kind count stands room count_is two kind_is stands_is stand room_is has =
     record {
       count = le-leb 2 (length words) (omega (arith, count_is, two));
       follows = ap (λ k. may_stand_after k last) (sym kind_is) ∙ sym stands_is ∙ stand;
@@ -46,32 +46,32 @@ never_last borders.Bottom = refl
 never_last borders.Left = refl
 
 -- the fields alone are left to check
-passed : (row : Keyword (List WeaveItem) WeaveItem) (items : List WeaveItem) (words : List (List ℕ)) → row.has_words (length words) ≡ true → row.may_follow (last_of items) ≡ true → row.has_room items words ≡ true → check_keyword (Some row) items words ≡ row.fields items words
+passed : (row : Keyword (List QuadrantItem) QuadrantItem) (items : List QuadrantItem) (words : List (List ℕ)) → row.has_words (length words) ≡ true → row.may_follow (last_of items) ≡ true → row.has_room items words ≡ true → check_keyword (Some row) items words ≡ row.fields items words
 passed row items words count follows room = rw (count, follows, room) refl
 
-module _ (border : Border) (w : Weave) (last : Option LineKind) (items : List WeaveItem) (words : List (List ℕ)) (place : HasPlace border w last words) (held : HoldsLines w last items) where
+module _ (border : Border) (q : RuleQuadrant) (last : Option LineKind) (items : List QuadrantItem) (words : List (List ℕ)) (place : HasPlace border q last words) (held : HoldsLines q last items) where
   border_check : keyword_of quadrant_table.keywords words ≡ Some (row_of (border_kind border)) → check_line quadrant_table.keywords items words ≡ (row_of (border_kind border)).fields items words
   border_check keyword =
       let kind = border_kind border in
       let follows : (row_of kind).may_follow (last_of items) ≡ true = follows_is kind (last_of items) ∙ ap (may_stand_after kind) (sym held.kind) ∙ place.follows in
       ap (λ k. check_keyword k items words) keyword
-      ∙ passed (row_of kind) items words (count_is border words place.count) follows (room_is border w items words held.weave place.room)
+      ∙ passed (row_of kind) items words (count_is border words place.count) follows (room_is border q items words held.quadrant place.room)
 
   -- it passes
-  pub border_taken : (new : Weave) → keyword_of quadrant_table.keywords words ≡ Some (row_of (border_kind border)) → Gets (border_kind border) ((row_of (border_kind border)).fields items words) w new (Ok tt) →
+  pub border_taken : (new : RuleQuadrant) → keyword_of quadrant_table.keywords words ≡ Some (row_of (border_kind border)) → Gets (border_kind border) ((row_of (border_kind border)).fields items words) q new (Ok tt) →
       TakesItem (λ item. bytes_eq (word_of item) (codes "end")) (λ l. HoldsLines new (Some (border_kind border)) l) items (check_line quadrant_table.keywords items words) (Ok false)
   border_taken new keyword took =
       let kind = border_kind border in
-      let item : WeaveItem = took.0 in
-      let room = room_is border w items words held.weave place.room in
-      let fit : IsFit w item = subst (λ (v : Weave). IsFit v item) (sym held.weave) (fit_of kind items words item room took.2) in
+      let item : QuadrantItem = took.0 in
+      let room = room_is border q items words held.quadrant place.room in
+      let fit : IsFit q item = subst (λ (v : RuleQuadrant). IsFit v item) (sym held.quadrant) (fit_of kind items words item room took.2) in
       let stood : may_stand_after (kind_of item) last ≡ true = ap (λ k. may_stand_after k last) took.1 ∙ place.follows in
-      let Kind : LineKind → Type 0 = λ k. HoldsLines (with_item w item) (Some k) (items ++ item ∷ []) in
-      let Draws : Weave → Type 0 = λ v. HoldsLines v (Some kind) (items ++ item ∷ []) in
-      (item, border_check keyword ∙ took.2, last_is item ∙ ap is_last took.1 ∙ never_last border, subst Draws (sym took.3) (subst Kind took.1 (holds-push w last items item held stood fit)))
+      let Kind : LineKind → Type 0 = λ k. HoldsLines (with_item q item) (Some k) (items ++ item ∷ []) in
+      let Draws : RuleQuadrant → Type 0 = λ v. HoldsLines v (Some kind) (items ++ item ∷ []) in
+      (item, border_check keyword ∙ took.2, last_is item ∙ ap is_last took.1 ∙ never_last border, subst Draws (sym took.3) (subst Kind took.1 (holds-push q last items item held stood fit)))
 
   -- or stops
-  pub border_stopped : (new : Weave) (stop : LineStop) → keyword_of quadrant_table.keywords words ≡ Some (row_of (border_kind border)) → Gets (border_kind border) ((row_of (border_kind border)).fields items words) w new (Err stop) →
+  pub border_stopped : (new : RuleQuadrant) (stop : LineStop) → keyword_of quadrant_table.keywords words ≡ Some (row_of (border_kind border)) → Gets (border_kind border) ((row_of (border_kind border)).fields items words) q new (Err stop) →
       TakesItem (λ item. bytes_eq (word_of item) (codes "end")) (λ l. HoldsLines new last l) items (check_line quadrant_table.keywords items words) (Err stop)
-  border_stopped new (stops.Fault cause) keyword stopped = (border_check keyword ∙ stopped.0, subst (λ (v : Weave). HoldsLines v last items) (sym stopped.1) held)
-  border_stopped new stops.NoMemory keyword stopped = subst (λ (v : Weave). HoldsLines v last items) (sym stopped) held
+  border_stopped new (stops.Fault cause) keyword stopped = (border_check keyword ∙ stopped.0, subst (λ (v : RuleQuadrant). HoldsLines v last items) (sym stopped.1) held)
+  border_stopped new stops.NoMemory keyword stopped = subst (λ (v : RuleQuadrant). HoldsLines v last items) (sym stopped) held

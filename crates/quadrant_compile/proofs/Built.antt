@@ -1,4 +1,4 @@
--- A weave in the making has what the lines give, and is sound.
+-- A quadrant in the making has what the lines give, and is sound.
 use Rattle.std.proofs.Common.{◌≡◌, ◌≢◌, ◌<◌, ◌≤◌, ◌+◌, ◌==◌, ℕ, true, false, List, [], ◌∷◌, ◌++◌, length, get_or, Option, Some, None, refl, sym, ◌∙◌, ap, subst, inl, inr, arith, length-append, append-nil}
 use Rattle.std.specs.Prelude.{codes, IsTrue, AllPairs, filter_map, bytes_eq, option_map, find}
 use Rattle.std.specs.List.{cons_option}
@@ -20,9 +20,10 @@ use Rattle.machine_text.proofs.Finding.{each_fails, none_found}
 use Rattle.quadrant_compile.specs.declared.rule.Rule.{Rule}
 use Rattle.quadrant_compile.specs.declared.line_kind.LineKind.{LineKind}
 use Rattle.quadrant_compile.specs.declared.line_kind.LineKind.TheVariants as kinds
-use Rattle.quadrant_compile.specs.Weaves.{Weave, IsWeave, IsRuleOver, is_for, answer_among}
-use Rattle.quadrant_compile.specs.WeaveText.{WeaveItem, weave_of, symbol_name_of, rule_of, width_of, height_of, bottom_of, left_of, word_of, quadrant_format, quadrant_table}
-use Rattle.quadrant_compile.specs.WeaveText.WeaveItem.{Header, SymbolLine, RuleLine, SizeLine, BottomLine, LeftLine, EndLine}
+use Rattle.quadrant_compile.specs.Quadrants.{RuleQuadrant, IsQuadrant, IsRuleOver, is_for}
+use Rattle.quadrant_compile.specs.Quadrants.{answer_among}
+use Rattle.quadrant_compile.specs.QuadrantText.{QuadrantItem, quadrant_of, symbol_name_of, rule_of, width_of, height_of, bottom_of, left_of, word_of, quadrant_format, quadrant_table}
+use Rattle.quadrant_compile.specs.QuadrantText.QuadrantItem.{Header, SymbolLine, RuleLine, SizeLine, BottomLine, LeftLine, EndLine}
 use Rattle.quadrant_compile.specs.Inner.Keywords.{kind_of, may_stand_after, is_last}
 use Rattle.quadrant_compile.specs.Inner.SoFar.{with_item, IsDraft, HasAlphabet, HasAll, HasCome, IsFit, HoldsLines}
 use Rattle.quadrant_compile.proofs.RuleTables.{is_own}
@@ -32,29 +33,29 @@ one_or_none : {X : Type 0} (o : Option X) → cons_option o [] ≡ option_to_lis
 one_or_none None = refl
 one_or_none (Some x) = refl
 
-list_push : {X : Type 0} (of : WeaveItem → Option X) (items : List WeaveItem) (item : WeaveItem) → filter_map of (items ++ item ∷ []) ≡ filter_map of items ++ option_to_list (of item)
+list_push : {X : Type 0} (of : QuadrantItem → Option X) (items : List QuadrantItem) (item : QuadrantItem) → filter_map of (items ++ item ∷ []) ≡ filter_map of items ++ option_to_list (of item)
 list_push of items item = filter_map-append of items (item ∷ []) ∙ ap (λ l. filter_map of items ++ l) (one_or_none (of item))
 
 last_given : (given : List ℕ) (more : Option ℕ) → unwrap_or (last_of (given ++ option_to_list more)) 0 ≡ unwrap_or more (unwrap_or (last_of given) 0)
 last_given given None = ap (λ l. unwrap_or (last_of l) 0) (append-nil given)
 last_given given (Some n) = ap (λ o. unwrap_or o 0) (last_push given n)
 
-number_push : (of : WeaveItem → Option ℕ) (items : List WeaveItem) (item : WeaveItem) → number_given of (items ++ item ∷ []) ≡ unwrap_or (of item) (number_given of items)
+number_push : (of : QuadrantItem → Option ℕ) (items : List QuadrantItem) (item : QuadrantItem) → number_given of (items ++ item ∷ []) ≡ unwrap_or (of item) (number_given of items)
 number_push of items item = ap (λ l. unwrap_or (last_of l) 0) (list_push of items item) ∙ last_given (filter_map of items) (of item)
 
--- a weave with what a line gives
-abbrev with_given : Weave → WeaveItem → Weave
-with_given w item = record {
-  symbols = w.symbols ++ option_to_list (symbol_name_of item);
-  rules = w.rules ++ option_to_list (rule_of item);
-  width = unwrap_or (width_of item) w.width;
-  height = unwrap_or (height_of item) w.height;
-  bottom = w.bottom ++ bottom_of item;
-  left = w.left ++ left_of item;
+-- a quadrant with what a line gives
+abbrev with_given : RuleQuadrant → QuadrantItem → RuleQuadrant
+with_given q item = record {
+  symbols = q.symbols ++ option_to_list (symbol_name_of item);
+  rules = q.rules ++ option_to_list (rule_of item);
+  width = unwrap_or (width_of item) q.width;
+  height = unwrap_or (height_of item) q.height;
+  bottom = q.bottom ++ bottom_of item;
+  left = q.left ++ left_of item;
 }
 
-given_push : (items : List WeaveItem) (item : WeaveItem) → weave_of (items ++ item ∷ []) ≡ with_given (weave_of items) item
-unfolding weave_of
+given_push : (items : List QuadrantItem) (item : QuadrantItem) → quadrant_of (items ++ item ∷ []) ≡ with_given (quadrant_of items) item
+unfolding quadrant_of
 given_push items item = λ z. record {
   symbols = list_push symbol_name_of items item z;
   rules = list_push rule_of items item z;
@@ -64,17 +65,17 @@ given_push items item = λ z. record {
   left = sym (flat_map_more left_of [] items item) z;
 }
 
-with_is : (w : Weave) (item : WeaveItem) → with_given w item ≡ with_item w item
-with_is w Header = λ z. record w { symbols = append-nil w.symbols z; rules = append-nil w.rules z; bottom = append-nil w.bottom z; left = append-nil w.left z }
-with_is w (SymbolLine name) = λ z. record w { symbols = w.symbols ++ name ∷ []; rules = append-nil w.rules z; bottom = append-nil w.bottom z; left = append-nil w.left z }
-with_is w (RuleLine t) = λ z. record w { symbols = append-nil w.symbols z; rules = w.rules ++ t ∷ []; bottom = append-nil w.bottom z; left = append-nil w.left z }
-with_is w (SizeLine x y) = λ z. record w { symbols = append-nil w.symbols z; rules = append-nil w.rules z; width = x; height = y; bottom = append-nil w.bottom z; left = append-nil w.left z }
-with_is w (BottomLine symbols) = λ z. record w { symbols = append-nil w.symbols z; rules = append-nil w.rules z; bottom = w.bottom ++ symbols; left = append-nil w.left z }
-with_is w (LeftLine symbols) = λ z. record w { symbols = append-nil w.symbols z; rules = append-nil w.rules z; bottom = append-nil w.bottom z; left = w.left ++ symbols }
-with_is w EndLine = λ z. record w { symbols = append-nil w.symbols z; rules = append-nil w.rules z; bottom = append-nil w.bottom z; left = append-nil w.left z }
+with_is : (q : RuleQuadrant) (item : QuadrantItem) → with_given q item ≡ with_item q item
+with_is q Header = λ z. record q { symbols = append-nil q.symbols z; rules = append-nil q.rules z; bottom = append-nil q.bottom z; left = append-nil q.left z }
+with_is q (SymbolLine name) = λ z. record q { symbols = q.symbols ++ name ∷ []; rules = append-nil q.rules z; bottom = append-nil q.bottom z; left = append-nil q.left z }
+with_is q (RuleLine t) = λ z. record q { symbols = append-nil q.symbols z; rules = q.rules ++ t ∷ []; bottom = append-nil q.bottom z; left = append-nil q.left z }
+with_is q (SizeLine x y) = λ z. record q { symbols = append-nil q.symbols z; rules = append-nil q.rules z; width = x; height = y; bottom = append-nil q.bottom z; left = append-nil q.left z }
+with_is q (BottomLine symbols) = λ z. record q { symbols = append-nil q.symbols z; rules = append-nil q.rules z; bottom = q.bottom ++ symbols; left = append-nil q.left z }
+with_is q (LeftLine symbols) = λ z. record q { symbols = append-nil q.symbols z; rules = append-nil q.rules z; bottom = append-nil q.bottom z; left = q.left ++ symbols }
+with_is q EndLine = λ z. record q { symbols = append-nil q.symbols z; rules = append-nil q.rules z; bottom = append-nil q.bottom z; left = append-nil q.left z }
 
-weave_push : (items : List WeaveItem) (item : WeaveItem) → with_item (weave_of items) item ≡ weave_of (items ++ item ∷ [])
-weave_push items item = sym (given_push items item ∙ with_is (weave_of items) item)
+quadrant_push : (items : List QuadrantItem) (item : QuadrantItem) → with_item (quadrant_of items) item ≡ quadrant_of (items ++ item ∷ [])
+quadrant_push items item = sym (given_push items item ∙ with_is (quadrant_of items) item)
 
 -- It stays sound.
 names_push : (names : List (List ℕ)) (name : List ℕ) → AreNames names → IsTrue (is_short_name name) → list_any (bytes_eq name) names ≡ false → AreNames (names ++ name ∷ [])
@@ -107,14 +108,15 @@ rules_push rules t distinct fresh =
     all_pairs_push (λ u v. is_for u.west u.south v ≡ false) rules t distinct (λ k d within.
     is_for_turned t (get_or rules k d) (none_found (is_for t.west t.south) rules (no_rule (find (is_for t.west t.south) rules) fresh) k d within))
 
-draft_push : (w : Weave) (item : WeaveItem) → IsDraft w → IsFit w item → IsDraft (with_item w item)
-draft_push w Header draft fit = draft
-draft_push w EndLine draft fit = draft
-draft_push w (SymbolLine name) draft fit =
-    let more : length (w.symbols ++ name ∷ []) ≡ length w.symbols + 1 = length-append w.symbols (name ∷ []) in
+draft_push : (q : RuleQuadrant) (item : QuadrantItem) →
+    IsDraft q → IsFit q item → IsDraft (with_item q item)
+draft_push q Header draft fit = draft
+draft_push q EndLine draft fit = draft
+draft_push q (SymbolLine name) draft fit =
+    let more : length (q.symbols ++ name ∷ []) ≡ length q.symbols + 1 = length-append q.symbols (name ∷ []) in
     record {
       few = omega (arith, more, fit.0);
-      names = names_push w.symbols name draft.names fit.1 fit.2;
+      names = names_push q.symbols name draft.names fit.1 fit.2;
       rules = λ k d within. let t = draft.rules k d within in record { west = omega (arith, more, t.west); south = omega (arith, more, t.south); east = omega (arith, more, t.east); north = omega (arith, more, t.north) };
       distinct_rules = draft.distinct_rules;
       column_count = draft.column_count;
@@ -122,17 +124,17 @@ draft_push w (SymbolLine name) draft fit =
       bottom_symbols = λ k d within. let below = draft.bottom_symbols k d within in omega (arith, more, below);
       left_symbols = λ k d within. let below = draft.left_symbols k d within in omega (arith, more, below);
     }
-draft_push w (RuleLine t) draft fit = record {
+draft_push q (RuleLine t) draft fit = record {
   few = draft.few;
   names = draft.names;
-  rules = All-push (IsRuleOver (length w.symbols)) w.rules t draft.rules fit.0;
-  distinct_rules = rules_push w.rules t draft.distinct_rules fit.1;
+  rules = All-push (IsRuleOver (length q.symbols)) q.rules t draft.rules fit.0;
+  distinct_rules = rules_push q.rules t draft.distinct_rules fit.1;
   column_count = draft.column_count;
   row_count = draft.row_count;
   bottom_symbols = draft.bottom_symbols;
   left_symbols = draft.left_symbols;
 }
-draft_push w (SizeLine x y) draft fit = record {
+draft_push q (SizeLine x y) draft fit = record {
   few = draft.few;
   names = draft.names;
   rules = draft.rules;
@@ -142,17 +144,17 @@ draft_push w (SizeLine x y) draft fit = record {
   bottom_symbols = draft.bottom_symbols;
   left_symbols = draft.left_symbols;
 }
-draft_push w (BottomLine symbols) draft fit = record {
+draft_push q (BottomLine symbols) draft fit = record {
   few = draft.few;
   names = draft.names;
   rules = draft.rules;
   distinct_rules = draft.distinct_rules;
   column_count = draft.column_count;
   row_count = draft.row_count;
-  bottom_symbols = All-append (λ a. a < length w.symbols) w.bottom symbols draft.bottom_symbols fit.0;
+  bottom_symbols = All-append (λ a. a < length q.symbols) q.bottom symbols draft.bottom_symbols fit.0;
   left_symbols = draft.left_symbols;
 }
-draft_push w (LeftLine symbols) draft fit = record {
+draft_push q (LeftLine symbols) draft fit = record {
   few = draft.few;
   names = draft.names;
   rules = draft.rules;
@@ -160,70 +162,70 @@ draft_push w (LeftLine symbols) draft fit = record {
   column_count = draft.column_count;
   row_count = draft.row_count;
   bottom_symbols = draft.bottom_symbols;
-  left_symbols = All-append (λ a. a < length w.symbols) w.left symbols draft.left_symbols fit.0;
+  left_symbols = All-append (λ a. a < length q.symbols) q.left symbols draft.left_symbols fit.0;
 }
 
 -- Each line comes after those that it needs.
-more_symbols : (w : Weave) (name : List ℕ) → w.bottom ≡ [] → w.left ≡ [] → HasAlphabet (with_item w (SymbolLine name))
-more_symbols w name bottom left =
-    let more : length (w.symbols ++ name ∷ []) ≡ length w.symbols + 1 = length-append w.symbols (name ∷ []) in
+more_symbols : (q : RuleQuadrant) (name : List ℕ) → q.bottom ≡ [] → q.left ≡ [] → HasAlphabet (with_item q (SymbolLine name))
+more_symbols q name bottom left =
+    let more : length (q.symbols ++ name ∷ []) ≡ length q.symbols + 1 = length-append q.symbols (name ∷ []) in
     record { some_symbol = omega (arith, more); no_bottom = bottom; no_left = left }
 
-with_size : (w : Weave) (x y : ℕ) → HasAlphabet w → 1 ≤ x → 1 ≤ y → HasAll (with_item w (SizeLine x y))
-with_size w x y has some_column some_row =
-    let bottom : length w.bottom ≡ 0 = ap length has.no_bottom in
-    let left : length w.left ≡ 0 = ap length has.no_left in
+with_size : (q : RuleQuadrant) (x y : ℕ) → HasAlphabet q → 1 ≤ x → 1 ≤ y → HasAll (with_item q (SizeLine x y))
+with_size q x y has some_column some_row =
+    let bottom : length q.bottom ≡ 0 = ap length has.no_bottom in
+    let left : length q.left ≡ 0 = ap length has.no_left in
     record { some_symbol = has.some_symbol; some_column = some_column; some_row = some_row; bottom_length = omega (arith, bottom); left_length = omega (arith, left) }
 
-with_bottom : (w : Weave) (symbols : List ℕ) → HasAll w → length w.bottom + length symbols ≤ w.width → HasAll (with_item w (BottomLine symbols))
-with_bottom w symbols has room =
-    let longer : length (w.bottom ++ symbols) ≡ length w.bottom + length symbols = length-append w.bottom symbols in
+with_bottom : (q : RuleQuadrant) (symbols : List ℕ) → HasAll q → length q.bottom + length symbols ≤ q.width → HasAll (with_item q (BottomLine symbols))
+with_bottom q symbols has room =
+    let longer : length (q.bottom ++ symbols) ≡ length q.bottom + length symbols = length-append q.bottom symbols in
     record { some_symbol = has.some_symbol; some_column = has.some_column; some_row = has.some_row; bottom_length = omega (arith, longer, room); left_length = has.left_length }
 
-with_left : (w : Weave) (symbols : List ℕ) → HasAll w → length w.left + length symbols ≤ w.height → HasAll (with_item w (LeftLine symbols))
-with_left w symbols has room =
-    let longer : length (w.left ++ symbols) ≡ length w.left + length symbols = length-append w.left symbols in
+with_left : (q : RuleQuadrant) (symbols : List ℕ) → HasAll q → length q.left + length symbols ≤ q.height → HasAll (with_item q (LeftLine symbols))
+with_left q symbols has room =
+    let longer : length (q.left ++ symbols) ≡ length q.left + length symbols = length-append q.left symbols in
     record { some_symbol = has.some_symbol; some_column = has.some_column; some_row = has.some_row; bottom_length = has.bottom_length; left_length = omega (arith, longer, room) }
 
 -- nothing follows the end line
-never_after_end : (item : WeaveItem) → may_stand_after (kind_of item) (Some kinds.End) ≡ true → ⊥
+never_after_end : (item : QuadrantItem) → may_stand_after (kind_of item) (Some kinds.End) ≡ true → ⊥
 never_after_end Header stands = cc stands
 never_after_end item stands = cc stands
 
-come_push : (w : Weave) (last : Option LineKind) (item : WeaveItem) → may_stand_after (kind_of item) last ≡ true → HasCome last w → IsFit w item → HasCome (Some (kind_of item)) (with_item w item)
-come_push w None Header stands come fit = come
-come_push w (Some kinds.Quadrant) (SymbolLine name) stands come fit = more_symbols w name come.0 come.1
-come_push w (Some kinds.Symbol) (SymbolLine name) stands come fit = more_symbols w name come.no_bottom come.no_left
-come_push w (Some kinds.Symbol) (RuleLine t) stands come fit = record { some_symbol = come.some_symbol; no_bottom = come.no_bottom; no_left = come.no_left }
-come_push w (Some kinds.Rule) (RuleLine t) stands come fit = record { some_symbol = come.some_symbol; no_bottom = come.no_bottom; no_left = come.no_left }
-come_push w (Some kinds.Symbol) (SizeLine x y) stands come fit = with_size w x y come fit.0 fit.2
-come_push w (Some kinds.Rule) (SizeLine x y) stands come fit = with_size w x y come fit.0 fit.2
-come_push w (Some kinds.Size) (BottomLine symbols) stands come fit = with_bottom w symbols come fit.1
-come_push w (Some kinds.Bottom) (BottomLine symbols) stands come fit = with_bottom w symbols come fit.1
-come_push w (Some kinds.Size) (LeftLine symbols) stands come fit = with_left w symbols come fit.1
-come_push w (Some kinds.Bottom) (LeftLine symbols) stands come fit = with_left w symbols come fit.1
-come_push w (Some kinds.Left) (LeftLine symbols) stands come fit = with_left w symbols come fit.1
-come_push w (Some kinds.Size) EndLine stands come fit = come
-come_push w (Some kinds.Bottom) EndLine stands come fit = come
-come_push w (Some kinds.Left) EndLine stands come fit = come
-come_push w (Some kinds.End) item stands come fit = absurd (never_after_end item stands)
-come_push w last item stands come fit = absurd (cc stands)
+come_push : (q : RuleQuadrant) (last : Option LineKind) (item : QuadrantItem) → may_stand_after (kind_of item) last ≡ true → HasCome last q → IsFit q item → HasCome (Some (kind_of item)) (with_item q item)
+come_push q None Header stands come fit = come
+come_push q (Some kinds.Quadrant) (SymbolLine name) stands come fit = more_symbols q name come.0 come.1
+come_push q (Some kinds.Symbol) (SymbolLine name) stands come fit = more_symbols q name come.no_bottom come.no_left
+come_push q (Some kinds.Symbol) (RuleLine t) stands come fit = record { some_symbol = come.some_symbol; no_bottom = come.no_bottom; no_left = come.no_left }
+come_push q (Some kinds.Rule) (RuleLine t) stands come fit = record { some_symbol = come.some_symbol; no_bottom = come.no_bottom; no_left = come.no_left }
+come_push q (Some kinds.Symbol) (SizeLine x y) stands come fit = with_size q x y come fit.0 fit.2
+come_push q (Some kinds.Rule) (SizeLine x y) stands come fit = with_size q x y come fit.0 fit.2
+come_push q (Some kinds.Size) (BottomLine symbols) stands come fit = with_bottom q symbols come fit.1
+come_push q (Some kinds.Bottom) (BottomLine symbols) stands come fit = with_bottom q symbols come fit.1
+come_push q (Some kinds.Size) (LeftLine symbols) stands come fit = with_left q symbols come fit.1
+come_push q (Some kinds.Bottom) (LeftLine symbols) stands come fit = with_left q symbols come fit.1
+come_push q (Some kinds.Left) (LeftLine symbols) stands come fit = with_left q symbols come fit.1
+come_push q (Some kinds.Size) EndLine stands come fit = come
+come_push q (Some kinds.Bottom) EndLine stands come fit = come
+come_push q (Some kinds.Left) EndLine stands come fit = come
+come_push q (Some kinds.End) item stands come fit = absurd (never_after_end item stands)
+come_push q last item stands come fit = absurd (cc stands)
 
 -- what is held survives a line
-pub holds-push : (w : Weave) (last : Option LineKind) (items : List WeaveItem) (item : WeaveItem) → HoldsLines w last items → may_stand_after (kind_of item) last ≡ true → IsFit w item →
-    HoldsLines (with_item w item) (Some (kind_of item)) (items ++ item ∷ [])
-holds-push w last items item held stands fit = record {
-  weave = ap (λ v. with_item v item) held.weave ∙ weave_push items item;
+pub holds-push : (q : RuleQuadrant) (last : Option LineKind) (items : List QuadrantItem) (item : QuadrantItem) → HoldsLines q last items → may_stand_after (kind_of item) last ≡ true → IsFit q item →
+    HoldsLines (with_item q item) (Some (kind_of item)) (items ++ item ∷ [])
+holds-push q last items item held stands fit = record {
+  quadrant = ap (λ v. with_item v item) held.quadrant ∙ quadrant_push items item;
   kind = sym (ap (option_map kind_of) (last_push items item));
-  draft = draft_push w item held.draft fit;
-  come = come_push w last item stands held.come fit;
+  draft = draft_push q item held.draft fit;
+  come = come_push q last item stands held.come fit;
 }
 
 -- before the first line
-pub nothing_held : HoldsLines (weave_of []) None []
-unfolding weave_of
+pub nothing_held : HoldsLines (quadrant_of []) None []
+unfolding quadrant_of
 nothing_held = record {
-  weave = refl;
+  quadrant = refl;
   kind = refl;
   draft = record {
     few = omega arith;
@@ -241,7 +243,7 @@ nothing_held = record {
     none_within : {P : Type 0} {n : ℕ} → n < 0 → P
     none_within within = let never : ⊥ = omega (arith, within) in absurd never
 
-pub last_is : (item : WeaveItem) → bytes_eq (word_of item) (codes "end") ≡ is_last (kind_of item)
+pub last_is : (item : QuadrantItem) → bytes_eq (word_of item) (codes "end") ≡ is_last (kind_of item)
 last_is Header = refl
 last_is (SymbolLine name) = refl
 last_is (RuleLine t) = refl
@@ -250,9 +252,9 @@ last_is (BottomLine symbols) = refl
 last_is (LeftLine symbols) = refl
 last_is EndLine = refl
 
--- after the end line there is a weave
-is_weave : (w : Weave) → IsDraft w → HasAll w → IsWeave w
-is_weave w draft has = record {
+-- after the end line there is a quadrant
+is_quadrant : (q : RuleQuadrant) → IsDraft q → HasAll q → IsQuadrant q
+is_quadrant q draft has = record {
   some_symbol = has.some_symbol;
   symbol_count = draft.few;
   symbol_names = draft.names;
@@ -268,18 +270,18 @@ is_weave w draft has = record {
   left_symbols = draft.left_symbols;
 }
 
-ends_at_end : (item : WeaveItem) → bytes_eq (word_of item) (codes "end") ≡ true → kind_of item ≡ kinds.End
+ends_at_end : (item : QuadrantItem) → bytes_eq (word_of item) (codes "end") ≡ true → kind_of item ≡ kinds.End
 ends_at_end EndLine ends = refl
 ends_at_end item ends = absurd (cc ends)
 
--- what was read to the end line is a weave
-pub IsWeave-read : (w : Weave) (last : Option LineKind) (items : List WeaveItem) (text : List ℕ) (from to : Mark) → HoldsLines w last items → Reads quadrant_format text from items to → IsWeave w
+-- what was read to the end line is a quadrant
+pub IsQuadrant-read : (q : RuleQuadrant) (last : Option LineKind) (items : List QuadrantItem) (text : List ℕ) (from to : Mark) → HoldsLines q last items → Reads quadrant_format text from items to → IsQuadrant q
 unfolding quadrant_table
-IsWeave-read w last items text from to held reads = elim reads [
+IsQuadrant-read q last items text from to held reads = elim reads [
   | inl read ↦
       let end : last ≡ Some kinds.End =
       held.kind ∙ ap (λ l. option_map kind_of (last_of l)) read.whole ∙ ap (option_map kind_of) (last_push read.earlier read.last) ∙ ap (λ k. Some k) (ends_at_end read.last read.ends)
       in
-      is_weave w held.draft (subst (λ k. HasCome k w) end held.come)
+      is_quadrant q held.draft (subst (λ k. HasCome k q) end held.come)
   | inr read ↦ absurd (cc (read.complete))
 ]

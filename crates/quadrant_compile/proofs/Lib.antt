@@ -4,7 +4,7 @@ pub mod Built
 pub mod Borders
 pub mod Ruling
 pub mod Listed
-pub mod Weaving
+pub mod QuadrantRows
 pub mod Recurring
 pub mod Growing
 pub mod Named

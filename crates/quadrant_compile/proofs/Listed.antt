@@ -1,4 +1,4 @@
--- The table of a weave's tiles, in its order.
+-- The table of a quadrant's tiles, in its order.
 use Rattle.std.proofs.Common.{◌≡◌, ◌<◌, ◌≤◌, ◌+◌, ◌*◌, nat_lt, cond, is_some, ℕ, zero, suc, true, Bool, List, [], ◌∷◌, ◌++◌, length, map, filter, get_or, Option, Some, None, IfSome, option_and_then, Contains, refl, sym, ◌∙◌, ap, subst, inl, inr, arith, length-append}
 use Rattle.std.specs.List.{range_with_len}
 use Rattle.std.proofs.Math.Nat.{mul-le-mul}
@@ -18,9 +18,9 @@ use Rattle.quadrant_compile.specs.declared.tile.Kind.{Kind}
 use Rattle.quadrant_compile.specs.declared.tile.Kind.TheVariants.{Corner, Bottom, Left, Cell}
 use Rattle.quadrant_compile.specs.declared.tile.Label.{Label}
 use Rattle.quadrant_compile.specs.declared.tile.Label.TheVariants.{Eastward, Northward, Column, Row}
-use Rattle.quadrant_compile.specs.Weaves.{Weave, IsWeave, answer_of, pairs_below, has_rule, ruled_pairs}
+use Rattle.quadrant_compile.specs.Quadrants.{RuleQuadrant, IsQuadrant, answer_of, pairs_below, has_rule, ruled_pairs}
 use Rattle.quadrant_compile.specs.Tiles.{cell_side, label_on}
-use Rattle.quadrant_compile.specs.Woven.{kinds, labels, pair_number, kind_number, label_number, tiles_of}
+use Rattle.quadrant_compile.specs.QuadrantSystems.{kinds, labels, pair_number, kind_number, label_number, tiles_of}
 use Rattle.quadrant_compile.specs.Inner.Members.{IsKind, IsLabel}
 use Rattle.quadrant_compile.proofs.Ruling.{answer_bounds, pair_bounds, bottom_known, left_known}
 
@@ -32,36 +32,36 @@ kept_pass test (x ∷ xs) = elim (cases_Bool (test x)) [
   | inr goes ↦ rw goes (kept_pass test xs)
 ]
 
-module _ (w : Weave) (is_weave : IsWeave w) where
+module _ (q : RuleQuadrant) (is_quadrant : IsQuadrant q) where
   -- how many symbols there are
   abbrev n : ℕ
-  n = length w.symbols
+  n = length q.symbols
 
   range_length : {X : Type 0} (f : ℕ → X) (a n : ℕ) → length (map f (range_with_len a n)) ≡ n
   range_length f a n = length-map (range_with_len a n) f ∙ length-range_with_len a n
 
-  pairs_placed : IsNumbered (pair_number w) 0 (pairs_below n)
+  pairs_placed : IsNumbered (pair_number q) 0 (pairs_below n)
   pairs_placed =
       let start : 0 + 0 * n ≡ 0 = omega arith in
-      subst (λ m. IsNumbered (pair_number w) m (pairs_below n)) start (numbered-pairs (pair_number w) 0 n 0 n (λ p a less. omega arith))
+      subst (λ m. IsNumbered (pair_number q) m (pairs_below n)) start (numbered-pairs (pair_number q) 0 n 0 n (λ p a less. omega arith))
 
   -- the parts of the list of kinds
   abbrev bottoms : List Kind
-  bottoms = map Bottom (range_with_len 1 w.width)
+  bottoms = map Bottom (range_with_len 1 q.width)
 
   abbrev lefts : List Kind
-  lefts = map Left (range_with_len 1 w.height)
+  lefts = map Left (range_with_len 1 q.height)
 
   abbrev cells : List Kind
-  cells = map (λ p. Cell p.0 p.1) (ruled_pairs w)
+  cells = map (λ p. Cell p.0 p.1) (ruled_pairs q)
 
-  kinds_numbered : IsNumbered (kind_number w) 0 (kinds w)
+  kinds_numbered : IsNumbered (kind_number q) 0 (kinds q)
   kinds_numbered = (
     refl,
-    numbered-then (kind_number w) 1 (suc w.width) bottoms (lefts ++ cells) (numbered-range (kind_number w) Bottom 1 1 w.width (λ i less. refl)) (let h = range_length Bottom 1 w.width in omega (arith, h))
-        (numbered-then (kind_number w) (suc w.width) (suc w.width + w.height) lefts cells (numbered-range (kind_number w) Left (suc w.width) 1 w.height (λ i less. omega arith)) (ap (λ m. suc w.width + m) (range_length Left 1 w.height))
-        (numbered-map (kind_number w) (λ p. Cell p.0 p.1) (suc w.width + w.height) (ruled_pairs w)
-        (numbered-kept (pair_number w) (λ p. kind_number w (Cell p.0 p.1)) (has_rule w) (suc w.width + w.height) (pairs_below n) pairs_placed (λ x. refl)))),
+    numbered-then (kind_number q) 1 (suc q.width) bottoms (lefts ++ cells) (numbered-range (kind_number q) Bottom 1 1 q.width (λ i less. refl)) (let h = range_length Bottom 1 q.width in omega (arith, h))
+        (numbered-then (kind_number q) (suc q.width) (suc q.width + q.height) lefts cells (numbered-range (kind_number q) Left (suc q.width) 1 q.height (λ i less. omega arith)) (ap (λ m. suc q.width + m) (range_length Left 1 q.height))
+        (numbered-map (kind_number q) (λ p. Cell p.0 p.1) (suc q.width + q.height) (ruled_pairs q)
+        (numbered-kept (pair_number q) (λ p. kind_number q (Cell p.0 p.1)) (has_rule q) (suc q.width + q.height) (pairs_below n) pairs_placed (λ x. refl)))),
   )
 
   -- the parts of the list of labels
@@ -72,17 +72,17 @@ module _ (w : Weave) (is_weave : IsWeave w) where
   norths = map Northward (range_with_len 0 n)
 
   abbrev columns : List Label
-  columns = map Column (range_with_len 1 w.width)
+  columns = map Column (range_with_len 1 q.width)
 
   abbrev rows : List Label
-  rows = map Row (range_with_len 1 w.height)
+  rows = map Row (range_with_len 1 q.height)
 
-  labels_numbered : IsNumbered (label_number w) 0 (labels w)
+  labels_numbered : IsNumbered (label_number q) 0 (labels q)
   labels_numbered =
-      numbered-then (label_number w) 0 n easts (norths ++ (columns ++ rows)) (numbered-range (label_number w) Eastward 0 0 n (λ i less. refl)) (let h = range_length Eastward 0 n in omega (arith, h))
-      (numbered-then (label_number w) n (n + n) norths (columns ++ rows) (numbered-range (label_number w) Northward n 0 n (λ i less. omega arith)) (ap (λ m. n + m) (range_length Northward 0 n))
-      (numbered-then (label_number w) (n + n) (n + n + w.width) columns rows (numbered-range (label_number w) Column (n + n) 1 w.width (λ i less. omega arith)) (ap (λ m. n + n + m) (range_length Column 1 w.width))
-      (numbered-range (label_number w) Row (n + n + w.width) 1 w.height (λ i less. omega arith))))
+      numbered-then (label_number q) 0 n easts (norths ++ (columns ++ rows)) (numbered-range (label_number q) Eastward 0 0 n (λ i less. refl)) (let h = range_length Eastward 0 n in omega (arith, h))
+      (numbered-then (label_number q) n (n + n) norths (columns ++ rows) (numbered-range (label_number q) Northward n 0 n (λ i less. omega arith)) (ap (λ m. n + m) (range_length Northward 0 n))
+      (numbered-then (label_number q) (n + n) (n + n + q.width) columns rows (numbered-range (label_number q) Column (n + n) 1 q.width (λ i less. omega arith)) (ap (λ m. n + n + m) (range_length Column 1 q.width))
+      (numbered-range (label_number q) Row (n + n + q.width) 1 q.height (λ i less. omega arith))))
 
   in_range : {X : Type 0} (f : ℕ → X) (n i : ℕ) → i < n → Contains (map f (range_with_len 0 n)) (f i)
   in_range f n i less = let same : 0 + i ≡ i = omega arith in subst (λ m. Contains (map f (range_with_len 0 n)) (f m)) same (range-has f 0 n i less)
@@ -91,128 +91,128 @@ module _ (w : Weave) (is_weave : IsWeave w) where
   from_one f n zero some within = let never : ⊥ = omega (arith, some) in absurd never
   from_one f n (suc i) some within = let same : 1 + i ≡ suc i = omega arith in subst (λ m. Contains (map f (range_with_len 1 n)) (f m)) same (range-has f 1 n i (omega (arith, within)))
 
-  rule_listed : (a b : ℕ) → is_some (answer_of w a b) ≡ true → Contains (ruled_pairs w) (a, b)
+  rule_listed : (a b : ℕ) → is_some (answer_of q a b) ≡ true → Contains (ruled_pairs q) (a, b)
   rule_listed a b rule =
-      let bounds = pair_bounds w is_weave a b rule in
+      let bounds = pair_bounds q is_quadrant a b rule in
       let same : 0 + a ≡ a = omega arith in
-      Contains-filter (has_rule w) (pairs_below n) (a, b) (subst (λ m. Contains (pairs_below n) (m, b)) same (pairs-has n 0 n a b bounds.0 bounds.1)) rule
+      Contains-filter (has_rule q) (pairs_below n) (a, b) (subst (λ m. Contains (pairs_below n) (m, b)) same (pairs-has n 0 n a b bounds.0 bounds.1)) rule
 
   -- the pairs of a list of pairs are of symbols
-  pub pair_below : (all : List (ℕ × ℕ)) (i : ℕ) → all ≡ pairs_below n → i < length all → ((get_or all i (0, 0)).0 < length w.symbols) × ((get_or all i (0, 0)).1 < length w.symbols)
+  pub pair_below : (all : List (ℕ × ℕ)) (i : ℕ) → all ≡ pairs_below n → i < length all → ((get_or all i (0, 0)).0 < length q.symbols) × ((get_or all i (0, 0)).1 < length q.symbols)
   pair_below all i same less =
       each-has (λ x. (x.0 < n) × (x.1 < n)) (pairs_below n) (get_or all i (0, 0))
       (each-pairs (λ x. (x.0 < n) × (x.1 < n)) n 0 n (λ p b p_less b_less. (omega (arith, p_less), b_less)))
       (subst (λ xs. Contains xs (get_or all i (0, 0))) same (Contains-get_or all i (0, 0) less))
 
-  pub kind_listed : (k : Kind) → IsKind w k → Contains (kinds w) k
+  pub kind_listed : (k : Kind) → IsKind q k → Contains (kinds q) k
   kind_listed Corner is_kind = Contains-here Corner (bottoms ++ (lefts ++ cells))
-  kind_listed (Bottom i) within = Contains-there Corner (Bottom i) (bottoms ++ (lefts ++ cells)) (Contains-append_left bottoms (lefts ++ cells) (Bottom i) (from_one Bottom w.width i within.0 within.1))
+  kind_listed (Bottom i) within = Contains-there Corner (Bottom i) (bottoms ++ (lefts ++ cells)) (Contains-append_left bottoms (lefts ++ cells) (Bottom i) (from_one Bottom q.width i within.0 within.1))
   kind_listed (Left j) within =
-      Contains-there Corner (Left j) (bottoms ++ (lefts ++ cells)) (Contains-append_right bottoms (lefts ++ cells) (Left j) (Contains-append_left lefts cells (Left j) (from_one Left w.height j within.0 within.1)))
+      Contains-there Corner (Left j) (bottoms ++ (lefts ++ cells)) (Contains-append_right bottoms (lefts ++ cells) (Left j) (Contains-append_left lefts cells (Left j) (from_one Left q.height j within.0 within.1)))
   kind_listed (Cell a b) rule =
       Contains-there Corner (Cell a b) (bottoms ++ (lefts ++ cells))
-      (Contains-append_right bottoms (lefts ++ cells) (Cell a b) (Contains-append_right lefts cells (Cell a b) (Contains-map (λ p. Cell p.0 p.1) (ruled_pairs w) (a, b) (rule_listed a b rule))))
+      (Contains-append_right bottoms (lefts ++ cells) (Cell a b) (Contains-append_right lefts cells (Cell a b) (Contains-map (λ p. Cell p.0 p.1) (ruled_pairs q) (a, b) (rule_listed a b rule))))
 
-  -- each listed kind is one of the weave
-  all_are_kinds : Each (IsKind w) (kinds w)
+  -- each listed kind is one of the quadrant
+  all_are_kinds : Each (IsKind q) (kinds q)
   all_are_kinds = (
     tt,
-    each-append (IsKind w) bottoms (lefts ++ cells) (each-map (IsKind w) Bottom (range_with_len 1 w.width) (each-range (λ i. (1 ≤ i) × (i ≤ w.width)) 1 w.width (λ i above below. (above, omega (arith, below)))))
-        (each-append (IsKind w) lefts cells (each-map (IsKind w) Left (range_with_len 1 w.height) (each-range (λ j. (1 ≤ j) × (j ≤ w.height)) 1 w.height (λ j above below. (above, omega (arith, below)))))
-        (each-map (IsKind w) (λ p. Cell p.0 p.1) (ruled_pairs w) (kept_pass (has_rule w) (pairs_below n)))),
+    each-append (IsKind q) bottoms (lefts ++ cells) (each-map (IsKind q) Bottom (range_with_len 1 q.width) (each-range (λ i. (1 ≤ i) × (i ≤ q.width)) 1 q.width (λ i above below. (above, omega (arith, below)))))
+        (each-append (IsKind q) lefts cells (each-map (IsKind q) Left (range_with_len 1 q.height) (each-range (λ j. (1 ≤ j) × (j ≤ q.height)) 1 q.height (λ j above below. (above, omega (arith, below)))))
+        (each-map (IsKind q) (λ p. Cell p.0 p.1) (ruled_pairs q) (kept_pass (has_rule q) (pairs_below n)))),
   )
 
-  pub listed_kind : (k : Kind) → Contains (kinds w) k → IsKind w k
-  listed_kind k contains = each-has (IsKind w) (kinds w) k all_are_kinds contains
+  pub listed_kind : (k : Kind) → Contains (kinds q) k → IsKind q k
+  listed_kind k contains = each-has (IsKind q) (kinds q) k all_are_kinds contains
 
-  label_listed : (g : Label) → IsLabel w g → Contains (labels w) g
+  label_listed : (g : Label) → IsLabel q g → Contains (labels q) g
   label_listed (Eastward a) below = Contains-append_left easts (norths ++ (columns ++ rows)) (Eastward a) (in_range Eastward n a below)
   label_listed (Northward a) below = Contains-append_right easts (norths ++ (columns ++ rows)) (Northward a) (Contains-append_left norths (columns ++ rows) (Northward a) (in_range Northward n a below))
-  label_listed (Column i) within = Contains-append_right easts (norths ++ (columns ++ rows)) (Column i) (Contains-append_right norths (columns ++ rows) (Column i) (Contains-append_left columns rows (Column i) (from_one Column w.width i within.0 within.1)))
-  label_listed (Row j) within = Contains-append_right easts (norths ++ (columns ++ rows)) (Row j) (Contains-append_right norths (columns ++ rows) (Row j) (Contains-append_right columns rows (Row j) (from_one Row w.height j within.0 within.1)))
+  label_listed (Column i) within = Contains-append_right easts (norths ++ (columns ++ rows)) (Column i) (Contains-append_right norths (columns ++ rows) (Column i) (Contains-append_left columns rows (Column i) (from_one Column q.width i within.0 within.1)))
+  label_listed (Row j) within = Contains-append_right easts (norths ++ (columns ++ rows)) (Row j) (Contains-append_right norths (columns ++ rows) (Row j) (Contains-append_right columns rows (Row j) (from_one Row q.height j within.0 within.1)))
 
-  -- each listed label is one of the weave
-  all_are_labels : Each (IsLabel w) (labels w)
+  -- each listed label is one of the quadrant
+  all_are_labels : Each (IsLabel q) (labels q)
   all_are_labels =
-      let Is = IsLabel w in
+      let Is = IsLabel q in
       each-append Is easts (norths ++ (columns ++ rows)) (each-map Is Eastward (range_with_len 0 n) (each-range (λ i. i < n) 0 n (λ i above below. omega (arith, below))))
       (each-append Is norths (columns ++ rows) (each-map Is Northward (range_with_len 0 n) (each-range (λ i. i < n) 0 n (λ i above below. omega (arith, below))))
-      (each-append Is columns rows (each-map Is Column (range_with_len 1 w.width) (each-range (λ i. (1 ≤ i) × (i ≤ w.width)) 1 w.width (λ i above below. (above, omega (arith, below)))))
-      (each-map Is Row (range_with_len 1 w.height) (each-range (λ j. (1 ≤ j) × (j ≤ w.height)) 1 w.height (λ j above below. (above, omega (arith, below)))))))
+      (each-append Is columns rows (each-map Is Column (range_with_len 1 q.width) (each-range (λ i. (1 ≤ i) × (i ≤ q.width)) 1 q.width (λ i above below. (above, omega (arith, below)))))
+      (each-map Is Row (range_with_len 1 q.height) (each-range (λ j. (1 ≤ j) × (j ≤ q.height)) 1 q.height (λ j above below. (above, omega (arith, below)))))))
 
-  pub listed_label : (g : Label) → Contains (labels w) g → IsLabel w g
-  listed_label g contains = each-has (IsLabel w) (labels w) g all_are_labels contains
+  pub listed_label : (g : Label) → Contains (labels q) g → IsLabel q g
+  listed_label g contains = each-has (IsLabel q) (labels q) g all_are_labels contains
 
-  -- each label on a side of a kind is one of the weave
-  next_label : (i m : ℕ) (f : ℕ → Label) → ((k : ℕ) → (1 ≤ k) × (k ≤ m) → IsLabel w (f k)) → IfSome (cond (nat_lt i m) (Some (f (suc i))) None) (IsLabel w)
+  -- each label on a side of a kind is one of the quadrant
+  next_label : (i m : ℕ) (f : ℕ → Label) → ((k : ℕ) → (1 ≤ k) × (k ≤ m) → IsLabel q (f k)) → IfSome (cond (nat_lt i m) (Some (f (suc i))) None) (IsLabel q)
   next_label i m f fine = elim (cases_lt i m) [
     | inl less ↦ rw (is_less i m less) (fine (suc i) (omega arith, less))
     | inr past ↦ rw (not_less i m past) tt
   ]
 
-  cell_label : (a b : ℕ) (x : Answer) (d : Side) → answer_of w a b ≡ Some x → IfSome (cell_side a b x d) (IsLabel w)
-  cell_label a b x North rule = (answer_bounds w is_weave a b x rule).north
-  cell_label a b x East rule = (answer_bounds w is_weave a b x rule).east
-  cell_label a b x South rule = (answer_bounds w is_weave a b x rule).south
-  cell_label a b x West rule = (answer_bounds w is_weave a b x rule).west
+  cell_label : (a b : ℕ) (x : Answer) (d : Side) → answer_of q a b ≡ Some x → IfSome (cell_side a b x d) (IsLabel q)
+  cell_label a b x North rule = (answer_bounds q is_quadrant a b x rule).north
+  cell_label a b x East rule = (answer_bounds q is_quadrant a b x rule).east
+  cell_label a b x South rule = (answer_bounds q is_quadrant a b x rule).south
+  cell_label a b x West rule = (answer_bounds q is_quadrant a b x rule).west
 
-  side_label : (k : Kind) (d : Side) → IsKind w k → IfSome (label_on w k d) (IsLabel w)
-  side_label Corner North is_kind = (omega arith, is_weave.some_row)
-  side_label Corner East is_kind = (omega arith, is_weave.some_column)
+  side_label : (k : Kind) (d : Side) → IsKind q k → IfSome (label_on q k d) (IsLabel q)
+  side_label Corner North is_kind = (omega arith, is_quadrant.some_row)
+  side_label Corner East is_kind = (omega arith, is_quadrant.some_column)
   side_label Corner South is_kind = tt
   side_label Corner West is_kind = tt
-  side_label (Bottom i) North within = bottom_known w is_weave i
-  side_label (Bottom i) East within = next_label i w.width (λ m. Column m) (λ m h. h)
+  side_label (Bottom i) North within = bottom_known q is_quadrant i
+  side_label (Bottom i) East within = next_label i q.width (λ m. Column m) (λ m h. h)
   side_label (Bottom i) South within = tt
   side_label (Bottom i) West within = within
-  side_label (Left j) North within = next_label j w.height (λ m. Row m) (λ m h. h)
-  side_label (Left j) East within = left_known w is_weave j
+  side_label (Left j) North within = next_label j q.height (λ m. Row m) (λ m h. h)
+  side_label (Left j) East within = left_known q is_quadrant j
   side_label (Left j) South within = within
   side_label (Left j) West within = tt
   side_label (Cell a b) d rule =
-      let x = some_is (answer_of w a b) rule in
-      let IsOf : Option Answer → Type 0 = λ o. IfSome (option_and_then (λ y. cell_side a b y d) o) (IsLabel w) in
+      let x = some_is (answer_of q a b) rule in
+      let IsOf : Option Answer → Type 0 = λ o. IfSome (option_and_then (λ y. cell_side a b y d) o) (IsLabel q) in
       subst IsOf (sym (x.1)) (cell_label a b x.0 d x.1)
 
   -- how many there are
-  rule_count : length (ruled_pairs w) ≤ 4096
+  rule_count : length (ruled_pairs q) ≤ 4096
   rule_count =
-      let symbols = is_weave.symbol_count in
-      let kept = length-filter_at_most (has_rule w) (pairs_below n) in
+      let symbols = is_quadrant.symbol_count in
+      let kept = length-filter_at_most (has_rule q) (pairs_below n) in
       let all : length (pairs_below n) ≤ 4096 = rw (length-pairs_from n 0 n) (mul-le-mul symbols symbols) in
       omega (arith, kept, all)
 
-  pub label_count : length (labels w) ≤ 2174
+  pub label_count : length (labels q) ≤ 2174
   label_count =
       let a = length-append easts (norths ++ (columns ++ rows)) in
       let b = length-append norths (columns ++ rows) in
       let d = length-append columns rows in
       let e = range_length Eastward 0 n in
       let f = range_length Northward 0 n in
-      let g = range_length Column 1 w.width in
-      let h = range_length Row 1 w.height in
-      let symbols = is_weave.symbol_count in
-      let width = is_weave.column_count in
-      let height = is_weave.row_count in
+      let g = range_length Column 1 q.width in
+      let h = range_length Row 1 q.height in
+      let symbols = is_quadrant.symbol_count in
+      let width = is_quadrant.column_count in
+      let height = is_quadrant.row_count in
       omega (arith, a, b, d, e, f, g, h, symbols, width, height)
 
-  pub kind_count : length (kinds w) ≤ 6143
+  pub kind_count : length (kinds q) ≤ 6143
   kind_count =
       let a = length-append bottoms (lefts ++ cells) in
       let b = length-append lefts cells in
-      let d = range_length Bottom 1 w.width in
-      let e = range_length Left 1 w.height in
-      let f = length-map (ruled_pairs w) (λ p. Cell p.0 p.1) in
+      let d = range_length Bottom 1 q.width in
+      let e = range_length Left 1 q.height in
+      let f = length-map (ruled_pairs q) (λ p. Cell p.0 p.1) in
       let r = rule_count in
-      let width = is_weave.column_count in
-      let height = is_weave.row_count in
+      let width = is_quadrant.column_count in
+      let height = is_quadrant.row_count in
       omega (arith, a, b, d, e, f, r, width, height)
 
-  pub is_tile_set : IsTileSet (tiles_of w)
+  pub is_tile_set : IsTileSet (tiles_of q)
   is_tile_set = record {
-    kinds = λ i k there. let at = numbered_at (kind_number w) 0 (kinds w) i k kinds_numbered there in omega (arith, at);
-    labels = λ i g there. let at = numbered_at (label_number w) 0 (labels w) i g labels_numbered there in omega (arith, at);
+    kinds = λ i k there. let at = numbered_at (kind_number q) 0 (kinds q) i k kinds_numbered there in omega (arith, at);
+    labels = λ i g there. let at = numbered_at (label_number q) 0 (labels q) i g labels_numbered there in omega (arith, at);
     sides = λ k d g listed has.
-        let IsOf : Option Label → Type 0 = λ o. IfSome o (IsLabel w) in
+        let IsOf : Option Label → Type 0 = λ o. IfSome o (IsLabel q) in
         label_listed g (subst IsOf has (side_label k d (listed_kind k listed)));
   }

@@ -9,7 +9,7 @@ use Rattle.std.proofs.lemmas.Option.{none-some, slice_get-get_or}
 use Rattle.tile_io.proofs.PassedFields.{and_both}
 use Rattle.quadrant_compile.specs.declared.rule.Answer.{Answer}
 use Rattle.quadrant_compile.specs.declared.rule.Rule.{Rule}
-use Rattle.quadrant_compile.specs.Weaves.{is_for, answer_among}
+use Rattle.quadrant_compile.specs.Quadrants.{is_for, answer_among}
 use Rattle.quadrant_compile.specs.Inner.Tables.{entry, IsTableOf}
 
 module _ {X : Type 0} (xs : List X) (i : ℕ) (x : X) (within : i < length xs) where

@@ -1,4 +1,4 @@
--- What the rules of a weave keep to, and the symbols at its borders.
+-- What the rules of a quadrant keep to, and the symbols at its borders.
 use Rattle.std.proofs.Common.{◌≡◌, ◌<◌, ◌≤◌, ◌-◌, is_some, ℕ, true, List, length, get_or, Option, Some, None, IfSome, option_map, All, sym, ◌∙◌, ap, subst, inl, inr, arith}
 use Rattle.std.specs.Prelude.{find}
 use Rattle.std.proofs.lemmas.Bool.{cases_lt}
@@ -10,61 +10,61 @@ use Rattle.atam.proofs.Lists.{some_or_none}
 use Rattle.machine_text.proofs.Finding.{some_is, find_has, find_passes}
 use Rattle.quadrant_compile.specs.declared.rule.Answer.{Answer}
 use Rattle.quadrant_compile.specs.declared.rule.Rule.{Rule}
-use Rattle.quadrant_compile.specs.Weaves.{Weave, IsWeave, IsRuleOver, is_for, answer_of, bottom_symbol, left_symbol}
+use Rattle.quadrant_compile.specs.Quadrants.{RuleQuadrant, IsQuadrant, IsRuleOver, is_for, answer_of, bottom_symbol, left_symbol}
 
 -- a rule that is for two symbols has them
 both_same : (a b : ℕ) (t : Rule) → is_for a b t ≡ true → (t.west ≡ a) × (t.south ≡ b)
 both_same a b t passes = (grind (arith, nat_tests), grind (arith, nat_tests))
 
 -- the symbols of an answer, and those that it is for
-pub record IsAnswerFor (w : Weave) (a b : ℕ) (answer : Answer) : Type 0 where
-  pub west : a < length w.symbols
-  pub south : b < length w.symbols
-  pub east : answer.east < length w.symbols
-  pub north : answer.north < length w.symbols
+pub record IsAnswerFor (q : RuleQuadrant) (a b : ℕ) (answer : Answer) : Type 0 where
+  pub west : a < length q.symbols
+  pub south : b < length q.symbols
+  pub east : answer.east < length q.symbols
+  pub north : answer.north < length q.symbols
 
-module _ (w : Weave) (is_weave : IsWeave w) where
-  pub answer_bounds : (a b : ℕ) (answer : Answer) → answer_of w a b ≡ Some answer → IsAnswerFor w a b answer
-  answer_bounds a b answer there = elim (some_or_none (find (is_for a b) w.rules)) [
+module _ (q : RuleQuadrant) (is_quadrant : IsQuadrant q) where
+  pub answer_bounds : (a b : ℕ) (answer : Answer) → answer_of q a b ≡ Some answer → IsAnswerFor q a b answer
+  answer_bounds a b answer there = elim (some_or_none (find (is_for a b) q.rules)) [
     | inl none ↦ absurd (none-some answer (sym (ap (option_map (λ (t : Rule). t.answer)) none) ∙ there))
     | inr t ↦
-        let is = find_has (is_for a b) (IsRuleOver (length w.symbols)) w.rules t.0 is_weave.rules t.1 in
-        let pair = both_same a b t.0 (find_passes (is_for a b) w.rules t.0 t.1) in
+        let is = find_has (is_for a b) (IsRuleOver (length q.symbols)) q.rules t.0 is_quadrant.rules t.1 in
+        let pair = both_same a b t.0 (find_passes (is_for a b) q.rules t.0 t.1) in
         let same : t.0.answer ≡ answer = same_Some t.0.answer answer (sym (ap (option_map (λ (t : Rule). t.answer)) t.1) ∙ there) in
         record {
-          west = subst (λ n. n < length w.symbols) pair.0 is.west;
-          south = subst (λ n. n < length w.symbols) pair.1 is.south;
-          east = subst (λ (x : Answer). x.east < length w.symbols) same is.east;
-          north = subst (λ (x : Answer). x.north < length w.symbols) same is.north;
+          west = subst (λ n. n < length q.symbols) pair.0 is.west;
+          south = subst (λ n. n < length q.symbols) pair.1 is.south;
+          east = subst (λ (x : Answer). x.east < length q.symbols) same is.east;
+          north = subst (λ (x : Answer). x.north < length q.symbols) same is.north;
         }
   ]
 
-  pub pair_bounds : (a b : ℕ) → is_some (answer_of w a b) ≡ true → (a < length w.symbols) × (b < length w.symbols)
+  pub pair_bounds : (a b : ℕ) → is_some (answer_of q a b) ≡ true → (a < length q.symbols) × (b < length q.symbols)
   pair_bounds a b ruled =
-      let answer = some_is (answer_of w a b) ruled in
+      let answer = some_is (answer_of q a b) ruled in
       let bounds = answer_bounds a b answer.0 answer.1 in
       (bounds.west, bounds.south)
 
-  in_range_or : (o : Option Answer) → ((x : Answer) → o ≡ Some x → (x.east < length w.symbols) × (x.north < length w.symbols)) →
-      IfSome o (λ x. x.east < length w.symbols) × IfSome o (λ x. x.north < length w.symbols)
+  in_range_or : (o : Option Answer) → ((x : Answer) → o ≡ Some x → (x.east < length q.symbols) × (x.north < length q.symbols)) →
+      IfSome o (λ x. x.east < length q.symbols) × IfSome o (λ x. x.north < length q.symbols)
   in_range_or None is = (tt, tt)
   in_range_or (Some x) is = is x (λ z. Some x)
 
-  pub answer_in_range : (a b : ℕ) → IfSome (answer_of w a b) (λ x. x.east < length w.symbols) × IfSome (answer_of w a b) (λ x. x.north < length w.symbols)
-  answer_in_range a b = in_range_or (answer_of w a b) (λ x there. let bounds = answer_bounds a b x there in (bounds.east, bounds.north))
+  pub answer_in_range : (a b : ℕ) → IfSome (answer_of q a b) (λ x. x.east < length q.symbols) × IfSome (answer_of q a b) (λ x. x.north < length q.symbols)
+  answer_in_range a b = in_range_or (answer_of q a b) (λ x there. let bounds = answer_bounds a b x there in (bounds.east, bounds.north))
 
   -- the symbol at a border, given or not
-  border_known : (given : List ℕ) (i : ℕ) → All (λ a. a < length w.symbols) given → get_or given i 0 < length w.symbols
+  border_known : (given : List ℕ) (i : ℕ) → All (λ a. a < length q.symbols) given → get_or given i 0 < length q.symbols
   border_known given i all = elim (cases_lt i (length given)) [
-    | inl within ↦ All-get_or (λ a. a < length w.symbols) given i 0 within all
-    | inr past ↦ let some = is_weave.some_symbol in subst (λ n. n < length w.symbols) (sym (behind given i past)) (omega (arith, some))
+    | inl within ↦ All-get_or (λ a. a < length q.symbols) given i 0 within all
+    | inr past ↦ let some = is_quadrant.some_symbol in subst (λ n. n < length q.symbols) (sym (behind given i past)) (omega (arith, some))
   ]
     where
       behind : (given : List ℕ) (i : ℕ) → length given ≤ i → get_or given i 0 ≡ 0
       behind given i past = get_or_past given i 0 past
 
-  pub bottom_known : (i : ℕ) → bottom_symbol w i < length w.symbols
-  bottom_known i = border_known w.bottom (i - 1) is_weave.bottom_symbols
+  pub bottom_known : (i : ℕ) → bottom_symbol q i < length q.symbols
+  bottom_known i = border_known q.bottom (i - 1) is_quadrant.bottom_symbols
 
-  pub left_known : (j : ℕ) → left_symbol w j < length w.symbols
-  left_known j = border_known w.left (j - 1) is_weave.left_symbols
+  pub left_known : (j : ℕ) → left_symbol q j < length q.symbols
+  left_known j = border_known q.left (j - 1) is_quadrant.left_symbols

@@ -2,7 +2,7 @@
 use Rattle.std.specs.Prelude.{◌≡◌, ℕ, List, [], ◌∷◌, ◌++◌, codes, Some, None}
 use Rattle.quadrant_compile.specs.declared.rule.Rule.{Rule}
 use Rattle.quadrant_compile.specs.declared.tile.Kind.TheVariants.{Corner, Bottom, Left, Cell}
-use Rattle.quadrant_compile.specs.Weaves.{Weave}
+use Rattle.quadrant_compile.specs.Quadrants.{RuleQuadrant}
 use Rattle.quadrant_compile.specs.Tiles.{kind_at}
 
 -- the rule for two symbols that gives one symbol to the east and to the north
@@ -12,16 +12,16 @@ gives west south both = record { west = west; south = south; answer = record { e
 abbrev pub three_rules : List Rule
 three_rules = gives 0 0 0 ∷ gives 0 1 1 ∷ gives 1 0 1 ∷ []
 
-abbrev pub weave_by : List Rule → Weave
-weave_by rules = record { symbols = codes "0" ∷ codes "1" ∷ []; rules = rules; width = 2; height = 2; bottom = 1 ∷ 1 ∷ []; left = 1 ∷ 1 ∷ [] }
+abbrev pub quadrant_by : List Rule → RuleQuadrant
+quadrant_by rules = record { symbols = codes "0" ∷ codes "1" ∷ []; rules = rules; width = 2; height = 2; bottom = 1 ∷ 1 ∷ []; left = 1 ∷ 1 ∷ [] }
 
 -- by all four rules
-abbrev pub exclusive_or : Weave
-exclusive_or = weave_by (three_rules ++ gives 1 1 0 ∷ [])
+abbrev pub exclusive_or : RuleQuadrant
+exclusive_or = quadrant_by (three_rules ++ gives 1 1 0 ∷ [])
 
 -- and without the rule for two ones
-abbrev pub without_ones : Weave
-without_ones = weave_by three_rules
+abbrev pub without_ones : RuleQuadrant
+without_ones = quadrant_by three_rules
 
 -- what belongs in the cells of the first
 pub record ExclusiveOrIsShown : Type 0 where

@@ -1,7 +1,7 @@
-pub mod Weaves
-pub mod WeaveText
+pub mod Quadrants
+pub mod QuadrantText
 pub mod Tiles
-pub mod Woven
+pub mod QuadrantSystems
 pub mod Cells
 pub mod Laws
 pub mod Examples

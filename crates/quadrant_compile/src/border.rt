@@ -1,7 +1,7 @@
 // The borders, and which of them a line is of.
 ghost use Rattle.std.specs.Prelude.{◌≡◌, Some, IfSome};
 ghost use Rattle.tile_io.specs.Checks.{keyword_of};
-ghost use Rattle.quadrant_compile.specs.WeaveText.{quadrant_table};
+ghost use Rattle.quadrant_compile.specs.QuadrantText.{quadrant_table};
 ghost use Rattle.quadrant_compile.specs.Inner.Keywords.{row_of};
 ghost use Rattle.quadrant_compile.specs.Inner.Borders.{border_kind};
 

@@ -2,7 +2,7 @@
 ghost use Rattle.std.specs.Prelude.{◌≡◌, ◌<◌, ◌≤◌, ◌-◌, ◌^◌, ℕ, Option, is_some, slice_get};
 ghost use Rattle.atam.specs.Placements.{tile_at};
 ghost use Rattle.design.specs.TileSets.{cell_site};
-ghost use Rattle.quadrant_compile.specs.Weaves.{IsRecurrence, IsWeave};
+ghost use Rattle.quadrant_compile.specs.Quadrants.{IsRecurrence, IsQuadrant};
 ghost use Rattle.quadrant_compile.specs.Cells.{HasCells, cell_at, ruled_inputs, type_symbols};
 ghost use Rattle.quadrant_compile.specs.Laws.{IsFullGrowth};
 
@@ -33,7 +33,7 @@ pub fn cell_at(quadrant: &Quadrant, grid: &Grid, column: u32, row: u32) -> Optio
 }
 
 fn tile_symbols(quadrant: &Quadrant, grid: &Grid, column: u32, row: u32) -> Option<(u32, u32)>
-    requires valid { IsWeave quadrant.now }
+    requires valid { IsQuadrant quadrant.now }
     requires column { column < 2 ^ 31 }
     requires row { row < 2 ^ 31 }
     ensures { result ≡ cell_at quadrant.now grid.now.tiles column row }
@@ -55,7 +55,7 @@ fn tile_in(grid: &Grid, column: u32, row: u32) -> Option<TypeId>
 
 // The symbols that the type with this index is for; none where it is of a border.
 fn type_symbols(quadrant: &Quadrant, tile: TypeId) -> Option<(u32, u32)>
-    requires { IsWeave quadrant.now }
+    requires { IsQuadrant quadrant.now }
     ensures { result ≡ type_symbols quadrant.now tile }
 {
     let borders = 1 + quadrant.width() + quadrant.height();

@@ -1,6 +1,6 @@
 // A quadrant as a tile system.
 ghost use Rattle.std.specs.Prelude.{◌≡◌, IfOk};
-ghost use Rattle.quadrant_compile.specs.Woven.{area_of, woven};
+ghost use Rattle.quadrant_compile.specs.QuadrantSystems.{area_of, quadrant_system};
 
 use crate::listing::{kinds, labels};
 use crate::names::{add_kind_name, add_label_name};
@@ -19,7 +19,7 @@ pub type QuadrantTiles = ListedTiles<Kind, Label, Quadrant>;
 /// that come out of the cell to the west and out of the cell below. It has a type for each column,
 /// each row and each rule, so it takes time that grows with the number of these.
 pub fn compile_quadrant(alloc: Global, quadrant: &Quadrant) -> Result<System, NoMemory>
-    ensures { IfOk result (λ system. system ≡ woven quadrant.now) }
+    ensures { IfOk result (λ system. system ≡ quadrant_system quadrant.now) }
 {
     prove!(quadrant.symbols() > 0);
     let labels = labels(alloc, quadrant)?;
@@ -37,7 +37,7 @@ pub fn compile_quadrant(alloc: Global, quadrant: &Quadrant) -> Result<System, No
 /// Lists the tiles of a quadrant, to be printed, in time that grows with the number of its columns,
 /// rows and rules.
 pub fn quadrant_tiles(alloc: Global, quadrant: Quadrant) -> Result<QuadrantTiles, NoMemory>
-    ensures { IfOk result (λ tiles. tiles ≡ woven quadrant) }
+    ensures { IfOk result (λ tiles. tiles ≡ quadrant_system quadrant) }
 {
     prove!(quadrant.symbols() > 0);
     let labels = labels(alloc, &quadrant)?;
@@ -47,7 +47,7 @@ pub fn quadrant_tiles(alloc: Global, quadrant: Quadrant) -> Result<QuadrantTiles
 }
 
 impl Table<Kind, Label> for Quadrant {
-    ghost use Rattle.quadrant_compile.specs.Woven.{tiles_of};
+    ghost use Rattle.quadrant_compile.specs.QuadrantSystems.{tiles_of};
 
     ghost tiles = { λ quadrant. tiles_of quadrant };
 

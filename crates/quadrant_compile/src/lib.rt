@@ -1,4 +1,4 @@
-//! Rules from two symbols to two, woven over columns and rows: their text, and the tile system that
+//! Rules from two symbols to two, over columns and rows: their text, and the tile system that
 //! shows their recurrence.
 #![tactic(auto)]
 

@@ -1,6 +1,6 @@
 // The keywords of a quadrant text.
 ghost use Rattle.std.specs.Prelude.{◌≡◌, option_map, find, bytes_eq};
-ghost use Rattle.quadrant_compile.specs.WeaveText.{quadrant_table};
+ghost use Rattle.quadrant_compile.specs.QuadrantText.{quadrant_table};
 ghost use Rattle.quadrant_compile.specs.Inner.Keywords.{row_of, may_stand_after, is_last};
 
 /// A keyword.
@@ -17,7 +17,7 @@ pub(crate) enum LineKind {
 
 impl LineKind {
     /// The keyword that a word is.
-    #[tactic(auto, unfolding(crate::specs::WeaveText::quadrant_table))]
+    #[tactic(auto, unfolding(crate::specs::QuadrantText::quadrant_table))]
     pub(crate) fn of(word: &[u8]) -> Option<LineKind>
         ensures { option_map row_of result
             ≡ find (λ row. bytes_eq word.now row.word) quadrant_table.keywords }

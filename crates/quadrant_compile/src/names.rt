@@ -1,8 +1,8 @@
 // The names of kinds and labels.
 ghost use Rattle.std.specs.Prelude.{◌≡◌, ◌≤◌, ◌<◌, ◌+◌, ◌∷◌, ◌++◌, codes, decimal, length};
-ghost use Rattle.quadrant_compile.specs.Woven.{kind_name, label_name, symbol_name};
+ghost use Rattle.quadrant_compile.specs.QuadrantSystems.{kind_name, label_name, symbol_name};
 ghost use Rattle.quadrant_compile.specs.Inner.Members.{IsKind, IsLabel};
-ghost use Rattle.quadrant_compile.specs.Weaves.{IsWeave};
+ghost use Rattle.quadrant_compile.specs.Quadrants.{IsQuadrant};
 ghost use Rattle.tile_table.specs.declared.short_text.TheConstants.{SHORT_ROOM};
 
 use crate::quadrant::Quadrant;
@@ -11,7 +11,7 @@ use tile_table::ShortText;
 
 /// Adds the name of a kind to a text.
 pub(crate) fn add_kind_name(text: &mut ShortText, quadrant: &Quadrant, kind: Kind)
-    requires valid { IsWeave quadrant.now }
+    requires valid { IsQuadrant quadrant.now }
     requires kind { IsKind quadrant.now kind }
     requires room { length text.old + length (kind_name quadrant.now kind) ≤ SHORT_ROOM }
     ensures { text.new ≡ text.old ++ kind_name quadrant.now kind }

@@ -18,11 +18,11 @@ pub(crate) struct QuadrantParts {
 }
 
 impl QuadrantParts {
-    ghost use Rattle.quadrant_compile.specs.WeaveText.{weave_of};
-    ghost use Rattle.quadrant_compile.specs.Inner.SoFar.{weave_in};
+    ghost use Rattle.quadrant_compile.specs.QuadrantText.{quadrant_of};
+    ghost use Rattle.quadrant_compile.specs.Inner.SoFar.{quadrant_in};
 
     pub(crate) fn new(alloc: Global) -> Result<QuadrantParts, NoMemory>
-        ensures { IfOk result (λ parts. weave_in parts ≡ weave_of []) }
+        ensures { IfOk result (λ parts. quadrant_in parts ≡ quadrant_of []) }
     {
         Ok(QuadrantParts {
             symbols: NameList::new(alloc),

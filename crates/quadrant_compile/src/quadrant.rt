@@ -1,6 +1,6 @@
 // A quadrant.
 ghost use Rattle.std.specs.Prelude.{◌≡◌, ◌<◌, ◌≤◌, length, slice_get, Some, IfOk, IfSome};
-ghost use Rattle.quadrant_compile.specs.Weaves.{IsWeave, answer_of, bottom_symbol, left_symbol, ruled_pairs};
+ghost use Rattle.quadrant_compile.specs.Quadrants.{IsQuadrant, answer_of, bottom_symbol, left_symbol, ruled_pairs};
 
 use crate::parts::QuadrantParts;
 use crate::rule::Answer;
@@ -39,10 +39,10 @@ impl Drop for Quadrant {
 
 impl Model for Quadrant {
     ghost use Rattle.std.specs.Prelude.{◌≡◌};
-    ghost use Rattle.quadrant_compile.specs.Weaves.{Weave, IsWeave, ruled_pairs};
+    ghost use Rattle.quadrant_compile.specs.Quadrants.{RuleQuadrant, IsQuadrant, ruled_pairs};
     ghost use Rattle.quadrant_compile.specs.Inner.Held.{IsHeld};
 
-    ghost Value = { Weave };
+    ghost Value = { RuleQuadrant };
 
     ghost view = { λ q. record {
       symbols = q.symbols;
@@ -64,12 +64,12 @@ impl Model for Quadrant {
 }
 
 impl Quadrant {
-    ghost use Rattle.quadrant_compile.specs.Inner.SoFar.{weave_in};
+    ghost use Rattle.quadrant_compile.specs.Inner.SoFar.{quadrant_in};
 
     /// The quadrant of these parts.
     pub(crate) fn new(alloc: Global, parts: QuadrantParts) -> Result<Quadrant, NoMemory>
-        requires { IsWeave (weave_in parts) }
-        ensures { IfOk result (λ quadrant. quadrant ≡ weave_in parts) }
+        requires { IsQuadrant (quadrant_in parts) }
+        ensures { IfOk result (λ quadrant. quadrant ≡ quadrant_in parts) }
     {
         let ruled = ruled_pairs(alloc, &parts)?;
         Ok(Quadrant {
@@ -86,7 +86,7 @@ impl Quadrant {
     /// The number of symbols.
     pub fn symbols(&self) -> u32
         ensures count { result ≡ length self.now.symbols }
-        ensures valid { IsWeave self.now }
+        ensures valid { IsQuadrant self.now }
     {
         self.symbols.len()
     }

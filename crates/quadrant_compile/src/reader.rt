@@ -3,8 +3,8 @@ ghost use Rattle.std.specs.Prelude.{◌≡◌, ◌≤◌, true, length, IfOk};
 ghost use Rattle.tile_io.specs.declared.limits.TheConstants.{LONGEST_LINE};
 ghost use Rattle.tile_io.specs.NextLine.{IsMark};
 ghost use Rattle.tile_io.specs.Formats.{ReadsOrStops};
-ghost use Rattle.quadrant_compile.specs.Weaves.{IsWeave};
-ghost use Rattle.quadrant_compile.specs.WeaveText.{ReadsQuadrant, quadrant_format};
+ghost use Rattle.quadrant_compile.specs.Quadrants.{IsQuadrant};
+ghost use Rattle.quadrant_compile.specs.QuadrantText.{ReadsQuadrant, quadrant_format};
 
 use crate::border::Border;
 use crate::limits::MOST_SYMBOLS;
@@ -25,7 +25,7 @@ pub fn read_quadrant(alloc: Global, text: &[u8], from: Mark) -> Result<(Quadrant
     ensures read { ReadsOrStops quadrant_format text.now from
         (λ found. ReadsQuadrant text.now from found.0 found.1) result }
     ensures mark { IfOk result (λ found. IsMark text.now found.1) }
-    ensures valid { IfOk result (λ found. IsWeave found.0) }
+    ensures valid { IfOk result (λ found. IsQuadrant found.0) }
 {
     let Ok(parts) = QuadrantParts::new(alloc) else {
         return Err(TextStop::NoMemory);
@@ -50,15 +50,15 @@ struct QuadrantReader {
     last: Option<LineKind>,
 }
 
-#[tactic(auto, unfolding(crate::specs::WeaveText::quadrant_table))]
+#[tactic(auto, unfolding(crate::specs::QuadrantText::quadrant_table))]
 impl LineReader for QuadrantReader {
-    ghost use Rattle.quadrant_compile.specs.WeaveText.{WeaveItem, quadrant_table};
+    ghost use Rattle.quadrant_compile.specs.QuadrantText.{QuadrantItem, quadrant_table};
     ghost use Rattle.quadrant_compile.specs.Inner.Keywords.{row_of};
-    ghost use Rattle.quadrant_compile.specs.Inner.SoFar.{weave_in, HoldsLines};
+    ghost use Rattle.quadrant_compile.specs.Inner.SoFar.{quadrant_in, HoldsLines};
 
     type Kind = LineKind;
 
-    ghost Item = { WeaveItem };
+    ghost Item = { QuadrantItem };
 
     ghost Context = { Unit {0} };
 
@@ -68,7 +68,7 @@ impl LineReader for QuadrantReader {
 
     ghost row = { λ _. row_of };
 
-    ghost holds = { λ r. HoldsLines (weave_in r.parts) r.last };
+    ghost holds = { λ r. HoldsLines (quadrant_in r.parts) r.last };
 
     fn has_header(&self) -> bool {
         true
@@ -127,13 +127,13 @@ impl LineReader for QuadrantReader {
 }
 
 impl QuadrantReader {
-    ghost use Rattle.quadrant_compile.specs.Inner.SoFar.{weave_in};
+    ghost use Rattle.quadrant_compile.specs.Inner.SoFar.{quadrant_in};
     ghost use Rattle.quadrant_compile.specs.Inner.Borders.{HasPlace};
 
     // Whether a line of this border passes the checks before its fields.
     fn has_place(&self, border: Border, words: &LineWords) -> bool
         ensures { result ≡ true →
-            HasPlace border (weave_in self.now.parts) self.now.last words.now }
+            HasPlace border (quadrant_in self.now.parts) self.now.last words.now }
     {
         let count = words.len();
         if count < 2 {

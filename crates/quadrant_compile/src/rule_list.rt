@@ -1,7 +1,7 @@
 // Rules, by the symbols that they are for.
 ghost use Rattle.std.specs.Prelude.{◌≡◌, ◌<◌, ◌*◌, [], ◌∷◌, ◌++◌, None, IfOk, OnOk, OnErr};
 ghost use Rattle.quadrant_compile.specs.declared.limits.TheConstants.{MOST_SYMBOLS};
-ghost use Rattle.quadrant_compile.specs.Weaves.{answer_among};
+ghost use Rattle.quadrant_compile.specs.Quadrants.{answer_among};
 ghost use Rattle.quadrant_compile.specs.Inner.Tables.{entry};
 
 use crate::limits::MOST_SYMBOLS;

@@ -1,8 +1,8 @@
 // The pairs of symbols that have a rule.
 ghost use Rattle.std.specs.Prelude.{◌≡◌, List, ℕ, length, map, IfOk};
 ghost use Rattle.std.specs.List.{range_with_len};
-ghost use Rattle.quadrant_compile.specs.Weaves.{IsWeave, pairs_below, ruled_pairs};
-ghost use Rattle.quadrant_compile.specs.Inner.SoFar.{weave_in};
+ghost use Rattle.quadrant_compile.specs.Quadrants.{IsQuadrant, pairs_below, ruled_pairs};
+ghost use Rattle.quadrant_compile.specs.Inner.SoFar.{quadrant_in};
 
 use crate::parts::QuadrantParts;
 use std::alloc::Global;
@@ -10,8 +10,8 @@ use tile_system::NoMemory;
 
 /// The pairs that have a rule, by the symbol from the west and then by the one from the south.
 pub(crate) fn ruled_pairs(alloc: Global, parts: &QuadrantParts) -> Result<Vec<(u32, u32)>, NoMemory>
-    requires { IsWeave (weave_in parts.now) }
-    ensures { IfOk result (λ found. found.items ≡ ruled_pairs (weave_in parts.now)) }
+    requires { IsQuadrant (quadrant_in parts.now) }
+    ensures { IfOk result (λ found. found.items ≡ ruled_pairs (quadrant_in parts.now)) }
 {
     let all = pairs(alloc, parts.symbols.len())?;
     let mut ruled = Vec::new(alloc);

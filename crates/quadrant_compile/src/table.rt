@@ -1,6 +1,6 @@
 // The table of a quadrant's tiles.
 ghost use Rattle.std.specs.Prelude.{◌≡◌};
-ghost use Rattle.quadrant_compile.specs.Weaves.{IsWeave, Weave};
+ghost use Rattle.quadrant_compile.specs.Quadrants.{IsQuadrant, RuleQuadrant};
 ghost use Rattle.quadrant_compile.specs.Tiles.{label_on, next_column, next_row, strength};
 ghost use Rattle.quadrant_compile.specs.Inner.Members.{IsKind};
 
@@ -10,7 +10,7 @@ use atam::Side;
 
 /// The label on a side of a kind.
 pub(crate) fn label_on(quadrant: &Quadrant, kind: Kind, side: Side) -> Option<Label>
-    requires valid { IsWeave quadrant.now }
+    requires valid { IsQuadrant quadrant.now }
     requires kind { IsKind quadrant.now kind }
     ensures { result ≡ label_on quadrant.now kind side }
 {
@@ -23,7 +23,7 @@ pub(crate) fn label_on(quadrant: &Quadrant, kind: Kind, side: Side) -> Option<La
 }
 
 fn corner_label(side: Side) -> Option<Label>
-    ensures { (w : Weave) → result ≡ label_on w Kind.Corner side }
+    ensures { (q : RuleQuadrant) → result ≡ label_on q Kind.Corner side }
 {
     match side {
         Side::North => Some(Label::Row { row: 1 }),
@@ -61,7 +61,7 @@ fn left_label(quadrant: &Quadrant, row: u32, side: Side) -> Option<Label>
 }
 
 fn cell_label(quadrant: &Quadrant, west: u32, south: u32, side: Side) -> Option<Label>
-    requires valid { IsWeave quadrant.now }
+    requires valid { IsQuadrant quadrant.now }
     requires kind { IsKind quadrant.now (Kind.Cell west south) }
     ensures { result ≡ label_on quadrant.now (Kind.Cell west south) side }
 {

@@ -1,11 +1,11 @@
 // What the fields of a line make of a quadrant in the making.
 ghost use Rattle.std.specs.Prelude.{◌≡◌, ◌≤◌, ◌<◌, ℕ, List, true, None, Ok, drop, length, IfOk};
 ghost use Rattle.quadrant_compile.specs.declared.limits.TheConstants.{MOST_SYMBOLS};
-ghost use Rattle.quadrant_compile.specs.Weaves.{Weave, answer_among};
-ghost use Rattle.quadrant_compile.specs.WeaveText.{WeaveItem, quadrant_row, symbol_row, rule_in, rule_row, size_row, bottom_row, left_row, weave_of};
+ghost use Rattle.quadrant_compile.specs.Quadrants.{RuleQuadrant, answer_among};
+ghost use Rattle.quadrant_compile.specs.QuadrantText.{QuadrantItem, quadrant_row, symbol_row, rule_in, rule_row, size_row, bottom_row, left_row, quadrant_of};
 ghost use Rattle.quadrant_compile.specs.Inner.Keywords.{row_of};
 ghost use Rattle.quadrant_compile.specs.Inner.Borders.{border_kind};
-ghost use Rattle.quadrant_compile.specs.Inner.SoFar.{weave_in, Gets};
+ghost use Rattle.quadrant_compile.specs.Inner.SoFar.{quadrant_in, Gets};
 ghost use Rattle.tile_io.specs.Lines.{words_of};
 ghost use Rattle.machine_text.specs.MachineText.{references};
 
@@ -27,9 +27,9 @@ pub(crate) fn take_item(
 ) -> Result<(), LineStop>
     requires words { (row_of kind).has_words (length words.now) ≡ true }
     requires few { length parts.old.symbols ≤ MOST_SYMBOLS }
-    ensures { (earlier : List WeaveItem) → weave_in parts.old ≡ weave_of earlier →
-        Gets kind ((row_of kind).fields earlier words.now) (weave_in parts.old)
-        (weave_in parts.new) result }
+    ensures { (earlier : List QuadrantItem) → quadrant_in parts.old ≡ quadrant_of earlier →
+        Gets kind ((row_of kind).fields earlier words.now) (quadrant_in parts.old)
+        (quadrant_in parts.new) result }
 {
     match kind {
         LineKind::Quadrant => check_version(words),
@@ -49,10 +49,10 @@ pub(crate) fn take_border(
     border: Border,
     line: &[u8],
 ) -> Result<(), LineStop>
-    ensures { (earlier : List WeaveItem) → weave_in parts.old ≡ weave_of earlier →
+    ensures { (earlier : List QuadrantItem) → quadrant_in parts.old ≡ quadrant_of earlier →
         Gets (border_kind border)
         ((row_of (border_kind border)).fields earlier (words_of line.now))
-        (weave_in parts.old) (weave_in parts.new) result }
+        (quadrant_in parts.old) (quadrant_in parts.new) result }
 {
     match border {
         Border::Bottom => take_bottom_line(alloc, parts, line),
@@ -63,7 +63,8 @@ pub(crate) fn take_border(
 // Whether the header is of version 1.
 fn check_version(words: &LineWords) -> Result<(), LineStop>
     requires { length words.now ≡ 2 }
-    ensures { (w : Weave) → Gets LineKind.Quadrant (quadrant_row.fields w words.now) w w result }
+    ensures { (q : RuleQuadrant) →
+        Gets LineKind.Quadrant (quadrant_row.fields q words.now) q q result }
 {
     if !is_word(words.word(1), b"1") {
         return Err(LineStop::Fault(Cause::NoHeader));
@@ -75,8 +76,8 @@ fn check_version(words: &LineWords) -> Result<(), LineStop>
 fn take_symbol(alloc: Global, parts: &mut QuadrantParts, words: &LineWords) -> Result<(), LineStop>
     requires words { length words.now ≡ 2 }
     requires few { length parts.old.symbols ≤ MOST_SYMBOLS }
-    ensures { Gets LineKind.Symbol (symbol_row.fields (weave_in parts.old) words.now)
-        (weave_in parts.old) (weave_in parts.new) result }
+    ensures { Gets LineKind.Symbol (symbol_row.fields (quadrant_in parts.old) words.now)
+        (quadrant_in parts.old) (quadrant_in parts.new) result }
 {
     let name = words.word(1);
     check_new(&parts.symbols, name)?;
@@ -90,8 +91,8 @@ fn take_symbol(alloc: Global, parts: &mut QuadrantParts, words: &LineWords) -> R
 fn take_rule(parts: &mut QuadrantParts, words: &LineWords) -> Result<(), LineStop>
     requires words { length words.now ≡ 5 }
     requires few { length parts.old.symbols ≤ MOST_SYMBOLS }
-    ensures { Gets LineKind.Rule (rule_row.fields (weave_in parts.old) words.now)
-        (weave_in parts.old) (weave_in parts.new) result }
+    ensures { Gets LineKind.Rule (rule_row.fields (quadrant_in parts.old) words.now)
+        (quadrant_in parts.old) (quadrant_in parts.new) result }
 {
     let rule = read_rule(parts, words)?;
     match parts.rules.push(rule) {
@@ -101,11 +102,11 @@ fn take_rule(parts: &mut QuadrantParts, words: &LineWords) -> Result<(), LineSto
 }
 
 // The rule of a `rule` line.
-#[tactic(auto, unfolding(crate::specs::WeaveText::rule_in))]
+#[tactic(auto, unfolding(crate::specs::QuadrantText::rule_in))]
 fn read_rule(parts: &QuadrantParts, words: &LineWords) -> Result<Rule, Cause>
     requires words { length words.now ≡ 5 }
     requires few { length parts.now.symbols ≤ MOST_SYMBOLS }
-    ensures rule { result ≡ rule_in (weave_in parts.now) words.now }
+    ensures rule { result ≡ rule_in (quadrant_in parts.now) words.now }
     ensures fresh { IfOk result (λ r. answer_among parts.now.rules r.west r.south ≡ None) }
     ensures west { IfOk result (λ r. r.west < length parts.now.symbols) }
     ensures south { IfOk result (λ r. r.south < length parts.now.symbols) }
@@ -127,8 +128,8 @@ fn read_rule(parts: &QuadrantParts, words: &LineWords) -> Result<Rule, Cause>
 // Takes the fields of a `size` line.
 fn take_size(parts: &mut QuadrantParts, words: &LineWords) -> Result<(), LineStop>
     requires { length words.now ≡ 3 }
-    ensures { Gets LineKind.Size (size_row.fields (weave_in parts.old) words.now) (weave_in parts.old)
-        (weave_in parts.new) result }
+    ensures { Gets LineKind.Size (size_row.fields (quadrant_in parts.old) words.now) (quadrant_in parts.old)
+        (quadrant_in parts.new) result }
 {
     let width = read_count(words.word(1), 1, LONGEST_SIDE)?;
     let height = read_count(words.word(2), 1, LONGEST_SIDE)?;
@@ -140,8 +141,8 @@ fn take_size(parts: &mut QuadrantParts, words: &LineWords) -> Result<(), LineSto
 // Takes the fields of a `bottom` line.
 fn take_bottom(alloc: Global, parts: &mut QuadrantParts, words: &LineWords) -> Result<(), LineStop>
     requires { 2 ≤ length words.now }
-    ensures { Gets LineKind.Bottom (bottom_row.fields (weave_in parts.old) words.now)
-        (weave_in parts.old) (weave_in parts.new) result }
+    ensures { Gets LineKind.Bottom (bottom_row.fields (quadrant_in parts.old) words.now)
+        (quadrant_in parts.old) (quadrant_in parts.new) result }
 {
     let symbols = find_names(alloc, &parts.symbols, words)?;
     keep_bottom(parts, symbols.as_slice())
@@ -149,8 +150,8 @@ fn take_bottom(alloc: Global, parts: &mut QuadrantParts, words: &LineWords) -> R
 
 // The same by the bytes of the line.
 fn take_bottom_line(alloc: Global, parts: &mut QuadrantParts, line: &[u8]) -> Result<(), LineStop>
-    ensures { Gets LineKind.Bottom (bottom_row.fields (weave_in parts.old) (words_of line.now))
-        (weave_in parts.old) (weave_in parts.new) result }
+    ensures { Gets LineKind.Bottom (bottom_row.fields (quadrant_in parts.old) (words_of line.now))
+        (quadrant_in parts.old) (quadrant_in parts.new) result }
 {
     let symbols = find_names_of_line(alloc, &parts.symbols, line)?;
     keep_bottom(parts, symbols.as_slice())
@@ -159,9 +160,9 @@ fn take_bottom_line(alloc: Global, parts: &mut QuadrantParts, line: &[u8]) -> Re
 // Puts the symbols of a `bottom` line behind those of the bottom.
 fn keep_bottom(parts: &mut QuadrantParts, symbols: &[u32]) -> Result<(), LineStop>
     ensures { (words : List (List ℕ)) →
-        references (weave_in parts.old).symbols (drop 1 words) ≡ Ok symbols.now →
-        Gets LineKind.Bottom (bottom_row.fields (weave_in parts.old) words)
-        (weave_in parts.old) (weave_in parts.new) result }
+        references (quadrant_in parts.old).symbols (drop 1 words) ≡ Ok symbols.now →
+        Gets LineKind.Bottom (bottom_row.fields (quadrant_in parts.old) words)
+        (quadrant_in parts.old) (quadrant_in parts.new) result }
 {
     match parts.bottom.extend_from_slice(symbols) {
         Ok(()) => Ok(()),
@@ -172,8 +173,8 @@ fn keep_bottom(parts: &mut QuadrantParts, symbols: &[u32]) -> Result<(), LineSto
 // Takes the fields of a `left` line.
 fn take_left(alloc: Global, parts: &mut QuadrantParts, words: &LineWords) -> Result<(), LineStop>
     requires { 2 ≤ length words.now }
-    ensures { Gets LineKind.Left (left_row.fields (weave_in parts.old) words.now)
-        (weave_in parts.old) (weave_in parts.new) result }
+    ensures { Gets LineKind.Left (left_row.fields (quadrant_in parts.old) words.now)
+        (quadrant_in parts.old) (quadrant_in parts.new) result }
 {
     let symbols = find_names(alloc, &parts.symbols, words)?;
     keep_left(parts, symbols.as_slice())
@@ -181,8 +182,8 @@ fn take_left(alloc: Global, parts: &mut QuadrantParts, words: &LineWords) -> Res
 
 // The same by the bytes of the line.
 fn take_left_line(alloc: Global, parts: &mut QuadrantParts, line: &[u8]) -> Result<(), LineStop>
-    ensures { Gets LineKind.Left (left_row.fields (weave_in parts.old) (words_of line.now))
-        (weave_in parts.old) (weave_in parts.new) result }
+    ensures { Gets LineKind.Left (left_row.fields (quadrant_in parts.old) (words_of line.now))
+        (quadrant_in parts.old) (quadrant_in parts.new) result }
 {
     let symbols = find_names_of_line(alloc, &parts.symbols, line)?;
     keep_left(parts, symbols.as_slice())
@@ -191,9 +192,9 @@ fn take_left_line(alloc: Global, parts: &mut QuadrantParts, line: &[u8]) -> Resu
 // Puts the symbols of a `left` line behind those of the left border.
 fn keep_left(parts: &mut QuadrantParts, symbols: &[u32]) -> Result<(), LineStop>
     ensures { (words : List (List ℕ)) →
-        references (weave_in parts.old).symbols (drop 1 words) ≡ Ok symbols.now →
-        Gets LineKind.Left (left_row.fields (weave_in parts.old) words)
-        (weave_in parts.old) (weave_in parts.new) result }
+        references (quadrant_in parts.old).symbols (drop 1 words) ≡ Ok symbols.now →
+        Gets LineKind.Left (left_row.fields (quadrant_in parts.old) words)
+        (quadrant_in parts.old) (quadrant_in parts.new) result }
 {
     match parts.left.extend_from_slice(symbols) {
         Ok(()) => Ok(()),

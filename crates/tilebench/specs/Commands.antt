@@ -6,7 +6,7 @@ use Rattle.tile_text.specs.SystemText.{FaultAny, ReadsAny}
 use Rattle.seq_text.specs.GrowthText.{grid_format, sequence_format}
 use Rattle.seq_text.specs.ScheduleText.{schedule_format}
 use Rattle.machine_text.specs.MachineText.{ReadsMachine, machine_format}
-use Rattle.quadrant_compile.specs.WeaveText.{ReadsQuadrant, quadrant_format}
+use Rattle.quadrant_compile.specs.QuadrantText.{ReadsQuadrant, quadrant_format}
 use Rattle.tilebench.specs.Growing.{TellsNoGrowth}
 use Rattle.tilebench.specs.Inputs.{alone}
 use Rattle.tilebench.specs.Rows.{RoomRow, reading}

@@ -1,7 +1,7 @@
 // The system at the front of an input with what follows it, or the machine, two-input rule or batch that it is.
 ghost use Rattle.tile_io.specs.Lines.{first_mark};
 ghost use Rattle.tile_io.specs.Formats.{Fault};
-ghost use Rattle.quadrant_compile.specs.WeaveText.{ReadsQuadrant, quadrant_format};
+ghost use Rattle.quadrant_compile.specs.QuadrantText.{ReadsQuadrant, quadrant_format};
 ghost use Rattle.machine_text.specs.MachineText.{ReadsMachine, machine_format};
 ghost use Rattle.std.specs.Prelude.{◌≡◌, ◌<◌, ◌≤◌, ◌^◌, ℕ, true, List, [], length, Option, IfOk};
 ghost use Rattle.std.specs.Io.KnownBytes.{IsAtEnd};
@@ -12,7 +12,7 @@ ghost use Rattle.tile_io.specs.Blocks.{TakesOn};
 ghost use Rattle.tilebench.specs.Inner.Gives.{Gives, GivesBehind, GivesRead, HoldsWhole};
 ghost use Rattle.tilebench.specs.Inner.Fronts.{FailsAtFront, IsFront};
 ghost use Rattle.machine_text.specs.Machines.{IsMachine};
-ghost use Rattle.quadrant_compile.specs.Weaves.{IsWeave};
+ghost use Rattle.quadrant_compile.specs.Quadrants.{IsQuadrant};
 ghost use Rattle.job_board.specs.declared.limits.TheConstants.{MOST_JOBS};
 ghost use Rattle.atam.specs.declared.place.Place.{Place};
 ghost use Rattle.atam.specs.Assembly.{Fits};
@@ -70,7 +70,7 @@ pub fn read_machine_alone(alloc: Global, input: &[u8]) -> Result<Machine, Stop>
 pub fn read_quadrant_alone(alloc: Global, input: &[u8]) -> Result<Quadrant, Stop>
     requires { length input.now ≤ MOST_INPUT }
     ensures read { Gives (IsAlone ReadsQuadrant input.now) (FailsWithin ReadsQuadrant (Fault quadrant_format) alone input.now) result }
-    ensures valid { IfOk result IsWeave }
+    ensures valid { IfOk result IsQuadrant }
 {
     let (quadrant, end) = read_quadrant(alloc, input, Mark::start())?;
     check_rest(input, end)?;

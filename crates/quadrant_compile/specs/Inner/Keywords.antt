@@ -3,21 +3,21 @@ use Rattle.std.specs.Prelude.{Bool, true, false, List, Option, Some, None}
 use Rattle.tile_io.specs.Checks.{Keyword, told_by}
 use Rattle.quadrant_compile.specs.declared.line_kind.LineKind.{LineKind}
 use Rattle.quadrant_compile.specs.declared.line_kind.LineKind.TheVariants as kinds
-use Rattle.quadrant_compile.specs.WeaveText.{WeaveItem, weave_of, quadrant_row, symbol_row, rule_row, size_row, bottom_row, left_row, end_row}
-use Rattle.quadrant_compile.specs.WeaveText.WeaveItem.{Header, SymbolLine, RuleLine, SizeLine, BottomLine, LeftLine, EndLine}
+use Rattle.quadrant_compile.specs.QuadrantText.{QuadrantItem, quadrant_of, quadrant_row, symbol_row, rule_row, size_row, bottom_row, left_row, end_row}
+use Rattle.quadrant_compile.specs.QuadrantText.QuadrantItem.{Header, SymbolLine, RuleLine, SizeLine, BottomLine, LeftLine, EndLine}
 
 -- the row of a keyword in the table
-abbrev pub row_of : LineKind → Keyword (List WeaveItem) WeaveItem
-row_of kinds.Quadrant = told_by weave_of quadrant_row
-row_of kinds.Symbol = told_by weave_of symbol_row
-row_of kinds.Rule = told_by weave_of rule_row
-row_of kinds.Size = told_by weave_of size_row
-row_of kinds.Bottom = told_by weave_of bottom_row
-row_of kinds.Left = told_by weave_of left_row
-row_of kinds.End = told_by weave_of end_row
+abbrev pub row_of : LineKind → Keyword (List QuadrantItem) QuadrantItem
+row_of kinds.Quadrant = told_by quadrant_of quadrant_row
+row_of kinds.Symbol = told_by quadrant_of symbol_row
+row_of kinds.Rule = told_by quadrant_of rule_row
+row_of kinds.Size = told_by quadrant_of size_row
+row_of kinds.Bottom = told_by quadrant_of bottom_row
+row_of kinds.Left = told_by quadrant_of left_row
+row_of kinds.End = told_by quadrant_of end_row
 
 -- the keyword of a line
-abbrev pub kind_of : WeaveItem → LineKind
+abbrev pub kind_of : QuadrantItem → LineKind
 kind_of Header = kinds.Quadrant
 kind_of (SymbolLine name) = kinds.Symbol
 kind_of (RuleLine rule) = kinds.Rule

@@ -10,14 +10,14 @@ use Rattle.quadrant_compile.specs.declared.limits.TheConstants.{MOST_SYMBOLS, LO
 use Rattle.quadrant_compile.specs.declared.line_kind.LineKind.{LineKind}
 use Rattle.quadrant_compile.specs.declared.line_kind.LineKind.TheVariants as kinds
 use Rattle.quadrant_compile.specs.declared.parts.QuadrantParts.{QuadrantParts}
-use Rattle.quadrant_compile.specs.Weaves.{Weave, IsRuleOver, is_for, answer_among}
-use Rattle.quadrant_compile.specs.WeaveText.{WeaveItem, weave_of}
-use Rattle.quadrant_compile.specs.WeaveText.WeaveItem.{Header, SymbolLine, RuleLine, SizeLine, BottomLine, LeftLine, EndLine}
+use Rattle.quadrant_compile.specs.Quadrants.{RuleQuadrant, IsRuleOver, is_for, answer_among}
+use Rattle.quadrant_compile.specs.QuadrantText.{QuadrantItem, quadrant_of}
+use Rattle.quadrant_compile.specs.QuadrantText.QuadrantItem.{Header, SymbolLine, RuleLine, SizeLine, BottomLine, LeftLine, EndLine}
 use Rattle.quadrant_compile.specs.Inner.Keywords.{kind_of}
 
--- the weave that parts make
-abbrev pub weave_in : QuadrantParts → Weave
-weave_in p = record {
+-- the quadrant that parts make
+abbrev pub quadrant_in : QuadrantParts → RuleQuadrant
+quadrant_in p = record {
   symbols = p.symbols;
   rules = p.rules;
   width = p.width;
@@ -26,71 +26,72 @@ weave_in p = record {
   left = p.left.items;
 }
 
--- a weave with a line more
-abbrev pub with_item : Weave → WeaveItem → Weave
-with_item w Header = w
-with_item w (SymbolLine name) = record w { symbols = w.symbols ++ name ∷ [] }
-with_item w (RuleLine rule) = record w { rules = w.rules ++ rule ∷ [] }
-with_item w (SizeLine width height) = record w { width = width; height = height }
-with_item w (BottomLine symbols) = record w { bottom = w.bottom ++ symbols }
-with_item w (LeftLine symbols) = record w { left = w.left ++ symbols }
-with_item w EndLine = w
+-- a quadrant with a line more
+abbrev pub with_item : RuleQuadrant → QuadrantItem → RuleQuadrant
+with_item q Header = q
+with_item q (SymbolLine name) = record q { symbols = q.symbols ++ name ∷ [] }
+with_item q (RuleLine rule) = record q { rules = q.rules ++ rule ∷ [] }
+with_item q (SizeLine width height) = record q { width = width; height = height }
+with_item q (BottomLine symbols) = record q { bottom = q.bottom ++ symbols }
+with_item q (LeftLine symbols) = record q { left = q.left ++ symbols }
+with_item q EndLine = q
 
 -- what is so after each line
-pub record IsDraft (w : Weave) : Type 0 where
-  pub few : length w.symbols ≤ MOST_SYMBOLS
-  pub names : AreNames w.symbols
-  pub rules : All (IsRuleOver (length w.symbols)) w.rules
-  pub distinct_rules : AllPairs (λ t u. is_for t.west t.south u ≡ false) w.rules
-  pub column_count : w.width ≤ LONGEST_SIDE
-  pub row_count : w.height ≤ LONGEST_SIDE
-  pub bottom_symbols : All (λ a. a < length w.symbols) w.bottom
-  pub left_symbols : All (λ a. a < length w.symbols) w.left
+pub record IsDraft (q : RuleQuadrant) : Type 0 where
+  pub few : length q.symbols ≤ MOST_SYMBOLS
+  pub names : AreNames q.symbols
+  pub rules : All (IsRuleOver (length q.symbols)) q.rules
+  pub distinct_rules : AllPairs (λ t u. is_for t.west t.south u ≡ false) q.rules
+  pub column_count : q.width ≤ LONGEST_SIDE
+  pub row_count : q.height ≤ LONGEST_SIDE
+  pub bottom_symbols : All (λ a. a < length q.symbols) q.bottom
+  pub left_symbols : All (λ a. a < length q.symbols) q.left
 
 -- there are symbols, and no borders yet
-pub record HasAlphabet (w : Weave) : Type 0 where
-  pub some_symbol : 1 ≤ length w.symbols
-  pub no_bottom : w.bottom ≡ []
-  pub no_left : w.left ≡ []
+pub record HasAlphabet (q : RuleQuadrant) : Type 0 where
+  pub some_symbol : 1 ≤ length q.symbols
+  pub no_bottom : q.bottom ≡ []
+  pub no_left : q.left ≡ []
 
 -- there is everything, and the borders may grow
-pub record HasAll (w : Weave) : Type 0 where
-  pub some_symbol : 1 ≤ length w.symbols
-  pub some_column : 1 ≤ w.width
-  pub some_row : 1 ≤ w.height
-  pub bottom_length : length w.bottom ≤ w.width
-  pub left_length : length w.left ≤ w.height
+pub record HasAll (q : RuleQuadrant) : Type 0 where
+  pub some_symbol : 1 ≤ length q.symbols
+  pub some_column : 1 ≤ q.width
+  pub some_row : 1 ≤ q.height
+  pub bottom_length : length q.bottom ≤ q.width
+  pub left_length : length q.left ≤ q.height
 
 -- what is so after a line of this keyword
-abbrev pub HasCome : Option LineKind → Weave → Type 0
-HasCome None w = (w.bottom ≡ []) × (w.left ≡ [])
-HasCome (Some kinds.Quadrant) w = (w.bottom ≡ []) × (w.left ≡ [])
-HasCome (Some kinds.Symbol) w = HasAlphabet w
-HasCome (Some kinds.Rule) w = HasAlphabet w
-HasCome (Some kinds.Size) w = HasAll w
-HasCome (Some kinds.Bottom) w = HasAll w
-HasCome (Some kinds.Left) w = HasAll w
-HasCome (Some kinds.End) w = HasAll w
+abbrev pub HasCome : Option LineKind → RuleQuadrant → Type 0
+HasCome None q = (q.bottom ≡ []) × (q.left ≡ [])
+HasCome (Some kinds.Quadrant) q = (q.bottom ≡ []) × (q.left ≡ [])
+HasCome (Some kinds.Symbol) q = HasAlphabet q
+HasCome (Some kinds.Rule) q = HasAlphabet q
+HasCome (Some kinds.Size) q = HasAll q
+HasCome (Some kinds.Bottom) q = HasAll q
+HasCome (Some kinds.Left) q = HasAll q
+HasCome (Some kinds.End) q = HasAll q
 
--- what a line's checks say of it, after a weave so far
-abbrev pub IsFit : Weave → WeaveItem → Type 0
-IsFit w Header = Unit {0}
-IsFit w (SymbolLine name) = (length w.symbols < MOST_SYMBOLS) × IsTrue (is_short_name name) × (list_any (bytes_eq name) w.symbols ≡ false)
-IsFit w (RuleLine rule) = IsRuleOver (length w.symbols) rule × (answer_among w.rules rule.west rule.south ≡ None)
-IsFit w (SizeLine width height) = (1 ≤ width) × (width ≤ LONGEST_SIDE) × (1 ≤ height) × (height ≤ LONGEST_SIDE)
-IsFit w (BottomLine symbols) = All (λ a. a < length w.symbols) symbols × (length w.bottom + length symbols ≤ w.width)
-IsFit w (LeftLine symbols) = All (λ a. a < length w.symbols) symbols × (length w.left + length symbols ≤ w.height)
-IsFit w EndLine = Unit {0}
+-- what a line's checks say of it, after a quadrant so far
+abbrev pub IsFit : RuleQuadrant → QuadrantItem → Type 0
+IsFit q Header = Unit {0}
+IsFit q (SymbolLine name) = (length q.symbols < MOST_SYMBOLS) × IsTrue (is_short_name name) × (list_any (bytes_eq name) q.symbols ≡ false)
+IsFit q (RuleLine rule) = IsRuleOver (length q.symbols) rule × (answer_among q.rules rule.west rule.south ≡ None)
+IsFit q (SizeLine width height) = (1 ≤ width) × (width ≤ LONGEST_SIDE) × (1 ≤ height) × (height ≤ LONGEST_SIDE)
+IsFit q (BottomLine symbols) = All (λ a. a < length q.symbols) symbols × (length q.bottom + length symbols ≤ q.width)
+IsFit q (LeftLine symbols) = All (λ a. a < length q.symbols) symbols × (length q.left + length symbols ≤ q.height)
+IsFit q EndLine = Unit {0}
 
--- the weave of the lines, and the keyword of the last line
-pub record HoldsLines (w : Weave) (last : Option LineKind) (items : List WeaveItem) : Type 0 where
-  pub weave : w ≡ weave_of items
+-- the quadrant of the lines, and the keyword of the last line
+pub record HoldsLines (q : RuleQuadrant) (last : Option LineKind) (items : List QuadrantItem)
+    : Type 0 where
+  pub quadrant : q ≡ quadrant_of items
   pub kind : last ≡ option_map kind_of (last_of items)
-  pub draft : IsDraft w
-  pub come : HasCome last w
+  pub draft : IsDraft q
+  pub come : HasCome last q
 
 -- a line of this keyword more, by this check; or its fault, or want of memory, with all as it was
-abbrev pub Gets : LineKind → Result WeaveItem Cause → Weave → Weave → Result (Unit {0}) LineStop → Type 0
-Gets kind check old new (Ok done) = (item : WeaveItem) × (kind_of item ≡ kind) × (check ≡ Ok item) × (new ≡ with_item old item)
+abbrev pub Gets : LineKind → Result QuadrantItem Cause → RuleQuadrant → RuleQuadrant → Result (Unit {0}) LineStop → Type 0
+Gets kind check old new (Ok done) = (item : QuadrantItem) × (kind_of item ≡ kind) × (check ≡ Ok item) × (new ≡ with_item old item)
 Gets kind check old new (Err (stops.Fault cause)) = (check ≡ Err cause) × (new ≡ old)
 Gets kind check old new (Err stops.NoMemory) = new ≡ old

@@ -3,7 +3,7 @@ use Rattle.std.specs.Prelude.{◌≡◌, ℕ, ◌+◌, ◌*◌, ◌<◌, List, l
 use Rattle.quadrant_compile.specs.declared.limits.TheConstants.{MOST_SYMBOLS}
 use Rattle.quadrant_compile.specs.declared.rule.Answer.{Answer}
 use Rattle.quadrant_compile.specs.declared.rule.Rule.{Rule}
-use Rattle.quadrant_compile.specs.Weaves.{answer_among}
+use Rattle.quadrant_compile.specs.Quadrants.{answer_among}
 
 -- the place of two symbols in the table
 abbrev pub entry : ℕ → ℕ → ℕ

@@ -10,8 +10,8 @@ use Rattle.tile_text.specs.SystemText.{FaultAny, ReadsAny}
 use Rattle.tile_text.proofs.Eithers.{any_not_both, any_one_system}
 use Rattle.machine_text.specs.Machines.{TuringMachine}
 use Rattle.machine_text.specs.MachineText.{ReadsMachine, machine_format, machine_of}
-use Rattle.quadrant_compile.specs.Weaves.{Weave}
-use Rattle.quadrant_compile.specs.WeaveText.{ReadsQuadrant, quadrant_format, weave_of}
+use Rattle.quadrant_compile.specs.Quadrants.{RuleQuadrant}
+use Rattle.quadrant_compile.specs.QuadrantText.{ReadsQuadrant, quadrant_format, quadrant_of}
 use Rattle.tile_io.specs.Lines.{first_mark}
 use Rattle.tilebench.specs.Inputs.{FailsWithin, IsReadable}
 
@@ -37,13 +37,13 @@ one_machine text from to end M N reads other =
     let same = reads_once machine_format text from reads.items other.items to end reads.reads other.reads in
     (reads.machine ∙ ap machine_of same.0 ∙ sym other.machine, same.1)
 
-quadrant_faultless : (text : List ℕ) (from to : Mark) (w : Weave) (number : ℕ) (cause : Cause) → ReadsQuadrant text from w to → Fault quadrant_format text from number cause → ⊥
-quadrant_faultless text from to w number cause reads fails = not_both quadrant_format text from reads.items to number cause reads.reads fails
+quadrant_faultless : (text : List ℕ) (from to : Mark) (q : RuleQuadrant) (number : ℕ) (cause : Cause) → ReadsQuadrant text from q to → Fault quadrant_format text from number cause → ⊥
+quadrant_faultless text from to q number cause reads fails = not_both quadrant_format text from reads.items to number cause reads.reads fails
 
-one_quadrant : (text : List ℕ) (from to end : Mark) (w v : Weave) → ReadsQuadrant text from w to → ReadsQuadrant text from v end → (w ≡ v) × (to ≡ end)
-one_quadrant text from to end w v reads other =
+one_quadrant : (text : List ℕ) (from to end : Mark) (q v : RuleQuadrant) → ReadsQuadrant text from q to → ReadsQuadrant text from v end → (q ≡ v) × (to ≡ end)
+one_quadrant text from to end q v reads other =
     let same = reads_once quadrant_format text from reads.items other.items to end reads.reads other.reads in
-    (reads.weave ∙ ap weave_of same.0 ∙ sym other.weave, same.1)
+    (reads.quadrant ∙ ap quadrant_of same.0 ∙ sym other.quadrant, same.1)
 
 -- of the text of a system
 pub taken_or_faulty : {Item : Type 0} (format : TileSystem → Format Item) (input : List ℕ) (fault : TextFault) → IsReadable ReadsAny format input → FailsWithin ReadsAny FaultAny format input fault → ⊥
@@ -54,5 +54,5 @@ pub taken_or_faulty_machine : {Item : Type 0} (format : TuringMachine → Format
 taken_or_faulty_machine format input fault taken fails = taken_or_faulty_as ReadsMachine (Fault machine_format) machine_faultless one_machine format input fault taken fails
 
 -- of the text of a two-input rule
-pub taken_or_faulty_quadrant : {Item : Type 0} (format : Weave → Format Item) (input : List ℕ) (fault : TextFault) → IsReadable ReadsQuadrant format input → FailsWithin ReadsQuadrant (Fault quadrant_format) format input fault → ⊥
+pub taken_or_faulty_quadrant : {Item : Type 0} (format : RuleQuadrant → Format Item) (input : List ℕ) (fault : TextFault) → IsReadable ReadsQuadrant format input → FailsWithin ReadsQuadrant (Fault quadrant_format) format input fault → ⊥
 taken_or_faulty_quadrant format input fault taken fails = taken_or_faulty_as ReadsQuadrant (Fault quadrant_format) quadrant_faultless one_quadrant format input fault taken fails

@@ -9,7 +9,7 @@ returns-then-tile-borders c =
 
 pub returns : goal.returns
 returns c =
-    let w = c.args.quadrant.now in
+    let q = c.args.quadrant.now in
     let past = c.if-tile-borders.false in
-    let number : c.args.tile.0 - (1 + c.width.result + c.height.result) ≡ c.args.tile.0 - (suc w.width + w.height) = omega (arith, c.width.ensures, c.height.ensures) in
-    c.pair_at.ensures ∙ (λ z. slice_get (c.ruled.ensures z) (number z)) ∙ sym (pair_symbols w c.requires c.args.tile (omega (arith, past, c.width.ensures, c.height.ensures)))
+    let number : c.args.tile.0 - (1 + c.width.result + c.height.result) ≡ c.args.tile.0 - (suc q.width + q.height) = omega (arith, c.width.ensures, c.height.ensures) in
+    c.pair_at.ensures ∙ (λ z. slice_get (c.ruled.ensures z) (number z)) ∙ sym (pair_symbols q c.requires c.args.tile (omega (arith, past, c.width.ensures, c.height.ensures)))

@@ -6,9 +6,9 @@ use Rattle.quadrant_compile.proofs.listing.kinds.Goals as goal
 
 pub returns : goal.returns
 returns c =
-    let w = c.args.quadrant.now in
-    let width : c.width.result + 1 - 1 ≡ w.width = omega (arith, c.width.ensures) in
-    let height : c.height.result + 1 - 1 ≡ w.height = omega (arith, c.height.ensures) in
+    let q = c.args.quadrant.now in
+    let width : c.width.result + 1 - 1 ≡ q.width = omega (arith, c.width.ensures) in
+    let height : c.height.result + 1 - 1 ≡ q.height = omega (arith, c.height.ensures) in
     c.in_ok-append-3.ensures.items
     ∙ ap (λ l. l ++ c.in_ok-cells.field-0.items)
     (c.in_ok-append-2.ensures.items ∙ ap (λ l. l ++ c.in_ok-lefts.field-0.items) (c.in_ok-append.ensures.items ∙ ap (λ l. l ++ c.in_ok-bottoms.field-0.items) (c.in_ok-push.ensures.items ∙ ap (λ l. l ++ Corner ∷ []) c.new-kinds.ensures.items)))

@@ -6,9 +6,9 @@ use Rattle.quadrant_compile.proofs.listing.labels.Goals as goal
 
 pub returns : goal.returns
 returns c =
-    let w = c.args.quadrant.now in
-    let width : c.width.result + 1 - 1 ≡ w.width = omega (arith, c.width.ensures) in
-    let height : c.height.result + 1 - 1 ≡ w.height = omega (arith, c.height.ensures) in
+    let q = c.args.quadrant.now in
+    let width : c.width.result + 1 - 1 ≡ q.width = omega (arith, c.width.ensures) in
+    let height : c.height.result + 1 - 1 ≡ q.height = omega (arith, c.height.ensures) in
     c.in_ok-append-3.ensures.items
     ∙ ap (λ l. l ++ c.in_ok-rows.field-0.items) (c.in_ok-append-2.ensures.items ∙ ap (λ l. l ++ c.in_ok-columns.field-0.items) c.in_ok-append.ensures.items)
     ∙ joined c.in_ok-labels.labels.items c.in_ok-northwards.field-0.items c.in_ok-columns.field-0.items c.in_ok-rows.field-0.items _ _ _ _

@@ -1,7 +1,7 @@
 use Rattle.std.proofs.Common.{ap, refl, sym, ◌∙◌}
 use Rattle.tile_io.specs.Checks.{count_in}
-use Rattle.quadrant_compile.specs.WeaveText.{size_row}
-use Rattle.quadrant_compile.specs.WeaveText.WeaveItem.{SizeLine}
+use Rattle.quadrant_compile.specs.QuadrantText.{size_row}
+use Rattle.quadrant_compile.specs.QuadrantText.QuadrantItem.{SizeLine}
 use Rattle.quadrant_compile.proofs.take.take_size.Goals as goal
 
 pub returns : goal.returns

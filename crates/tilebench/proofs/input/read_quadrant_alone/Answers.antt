@@ -1,5 +1,5 @@
 use Rattle.tile_io.proofs.Progress.{reads_is_mark}
-use Rattle.quadrant_compile.specs.WeaveText.{quadrant_format}
+use Rattle.quadrant_compile.specs.QuadrantText.{quadrant_format}
 use Rattle.tilebench.proofs.input.read_quadrant_alone.Goals as goal
 
 pub check_rest-requires-clause-mark : goal.check_rest-requires-clause-mark

@@ -2,13 +2,13 @@ use Rattle.std.proofs.Common.{List, ℕ, Option, Some, sym, ap, ◌∙◌, arith
 use Rattle.std.specs.Prelude.{find, bytes_eq}
 use Rattle.tile_io.specs.Checks.{Keyword}
 use Rattle.quadrant_compile.specs.declared.line_kind.LineKind.{LineKind}
-use Rattle.quadrant_compile.specs.WeaveText.{WeaveItem, quadrant_table}
+use Rattle.quadrant_compile.specs.QuadrantText.{QuadrantItem, quadrant_table}
 use Rattle.quadrant_compile.specs.Inner.Keywords.{row_of}
 use Rattle.quadrant_compile.proofs.Borders.{keyword_at}
 use Rattle.quadrant_compile.proofs.border.Border.of.Goals as goal
 
 -- the keyword that a word is
-abbrev named : List ℕ → Option (Keyword (List WeaveItem) WeaveItem)
+abbrev named : List ℕ → Option (Keyword (List QuadrantItem) QuadrantItem)
 named word = find (λ row. bytes_eq word row.word) quadrant_table.keywords
 
 pub returns-in-Bottom : goal.returns-in-Bottom

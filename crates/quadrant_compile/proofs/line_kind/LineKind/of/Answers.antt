@@ -1,10 +1,10 @@
 use Rattle.std.proofs.Common.{List, ℕ, codes, sym, ap, arith, find, bytes_eq, Option}
 use Rattle.std.proofs.lemmas.Slice.Eq.{text_from_reads}
 use Rattle.tile_io.specs.Checks.{Keyword, Table}
-use Rattle.quadrant_compile.specs.WeaveText.{WeaveItem, quadrant_table}
+use Rattle.quadrant_compile.specs.QuadrantText.{QuadrantItem, quadrant_table}
 use Rattle.quadrant_compile.proofs.line_kind.LineKind.of.Goals as goal
 
-abbrev found : Table WeaveItem → List ℕ → Option (Keyword (List WeaveItem) WeaveItem)
+abbrev found : Table QuadrantItem → List ℕ → Option (Keyword (List QuadrantItem) QuadrantItem)
 found table word = find (λ row. bytes_eq word row.word) table.keywords
 
 pub returns-in-symbol : goal.returns-in-symbol

@@ -1,10 +1,10 @@
 use Rattle.std.proofs.Common.{◌≡◌, Some, sym, ap, subst, ◌∙◌}
 use Rattle.tile_io.specs.Lines.{words_of}
 use Rattle.tile_io.specs.Checks.{keyword_of}
-use Rattle.quadrant_compile.specs.WeaveText.{quadrant_table}
+use Rattle.quadrant_compile.specs.QuadrantText.{quadrant_table}
 use Rattle.quadrant_compile.specs.Inner.Keywords.{row_of}
 use Rattle.quadrant_compile.specs.Inner.Borders.{HasPlace, border_kind}
-use Rattle.quadrant_compile.specs.Inner.SoFar.{weave_in}
+use Rattle.quadrant_compile.specs.Inner.SoFar.{quadrant_in}
 use Rattle.quadrant_compile.proofs.Borders.{border_taken, border_stopped}
 use Rattle.quadrant_compile.proofs.reader.QuadrantReaderLineReader.take_plain.Goals as goal
 
@@ -14,9 +14,9 @@ returns-in-Ok-clause-taken c = λ items held.
     let r = c.args.self.now in
     let border = c.in_ok-border.border in
     let line = c.cut-words.ensures in
-    let place = subst (HasPlace border (weave_in r.parts) r.last) line (c.has_place.ensures c.if-not-has_place.false) in
+    let place = subst (HasPlace border (quadrant_in r.parts) r.last) line (c.has_place.ensures c.if-not-has_place.false) in
     let keyword : keyword_of quadrant_table.keywords (words_of c.args.line.now) ≡ Some (row_of (border_kind border)) = ap (keyword_of quadrant_table.keywords) (sym line) ∙ c.in_ok-border.ensures in
-    let took = border_taken border (weave_in r.parts) r.last items (words_of c.args.line.now) place held (weave_in c.take_border.new.parts) keyword (c.in-Ok.ensures items held.weave) in
+    let took = border_taken border (quadrant_in r.parts) r.last items (words_of c.args.line.now) place held (quadrant_in c.take_border.new.parts) keyword (c.in-Ok.ensures items held.quadrant) in
     rw c.kind.ensures took
 
 pub returns-in-Err-clause-taken : goal.returns-in-Err-clause-taken
@@ -25,6 +25,6 @@ returns-in-Err-clause-taken c = λ items held.
     let r = c.args.self.now in
     let border = c.in_ok-border.border in
     let line = c.cut-words.ensures in
-    let place = subst (HasPlace border (weave_in r.parts) r.last) line (c.has_place.ensures c.if-not-has_place.false) in
+    let place = subst (HasPlace border (quadrant_in r.parts) r.last) line (c.has_place.ensures c.if-not-has_place.false) in
     let keyword : keyword_of quadrant_table.keywords (words_of c.args.line.now) ≡ Some (row_of (border_kind border)) = ap (keyword_of quadrant_table.keywords) (sym line) ∙ c.in_ok-border.ensures in
-    border_stopped border (weave_in r.parts) r.last items (words_of c.args.line.now) place held (weave_in c.take_border.new.parts) c.in-Err.stop keyword (c.in-Err.ensures items held.weave)
+    border_stopped border (quadrant_in r.parts) r.last items (words_of c.args.line.now) place held (quadrant_in c.take_border.new.parts) c.in-Err.stop keyword (c.in-Err.ensures items held.quadrant)

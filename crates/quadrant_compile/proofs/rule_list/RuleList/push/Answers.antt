@@ -1,7 +1,7 @@
 use Rattle.std.proofs.Common.{◌≡◌, List, ℕ, Some, None, sym, subst, ◌++◌, ◌∷◌, []}
 use Rattle.std.specs.Prelude.{slice_set}
 use Rattle.quadrant_compile.specs.declared.rule.Rule.{Rule}
-use Rattle.quadrant_compile.specs.Weaves.{answer_among}
+use Rattle.quadrant_compile.specs.Quadrants.{answer_among}
 use Rattle.quadrant_compile.specs.Inner.Tables.{IsTableOf}
 use Rattle.quadrant_compile.proofs.RuleTables.{IsTableOf-push}
 use Rattle.quadrant_compile.proofs.rule_list.RuleList.push.Goals as goal

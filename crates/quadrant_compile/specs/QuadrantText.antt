@@ -1,4 +1,5 @@
--- The text of a weave: what each kept line is, which checks it has to pass, and the weave that the lines describe.
+-- The text of a quadrant: what each kept line is, which checks it has to pass, and the quadrant
+-- that the lines describe.
 use Rattle.std.specs.Prelude.{◌≡◌, ℕ, ◌+◌, ◌-◌, ◌==◌, Bool, true, false, is_none, is_some, not, nat_le, nat_lt, List, [], ◌∷◌, length, drop, map, filter_map, flat_map, codes, bytes_eq, Option, Some, None, Result, Ok}
 use Rattle.tile_io.specs.declared.fault.Cause.{Cause}
 use Rattle.tile_io.specs.declared.fault.Cause.TheVariants.{NoHeader, DoubleName}
@@ -9,20 +10,20 @@ use Rattle.machine_text.specs.Machines.{is_short_name}
 use Rattle.machine_text.specs.MachineText.{references}
 use Rattle.quadrant_compile.specs.declared.limits.TheConstants.{MOST_SYMBOLS, LONGEST_SIDE}
 use Rattle.quadrant_compile.specs.declared.rule.Rule.{Rule}
-use Rattle.quadrant_compile.specs.Weaves.{Weave, answer_among}
+use Rattle.quadrant_compile.specs.Quadrants.{RuleQuadrant, answer_among}
 
 -- what a kept line of a quadrant text is
-pub data WeaveItem : Type 0 where
-  Header : WeaveItem
-  SymbolLine : (name : List ℕ) → WeaveItem
-  RuleLine : (rule : Rule) → WeaveItem
-  SizeLine : (width height : ℕ) → WeaveItem
-  BottomLine : (symbols : List ℕ) → WeaveItem
-  LeftLine : (symbols : List ℕ) → WeaveItem
-  EndLine : WeaveItem
+pub data QuadrantItem : Type 0 where
+  Header : QuadrantItem
+  SymbolLine : (name : List ℕ) → QuadrantItem
+  RuleLine : (rule : Rule) → QuadrantItem
+  SizeLine : (width height : ℕ) → QuadrantItem
+  BottomLine : (symbols : List ℕ) → QuadrantItem
+  LeftLine : (symbols : List ℕ) → QuadrantItem
+  EndLine : QuadrantItem
 
 -- the keyword of its line
-abbrev pub word_of : WeaveItem → List ℕ
+abbrev pub word_of : QuadrantItem → List ℕ
 word_of Header = codes "quadrant"
 word_of (SymbolLine name) = codes "symbol"
 word_of (RuleLine rule) = codes "rule"
@@ -31,33 +32,33 @@ word_of (BottomLine symbols) = codes "bottom"
 word_of (LeftLine symbols) = codes "left"
 word_of EndLine = codes "end"
 
-abbrev pub symbol_name_of : WeaveItem → Option (List ℕ)
+abbrev pub symbol_name_of : QuadrantItem → Option (List ℕ)
 symbol_name_of (SymbolLine name) = Some name
 symbol_name_of _ = None
 
-abbrev pub rule_of : WeaveItem → Option Rule
+abbrev pub rule_of : QuadrantItem → Option Rule
 rule_of (RuleLine rule) = Some rule
 rule_of _ = None
 
-abbrev pub width_of : WeaveItem → Option ℕ
+abbrev pub width_of : QuadrantItem → Option ℕ
 width_of (SizeLine width height) = Some width
 width_of _ = None
 
-abbrev pub height_of : WeaveItem → Option ℕ
+abbrev pub height_of : QuadrantItem → Option ℕ
 height_of (SizeLine width height) = Some height
 height_of _ = None
 
-abbrev pub bottom_of : WeaveItem → List ℕ
+abbrev pub bottom_of : QuadrantItem → List ℕ
 bottom_of (BottomLine symbols) = symbols
 bottom_of _ = []
 
-abbrev pub left_of : WeaveItem → List ℕ
+abbrev pub left_of : QuadrantItem → List ℕ
 left_of (LeftLine symbols) = symbols
 left_of _ = []
 
--- the weave that lines describe
-unfoldable pub weave_of : List WeaveItem → Weave
-weave_of items = record {
+-- the quadrant that lines describe
+unfoldable pub quadrant_of : List QuadrantItem → RuleQuadrant
+quadrant_of items = record {
   symbols = filter_map symbol_name_of items;
   rules = filter_map rule_of items;
   width = number_given width_of items;
@@ -67,99 +68,100 @@ weave_of items = record {
 }
 
 -- the rule of a `rule` line; a second one for the same symbols from the west and from the south is a double one
-unfoldable pub rule_in : Weave → List (List ℕ) → Result Rule Cause
-rule_in w words = do
-  west ← referred is_short_name w.symbols (field words 1)
-  south ← referred is_short_name w.symbols (field words 2)
-  _ ← require (not (is_some (answer_among w.rules west south))) DoubleName
-  east ← referred is_short_name w.symbols (field words 3)
-  north ← referred is_short_name w.symbols (field words 4)
+unfoldable pub rule_in : RuleQuadrant → List (List ℕ) → Result Rule Cause
+rule_in q words = do
+  west ← referred is_short_name q.symbols (field words 1)
+  south ← referred is_short_name q.symbols (field words 2)
+  _ ← require (not (is_some (answer_among q.rules west south))) DoubleName
+  east ← referred is_short_name q.symbols (field words 3)
+  north ← referred is_short_name q.symbols (field words 4)
   Ok (record { west = west; south = south; answer = record { east = east; north = north } })
 
--- The rows of the table of keywords: the word, how many words its line has, behind which lines it may stand, the limit of its
--- kind, and its fields from left to right. The limit and the fields are told by the weave that the earlier lines describe.
-abbrev pub quadrant_row : Keyword Weave WeaveItem
+-- The rows of the table of keywords: the word, how many words its line has, behind which lines it
+-- may stand, the limit of its kind, and its fields from left to right. The limit and the fields are
+-- told by the quadrant that the earlier lines describe.
+abbrev pub quadrant_row : Keyword RuleQuadrant QuadrantItem
 quadrant_row = record {
   word = codes "quadrant";
   has_words = λ n. n == 2;
   may_follow = is_none;
-  has_room = λ w words. true;
-  fields = λ w words. do
+  has_room = λ q words. true;
+  fields = λ q words. do
     _ ← require (bytes_eq (field words 1) (codes "1")) NoHeader
     Ok Header;
 }
 
-abbrev pub symbol_row : Keyword Weave WeaveItem
+abbrev pub symbol_row : Keyword RuleQuadrant QuadrantItem
 symbol_row = record {
   word = codes "symbol";
   has_words = λ n. n == 2;
   may_follow = behind word_of (codes "quadrant" ∷ codes "symbol" ∷ []);
-  has_room = λ w words. nat_lt (length w.symbols) MOST_SYMBOLS;
-  fields = λ w words. do
-    name ← declared is_short_name w.symbols (field words 1)
+  has_room = λ q words. nat_lt (length q.symbols) MOST_SYMBOLS;
+  fields = λ q words. do
+    name ← declared is_short_name q.symbols (field words 1)
     Ok (SymbolLine name);
 }
 
-abbrev pub rule_row : Keyword Weave WeaveItem
+abbrev pub rule_row : Keyword RuleQuadrant QuadrantItem
 rule_row = record {
   word = codes "rule";
   has_words = λ n. n == 5;
   may_follow = behind word_of (codes "symbol" ∷ codes "rule" ∷ []);
-  has_room = λ w words. true;
-  fields = λ w words. do
-    rule ← rule_in w words
+  has_room = λ q words. true;
+  fields = λ q words. do
+    rule ← rule_in q words
     Ok (RuleLine rule);
 }
 
-abbrev pub size_row : Keyword Weave WeaveItem
+abbrev pub size_row : Keyword RuleQuadrant QuadrantItem
 size_row = record {
   word = codes "size";
   has_words = λ n. n == 3;
   may_follow = behind word_of (codes "symbol" ∷ codes "rule" ∷ []);
-  has_room = λ w words. true;
-  fields = λ w words. do
+  has_room = λ q words. true;
+  fields = λ q words. do
     width ← count_in 1 LONGEST_SIDE (field words 1)
     height ← count_in 1 LONGEST_SIDE (field words 2)
     Ok (SizeLine width height);
 }
 
 -- all bottom lines together have no more symbols than there are columns
-abbrev pub bottom_row : Keyword Weave WeaveItem
+abbrev pub bottom_row : Keyword RuleQuadrant QuadrantItem
 bottom_row = record {
   word = codes "bottom";
   has_words = λ n. nat_le 2 n;
   may_follow = behind word_of (codes "size" ∷ codes "bottom" ∷ []);
-  has_room = λ w words. nat_le (length w.bottom + (length words - 1)) w.width;
-  fields = λ w words. do
-    symbols ← references w.symbols (drop 1 words)
+  has_room = λ q words. nat_le (length q.bottom + (length words - 1)) q.width;
+  fields = λ q words. do
+    symbols ← references q.symbols (drop 1 words)
     Ok (BottomLine symbols);
 }
 
 -- and all left lines no more than there are rows
-abbrev pub left_row : Keyword Weave WeaveItem
+abbrev pub left_row : Keyword RuleQuadrant QuadrantItem
 left_row = record {
   word = codes "left";
   has_words = λ n. nat_le 2 n;
   may_follow = behind word_of (codes "size" ∷ codes "bottom" ∷ codes "left" ∷ []);
-  has_room = λ w words. nat_le (length w.left + (length words - 1)) w.height;
-  fields = λ w words. do
-    symbols ← references w.symbols (drop 1 words)
+  has_room = λ q words. nat_le (length q.left + (length words - 1)) q.height;
+  fields = λ q words. do
+    symbols ← references q.symbols (drop 1 words)
     Ok (LeftLine symbols);
 }
 
-abbrev pub end_row : Keyword Weave WeaveItem
+abbrev pub end_row : Keyword RuleQuadrant QuadrantItem
 end_row = record {
   word = codes "end";
   has_words = λ n. n == 1;
   may_follow = behind word_of (codes "size" ∷ codes "bottom" ∷ codes "left" ∷ []);
-  has_room = λ w words. true;
-  fields = λ w words. Ok EndLine;
+  has_room = λ q words. true;
+  fields = λ q words. Ok EndLine;
 }
 
 -- the table of keywords; only the end line completes a text
-unfoldable pub quadrant_table : Table WeaveItem
+unfoldable pub quadrant_table : Table QuadrantItem
 quadrant_table = record {
-  keywords = map (told_by weave_of)
+  keywords = map (told_by quadrant_of)
       (quadrant_row ∷ symbol_row ∷ rule_row ∷ size_row ∷ bottom_row ∷ left_row ∷ end_row ∷ []);
   has_header = true;
   is_end = λ item. bytes_eq (word_of item) (codes "end");
@@ -167,11 +169,11 @@ quadrant_table = record {
 }
 
 -- the format of quadrant texts
-abbrev pub quadrant_format : Format WeaveItem
+abbrev pub quadrant_format : Format QuadrantItem
 quadrant_format = table_format quadrant_table
 
--- the text from a mark on is a version-1 text of this weave, up to the mark after its end line
-pub record ReadsQuadrant (text : List ℕ) (from : Mark) (w : Weave) (to : Mark) : Type 0 where
-  pub items : List WeaveItem
+-- the text from a mark on is a version-1 text of this quadrant, up to the mark after its end line
+pub record ReadsQuadrant (text : List ℕ) (from : Mark) (q : RuleQuadrant) (to : Mark) : Type 0 where
+  pub items : List QuadrantItem
   pub reads : Reads quadrant_format text from items to
-  pub weave : w ≡ weave_of items
+  pub quadrant : q ≡ quadrant_of items

@@ -1,0 +1,82 @@
+-- The system of a quadrant: its tiles in their order, with their names.
+use Rattle.std.specs.Prelude.{ℕ, suc, ◌+◌, ◌-◌, ◌*◌, pos, List, [], ◌∷◌, ◌++◌, length, map, filter, take, codes, decimal}
+use Rattle.std.specs.List.{range_with_len, slice_index_or}
+use Rattle.atam.specs.declared.area.BoxArea.{BoxArea}
+use Rattle.atam.specs.TileSystem.{TileSystem}
+use Rattle.design.specs.TileSets.{TileSet, system_of}
+use Rattle.quadrant_compile.specs.declared.tile.Kind.{Kind}
+use Rattle.quadrant_compile.specs.declared.tile.Kind.TheVariants.{Corner, Bottom, Left, Cell}
+use Rattle.quadrant_compile.specs.declared.tile.Label.{Label}
+use Rattle.quadrant_compile.specs.declared.tile.Label.TheVariants.{Eastward, Northward, Column, Row}
+use Rattle.quadrant_compile.specs.Quadrants.{RuleQuadrant, pairs_below, has_rule, ruled_pairs}
+use Rattle.quadrant_compile.specs.Tiles.{label_on, strength}
+
+-- the kinds and the labels in the order of the types and of the glues
+abbrev pub kinds : RuleQuadrant → List Kind
+kinds q =
+    Corner
+    ∷ (map Bottom (range_with_len 1 q.width)
+    ++ (map Left (range_with_len 1 q.height)
+    ++ map (λ p. Cell p.0 p.1) (ruled_pairs q)))
+
+abbrev pub labels : RuleQuadrant → List Label
+labels q =
+    map Eastward (range_with_len 0 (length q.symbols))
+    ++ (map Northward (range_with_len 0 (length q.symbols))
+    ++ (map Column (range_with_len 1 q.width)
+    ++ map Row (range_with_len 1 q.height)))
+
+-- the place of two symbols among all pairs, and among those that have a rule
+abbrev pub pair_number : RuleQuadrant → ℕ × ℕ → ℕ
+pair_number q pair = pair.0 * length q.symbols + pair.1
+
+abbrev pub rules_before : RuleQuadrant → ℕ × ℕ → ℕ
+rules_before q pair = length (filter (has_rule q) (take (pair_number q pair) (pairs_below (length q.symbols))))
+
+-- the places in the lists of kinds and of labels
+abbrev pub kind_number : RuleQuadrant → Kind → ℕ
+kind_number q Corner = 0
+kind_number q (Bottom i) = i
+kind_number q (Left j) = q.width + j
+kind_number q (Cell a b) = suc q.width + q.height + rules_before q (a, b)
+
+abbrev pub label_number : RuleQuadrant → Label → ℕ
+label_number q (Eastward a) = a
+label_number q (Northward a) = length q.symbols + a
+label_number q (Column i) = length q.symbols + length q.symbols + i - 1
+label_number q (Row j) = length q.symbols + length q.symbols + q.width + j - 1
+
+abbrev pub symbol_name : RuleQuadrant → ℕ → List ℕ
+symbol_name q a = slice_index_or q.symbols a []
+
+abbrev pub kind_name : RuleQuadrant → Kind → List ℕ
+kind_name q Corner = codes "o"
+kind_name q (Bottom i) = codes "b:" ++ decimal i
+kind_name q (Left j) = codes "a:" ++ decimal j
+kind_name q (Cell a b) = codes "q:" ++ (symbol_name q a ++ codes ":" ++ symbol_name q b)
+
+abbrev pub label_name : RuleQuadrant → Label → List ℕ
+label_name q (Eastward a) = codes "h:" ++ symbol_name q a
+label_name q (Northward a) = codes "v:" ++ symbol_name q a
+label_name q (Column i) = codes "b:" ++ decimal i
+label_name q (Row j) = codes "a:" ++ decimal j
+
+abbrev pub tiles_of : RuleQuadrant → TileSet Kind Label
+tiles_of q = record {
+  kinds = kinds q;
+  labels = labels q;
+  side = label_on q;
+  strength = strength;
+  kind_number = kind_number q;
+  label_number = label_number q;
+  kind_name = kind_name q;
+  label_name = label_name q;
+}
+
+-- the box of the borders and the cells
+abbrev pub area_of : RuleQuadrant → BoxArea
+area_of q = record { x0 = pos 0; y0 = pos 0; x1 = pos q.width; y1 = pos q.height }
+
+-- the system of the quadrant, with the corner of its borders as its seed
+abbrev pub quadrant_system : RuleQuadrant → TileSystem
+quadrant_system q = system_of (tiles_of q) Corner (area_of q)
