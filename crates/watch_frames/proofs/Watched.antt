@@ -25,7 +25,7 @@ use Rattle.grow_workers.specs.Workers.{GrewOn, WorkersWin, owned_number}
 use Rattle.grow_workers.proofs.Splitting.{rest_is, rest_small}
 use Rattle.grow_workers.proofs.Winning.{all_won, ones-least, ones-worker, rejoined-owned}
 use Rattle.watch_frames.specs.Frames.{AreFrames}
-use Rattle.watch_frames.specs.Watched.{IsWatched, number_beside}
+use Rattle.watch_frames.specs.Watched.{IsWatched, number_beside_watcher}
 
 -- what the growth has seen is all that stands, and the frames are a part of it
 pub is_watched : (sys : TileSystem) (many : ℕ) (places : List Place) (counts : List ℕ) (old kept given joined : SeatValue) (start grid : TileGrid) (wins : List ℕ) (out : GrownValue) →
@@ -67,7 +67,7 @@ no_tile sys kept possible rest = by_none 63 kept.mine (λ t in_mine placer.
     omega (arith, own63, none))
 
 -- which numbers the workers have on the other seat
-number_is : (w : ℕ) → w < 16 → owned_number w (2 ^ 63 - 1) ≡ number_beside w
+number_is : (w : ℕ) → w < 16 → owned_number w (2 ^ 63 - 1) ≡ number_beside_watcher w
 number_is zero few = ones-least 62 (lit≤ tt)
 number_is (suc w) few = let is = ones-worker w 62 (omega (arith, few)) (lit≤ tt) in omega (arith, is)
 
@@ -86,7 +86,8 @@ module _ (sys : TileSystem) (kept given joined : ScoutState) (out : GrownValue) 
   -- nor has a number that no worker has
   pub idle_won : (own : TileSystem) → IsPossible own kept → given.mine ≡ [] → (old : ScoutState) → old.owned ≡ kept.owned → old.mine ≡ [] →
       (wins : List ℕ) → WorkersWin old.mine kept.mine old.owned wins → (workers : ℕ) → length wins ≡ workers → workers ≤ 16 →
-      (n : ℕ) → n < 64 → ((w : ℕ) → w < workers → n ≢ number_beside w) → get_or out.won n 0 ≡ 0
+      (n : ℕ) → n < 64 → ((w : ℕ) → w < workers → n ≢ number_beside_watcher w) →
+      get_or out.won n 0 ≡ 0
   idle_won own possible none old same_owned none_old wins win workers count few n within none_has = elim (cases_lt n 63) [
     | inl less ↦
         let all : old.owned ≡ 2 ^ 63 - 1 = same_owned ∙ rest ∙ rest_is in

@@ -15,16 +15,17 @@ pub record IsWatched (sys : TileSystem) (many : ℕ) (places : List Place) (coun
   pub full : IsFullGrowth sys tiles
 
 -- Beside a watcher, who has the greatest number, worker 0 has 0, and worker w from 1 on has 63 - w.
-abbrev pub number_beside : ℕ → ℕ
-number_beside zero = 0
-number_beside (suc w) = 62 - w
+abbrev pub number_beside_watcher : ℕ → ℕ
+number_beside_watcher zero = 0
+number_beside_watcher (suc w) = 62 - w
 
 -- A table in whose box so many workers grew something: only their numbers have placed tiles, and
 -- these are all tiles but the seeds. The watcher, who has the number 63, placed none.
 pub record GrewBesideWatcher (sys : TileSystem) (workers : ℕ) (out : GrownValue) : Type 0 where
   pub area : out.grid.area ≡ sys.area
   pub numbers : length out.won ≡ 64
-  pub idle : (n : ℕ) → n < 64 → ((w : ℕ) → w < workers → n ≢ number_beside w) → slice_index out.won n ≡ 0
+  pub idle : (n : ℕ) → n < 64 → ((w : ℕ) → w < workers → n ≢ number_beside_watcher w) →
+      slice_index out.won n ≡ 0
   pub watcher : slice_index out.won 63 ≡ 0
   pub total : sum out.won + length sys.seeds ≡ length out.grid.tiles
 
