@@ -15,6 +15,7 @@ use Rattle.job_board.specs.declared.state.State.TheVariants.{Waiting, Out, Done}
 use Rattle.job_board.specs.Answers.{Answers}
 use Rattle.unique_law.specs.Outcomes.{Outcome}
 use Rattle.job_board.specs.Boards.{Stage, waits, is_out, is_done, stage_of, IsLeastWaiting, IsLegalMove, moved, moved_by, IsLegalFrom, all_waiting, BoardValue, stages, EachAnswers, IsKept, IsReady, moves_left, NoneWaits}
+use Rattle.job_board.specs.Boards.{after, came_back, went_out}
 
 -- lists, read at a place after a write
 pub slice_get-set_same : {A : Type 0} (xs : List A) (i : ℕ) (v : A) → i < length xs → slice_get (set xs i v) i ≡ Some v
@@ -42,10 +43,6 @@ moved_by-append s (x ∷ ms) m = moved_by-append (moved s x) ms m
 pub IsLegalFrom-append : (s : List Stage) (ms : List Move) (m : Move) → IsLegalFrom s ms → IsLegalMove (moved_by s ms) m → IsLegalFrom s (ms ++ m ∷ [])
 IsLegalFrom-append s [] m legal now = (now, tt)
 IsLegalFrom-append s (x ∷ ms) m legal now = (legal.0, IsLegalFrom-append (moved s x) ms m legal.1 now)
-
--- a board after a move
-abbrev pub after : BoardValue → State → Move → BoardValue
-after b s m = record { jobs = b.jobs; states = set b.states m.job s; journal = b.journal ++ m ∷ [] }
 
 -- a move that is legal, and whose outcome answers, keeps a board
 pub IsKept-after : (b : BoardValue) (s : State) (m : Move) → IsKept b → moved (stages b) m ≡ set (stages b) m.job (stage_of s) → IsLegalMove (stages b) m → EachAnswers b.jobs (set b.states m.job s) → IsKept (after b s m)
@@ -90,12 +87,6 @@ EachAnswers-done jobs states job outcome within own_answers answers k given foun
 -- the least waiting job is the next one
 pub next_is_least : (b : BoardValue) (next capacity : ℕ) → IsReady b next capacity → next < length b.jobs → IsLeastWaiting (stages b) next
 next_is_least b next capacity ready h = record { here = ready.waiting next (omega arith) h; none_before = ready.passed }
-
-abbrev pub went_out : ℕ → ℕ → Move
-went_out worker job = record { worker = worker; job = job; gave = false }
-
-abbrev pub came_back : ℕ → ℕ → Move
-came_back worker job = record { worker = worker; job = job; gave = true }
 
 pub IsKept-take : (b : BoardValue) (next capacity worker : ℕ) → IsKept b → IsReady b next capacity → next < length b.jobs → IsKept (after b (Out worker) (went_out worker next))
 IsKept-take b next capacity worker kept ready h =

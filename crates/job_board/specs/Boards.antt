@@ -1,5 +1,5 @@
 -- Boards: the moves of their journals, and what those lead to.
-use Rattle.std.specs.Prelude.{◌≡◌, ◌≢◌, ℕ, ◌<◌, ◌+◌, ◌*◌, ◌≤◌, MatchBool, List, [], ◌∷◌, length, map, replicate, slice_get, slice_set, Some, sum_by, if◌then◌else◌}
+use Rattle.std.specs.Prelude.{◌≡◌, ◌≢◌, ℕ, ◌<◌, ◌+◌, ◌*◌, ◌≤◌, MatchBool, true, false, List, [], ◌∷◌, ◌++◌, length, map, replicate, slice_get, slice_set, Some, sum_by, if◌then◌else◌}
 use Rattle.job_board.specs.declared.job.Job.{Job}
 use Rattle.job_board.specs.declared.journal.Move.{Move}
 use Rattle.job_board.specs.declared.state.State.{State}
@@ -17,6 +17,13 @@ abbrev pub stage_of : State → Stage
 stage_of Waiting = waits
 stage_of (Out worker) = is_out worker
 stage_of (Done outcome) = is_done
+
+-- the moves of a job to a worker, and from it
+abbrev pub went_out : ℕ → ℕ → Move
+went_out worker job = record { worker = worker; job = job; gave = false }
+
+abbrev pub came_back : ℕ → ℕ → Move
+came_back worker job = record { worker = worker; job = job; gave = true }
 
 -- the job of this number is the least waiting one
 pub record IsLeastWaiting (stages : List Stage) (job : ℕ) : Type 0 where
@@ -54,6 +61,22 @@ pub record BoardValue : Type 0 where
   pub states : List State
   pub journal : List Move
 
+-- the board after a move of a job, which has this state then
+abbrev pub after : BoardValue → State → Move → BoardValue
+after board state m = record {
+  jobs = board.jobs;
+  states = slice_set board.states m.job state;
+  journal = board.journal ++ m ∷ [];
+}
+
+-- the board once this job went out to a worker
+abbrev pub sent_out : BoardValue → ℕ → ℕ → BoardValue
+sent_out board job worker = after board (Out worker) (went_out worker job)
+
+-- and once its worker gave this outcome
+abbrev pub given_back : BoardValue → ℕ → ℕ → Outcome → BoardValue
+given_back board job worker outcome = after board (Done outcome) (came_back worker job)
+
 abbrev pub stages : BoardValue → List Stage
 stages board = map stage_of board.states
 
@@ -86,6 +109,10 @@ pub record IsReady (board : BoardValue) (next capacity : ℕ) : Type 0 where
   pub waiting : (k : ℕ) → next ≤ k → k < length board.jobs → slice_get (stages board) k ≡ Some waits
   pub counted : length board.journal + sum_by moves_left (stages board) ≡ 2 * length board.jobs
   pub room : 2 * length board.jobs ≤ capacity
+
+-- both of these
+abbrev pub IsBoard : BoardValue → ℕ → ℕ → Type 0
+IsBoard board next capacity = IsKept board × IsReady board next capacity
 
 -- what contracts see of a ticket
 pub record TicketValue : Type 0 where

@@ -1,7 +1,9 @@
 // A board of jobs, which go out to workers and come back with an outcome.
-ghost use Rattle.std.specs.Prelude.{◌≡◌, ◌↔◌, ◌+◌, ◌≤◌, [], ◌∷◌, ◌++◌, length, replicate, slice_get, slice_set, true, false, IsTrue, Some, IfOk, IfSome, IfNone, IsNone, OnOk, OnErr, IfErr, IsErrAnd};
+ghost use Rattle.std.specs.Prelude.{◌≡◌, ◌↔◌, ◌≤◌, [], length, replicate, slice_get, IsTrue, Some};
+ghost use Rattle.std.specs.Prelude.{IfOk, IfSome, IfNone, IsNone, OnOk, OnErr, IfErr};
 ghost use Rattle.job_board.specs.Answers.{Answers};
-ghost use Rattle.job_board.specs.Boards.{IsKept, IsLeastWaiting, IsOutBy, IsOfBoard, NoneWaits, stages};
+ghost use Rattle.job_board.specs.Boards.{IsKept, IsLeastWaiting, IsOutBy, IsOfBoard, NoneWaits};
+ghost use Rattle.job_board.specs.Boards.{given_back, sent_out, stages};
 
 use crate::job::{Job, same_job};
 use crate::journal::Move;
@@ -34,13 +36,21 @@ impl<'a> Drop for Board<'a> {
 
 impl<'a> Model for Board<'a> {
     ghost use Rattle.std.specs.Vec.{vec_capacity};
-    ghost use Rattle.job_board.specs.Boards.{BoardValue, IsKept, IsReady};
+    ghost use Rattle.job_board.specs.Boards.{BoardValue, IsBoard};
 
     ghost Value = { BoardValue };
 
-    ghost view = { λ b. record { jobs = b.jobs.now; states = b.states.items; journal = b.journal.items } };
+    ghost view = { λ b. record {
+      jobs = b.jobs.now;
+      states = b.states.items;
+      journal = b.journal.items;
+    } };
 
-    ghost invariant = { λ b. IsKept (record { jobs = b.jobs.now; states = b.states.items; journal = b.journal.items }) × IsReady (record { jobs = b.jobs.now; states = b.states.items; journal = b.journal.items }) b.next (vec_capacity b.journal) };
+    ghost invariant = { λ b. IsBoard (record {
+      jobs = b.jobs.now;
+      states = b.states.items;
+      journal = b.journal.items;
+    }) b.next (vec_capacity b.journal) };
 }
 
 /// Why an outcome is not taken.
@@ -57,7 +67,11 @@ impl<'a> Board<'a> {
     pub fn make(alloc: Global, jobs: &'a [Job]) -> Result<Board<'a>, NoMemory>
         requires some { 1 ≤ length jobs.now }
         requires few { length jobs.now ≤ 1024 }
-        ensures { IfOk result (λ b. b ≡ record { jobs = jobs.now; states = replicate (length jobs.now) State.Waiting; journal = [] }) }
+        ensures { IfOk result (λ b. b ≡ record {
+          jobs = jobs.now;
+          states = replicate (length jobs.now) State.Waiting;
+          journal = [];
+        }) }
     {
         let count = jobs.len();
         let mut states = Vec::with_capacity(alloc, count)?;
@@ -98,7 +112,7 @@ impl<'a> Board<'a> {
     pub fn take(&mut self, worker: u32) -> Option<Ticket<'a>>
         ensures least { IfSome result (λ t. IsLeastWaiting (stages self.old) t.job) }
         ensures ticket { IfSome result (λ t. (t.worker ≡ worker) × IsOfBoard self.old t) }
-        ensures board { IfSome result (λ t. self.new ≡ record { jobs = self.old.jobs; states = slice_set self.old.states t.job (State.Out worker); journal = self.old.journal ++ record { worker = worker; job = t.job; gave = false } ∷ [] }) }
+        ensures board { IfSome result (λ t. self.new ≡ sent_out self.old t.job worker) }
 
         ensures none { IsNone result ↔ NoneWaits self.old }
         ensures stays { IfNone result (self.new ≡ self.old) }
@@ -125,11 +139,15 @@ impl<'a> Board<'a> {
         outcome: Outcome,
     ) -> Result<(), (PutStop, Ticket<'a>, Outcome)>
         requires { Answers ticket.given.sys outcome }
-        ensures ok { OnOk result (self.new ≡ record { jobs = self.old.jobs; states = slice_set self.old.states ticket.entry.job (State.Done outcome); journal = self.old.journal ++ record { worker = ticket.entry.worker; job = ticket.entry.job; gave = true } ∷ [] }) }
-        ensures was_out { OnOk result (IsOutBy self.old ticket.entry × IsOfBoard self.old ticket.entry) }
+        ensures ok { OnOk result
+            (self.new ≡ given_back self.old ticket.entry.job ticket.entry.worker outcome) }
+        ensures was_out { OnOk result
+            (IsOutBy self.old ticket.entry × IsOfBoard self.old ticket.entry) }
 
-        ensures not_out { IfErr result (λ e. e.0 ≡ PutStop.NotOut → ¬ IsOutBy self.old ticket.entry) }
-        ensures other_job { IfErr result (λ e. e.0 ≡ PutStop.OtherJob → IsOutBy self.old ticket.entry × ¬ IsOfBoard self.old ticket.entry) }
+        ensures not_out { IfErr result (λ e.
+            e.0 ≡ PutStop.NotOut → ¬ IsOutBy self.old ticket.entry) }
+        ensures other_job { IfErr result (λ e. e.0 ≡ PutStop.OtherJob →
+            IsOutBy self.old ticket.entry × ¬ IsOfBoard self.old ticket.entry) }
         ensures returned { IfErr result (λ e. (e.1 ≡ ticket.entry) × (e.2 ≡ outcome)) }
         ensures stays { OnErr result (self.new ≡ self.old) }
     {
@@ -166,7 +184,7 @@ impl<'a> Board<'a> {
         requires out { slice_get self.old.states job ≡ Some (State.Out worker) }
         requires answers { (own : JobValue) →
             slice_get self.old.jobs job ≡ Some own → Answers own.sys outcome }
-        ensures { self.new ≡ record { jobs = self.old.jobs; states = slice_set self.old.states job (State.Done outcome); journal = self.old.journal ++ record { worker = worker; job = job; gave = true } ∷ [] } }
+        ensures { self.new ≡ given_back self.old job worker outcome }
     {
         self.states[job as usize] = State::Done(outcome);
         self.journal.push_reserved(Move {

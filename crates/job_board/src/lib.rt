@@ -22,7 +22,7 @@ pub use job::{Job, same_job};
 pub use journal::Move;
 pub use laws::law_batch_text;
 pub use limits::{GREATEST_CHOICE, MOST_JOBS, MOST_SITES, law_limits};
-pub use outcome::Outcome;
+pub use outcome::{Outcome, is_unique};
 pub use printing::print_batch;
 pub use reader::read_batch;
 pub use run::run_board;

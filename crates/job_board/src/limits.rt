@@ -1,6 +1,7 @@
 // What a batch may hold at most.
 ghost use Rattle.std.specs.Prelude.{◌≡◌};
-ghost use Rattle.job_board.specs.declared.limits.TheConstants.{MOST_JOBS, MOST_SITES, GREATEST_CHOICE};
+ghost use Rattle.job_board.specs.declared.limits.TheConstants.{MOST_JOBS, MOST_SITES};
+ghost use Rattle.job_board.specs.declared.limits.TheConstants.{GREATEST_CHOICE};
 
 /// So many jobs.
 pub const MOST_JOBS: usize = 1024;

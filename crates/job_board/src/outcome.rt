@@ -6,6 +6,7 @@ ghost use Rattle.type_index.specs.Clean.{CameExact};
 ghost use Rattle.type_index.specs.Indexes.{IsIndexOf};
 ghost use Rattle.local_check.specs.Judgement.{IsVerdict};
 ghost use Rattle.job_board.specs.Answers.{Answers};
+ghost use Rattle.job_board.specs.AnswerText.{is_unique};
 
 use crate::job::Job;
 use assembly::{Grid, Sequence};
@@ -22,8 +23,8 @@ use tile_io::OpenGate;
 use tile_system::{NoMemory, Site, System, TypeId};
 use type_index::TypeIndex;
 
-/// The canonical sequence of what grew, the least open site outside the box with the least type that
-/// attaches there, and the verdict on the sequence: eight bytes a place.
+/// The canonical sequence of what grew, the least open site outside the box with the least type
+/// that attaches there, and the verdict on the sequence: eight bytes a place.
 pub struct Outcome {
     sequence: Sequence,
     outside: Option<(Site, TypeId)>,
@@ -49,10 +50,10 @@ impl Model for Outcome {
 }
 
 impl Outcome {
-    /// Grows with one worker, which chooses as one worker of `grow` does with the job's choice: with 0
-    /// always at the least open site of the box, on a grid of its own, and else on a table. No clause
-    /// says more of it. The time grows with the number of sites of the box; the memory, of some eleven
-    /// bytes a site, is given back but for the sequence.
+    /// Grows with one worker, which chooses as one worker of `grow` does with the job's choice:
+    /// with 0 always at the least open site of the box, on a grid of its own, and else on a table.
+    /// No clause says more of it. The time grows with the number of sites of the box; the memory,
+    /// of some eleven bytes a site, is given back but for the sequence.
     pub fn work<R: Threads + Sync>(rt: &R, alloc: Global, job: &Job) -> Result<Outcome, NoMemory>
         ensures { IfOk result (Answers job.now.sys) }
     {
@@ -98,6 +99,13 @@ impl Outcome {
     {
         &self.verdict
     }
+}
+
+/// Whether a verdict is a yes.
+pub fn is_unique(verdict: Verdict) -> bool
+    ensures { result ≡ is_unique verdict }
+{
+    matches!(verdict, Verdict::Yes)
 }
 
 // What grows by this choice, and its canonical sequence.

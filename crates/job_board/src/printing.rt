@@ -5,11 +5,11 @@ ghost use Rattle.tile_io.specs.Chunks.{PassesOn};
 ghost use Rattle.tile_io.specs.Prints.{Prints};
 ghost use Rattle.atam.specs.Verdicts.{NamesTypes};
 ghost use Rattle.job_board.specs.Answers.{AnswerEach, Answers};
-ghost use Rattle.job_board.specs.AnswerText.{answer_text, answers_from, batch_text, done_line, is_unique, growth_text, yes_count};
+ghost use Rattle.job_board.specs.AnswerText.{answer_text, answers_from, batch_text, done_line};
+ghost use Rattle.job_board.specs.AnswerText.{growth_text, yes_count};
 
 use crate::job::Job;
-use crate::outcome::Outcome;
-use atam::Verdict;
+use crate::outcome::{Outcome, is_unique};
 use itoa::Buffer;
 use seq_text::{PlacePieces, put_closed, put_places, put_verdict};
 use tile_io::{Chunk, Failed, Sink};
@@ -120,11 +120,4 @@ fn count_yes(outcomes: &[Outcome]) -> usize
         }
     }
     count
-}
-
-// Whether a verdict is a yes.
-fn is_unique(verdict: Verdict) -> bool
-    ensures { result ≡ is_unique verdict }
-{
-    matches!(verdict, Verdict::Yes)
 }

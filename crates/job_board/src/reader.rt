@@ -57,8 +57,8 @@ fn read_header(text: &[u8], from: Mark) -> Result<Mark, TextStop>
     Ok(start)
 }
 
-// The job behind these, with the mark behind it and the number of its sites; or none, where the text
-// ends.
+// The job behind these, with the mark behind it and the number of its sites; or none, where the
+// text ends.
 fn read_next(
     alloc: Global,
     text: &[u8],
@@ -88,8 +88,8 @@ fn read_next(
     }
 }
 
-// Reads a system behind the line of its job, whose box has few sites with so many others. The number
-// of its sites stands beside it.
+// Reads a system behind the line of its job, whose box has few sites with so many others. The
+// number of its sites stands beside it.
 fn read_within(
     alloc: Global,
     text: &[u8],

@@ -16,10 +16,10 @@ use std::thread::Threads;
 use tile_io::Gate;
 use tile_system::NoMemory;
 
-/// Works the jobs with so many workers, each in a thread of its own but one, who share a board under a
-/// lock. Each calls the gate once before its first take, and has the lock only to take a job and to put
-/// its outcome; no job is compared. A worker who finds no memory ends, and a job that has no outcome
-/// then is worked once more when all have ended.
+/// Works the jobs with so many workers, each in a thread of its own but one, who share a board
+/// under a lock. Each calls the gate once before its first take, and has the lock only to take a
+/// job and to put its outcome; no job is compared. A worker who finds no memory ends, and a job
+/// that has no outcome then is worked once more when all have ended.
 pub fn run_board<R: Threads + Wait + Sync, G: Gate>(
     rt: &R,
     alloc: Global,

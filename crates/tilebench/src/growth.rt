@@ -4,10 +4,11 @@ ghost use Rattle.atam.specs.Growth.{IsClosedInBox, IsProducible};
 ghost use Rattle.job_board.specs.AnswerText.{growth_text, is_unique};
 ghost use Rattle.tilebench.specs.Inner.Rooms.{GrowsTo, HasTypes, IsJudgedGrowth, outcome_of};
 
-use crate::judged::{JudgedGrowth, is_unique};
+use crate::judged::JudgedGrowth;
 use crate::room::Reply;
 use assembly::{Grid, Sequence};
 use atam::Verdict;
+use job_board::is_unique;
 use seq_text::{PlacePieces, put_closed, put_places, put_verdict};
 use tile_io::{Chunk, Failed, Sink};
 use tile_system::{Site, System, TypeId};

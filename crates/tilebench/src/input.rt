@@ -1,4 +1,5 @@
-// The system at the front of an input with what follows it, or the machine, two-input rule or batch that it is.
+// The system at the front of an input with what follows it, or the machine, two-input rule or batch
+// that it is.
 ghost use Rattle.tile_io.specs.Lines.{first_mark};
 ghost use Rattle.tile_io.specs.Formats.{Fault};
 ghost use Rattle.quadrant_compile.specs.QuadrantText.{ReadsQuadrant, quadrant_format};
@@ -19,7 +20,9 @@ ghost use Rattle.atam.specs.Assembly.{Fits};
 ghost use Rattle.seq_text.specs.GrowthText.{grid_format, sequence_format};
 ghost use Rattle.cert_check.specs.Certificates.{places_of};
 ghost use Rattle.cert_text.specs.CertificateText.{certificate_format};
-ghost use Rattle.tilebench.specs.Inputs.{FailsBatch, FailsWithin, IsAlone, IsAssemblyOf, IsBatch, IsSystemThenCertificate, IsSystemThenPlacements, IsSystemThenSequence, alone};
+ghost use Rattle.tilebench.specs.Inputs.{FailsBatch, FailsWithin, IsAlone, IsAssemblyOf, IsBatch};
+ghost use Rattle.tilebench.specs.Inputs.{IsSystemThenCertificate, IsSystemThenPlacements};
+ghost use Rattle.tilebench.specs.Inputs.{IsSystemThenSequence, alone};
 
 use crate::stop::Stop;
 use assembly::{Grid, Sequence};
@@ -48,7 +51,8 @@ pub fn read_front(alloc: Global, input: &[u8]) -> Result<(System, Mark), Stop>
 /// The system whose text the input is.
 pub fn read_alone(alloc: Global, input: &[u8]) -> Result<System, Stop>
     requires { length input.now ≤ MOST_INPUT }
-    ensures { Gives (IsAlone ReadsAny input.now) (FailsWithin ReadsAny FaultAny alone input.now) result }
+    ensures { Gives (IsAlone ReadsAny input.now)
+        (FailsWithin ReadsAny FaultAny alone input.now) result }
 {
     let (sys, end) = read_front(alloc, input)?;
     check_rest(input, end)?;
@@ -58,7 +62,8 @@ pub fn read_alone(alloc: Global, input: &[u8]) -> Result<System, Stop>
 /// The machine whose text the input is.
 pub fn read_machine_alone(alloc: Global, input: &[u8]) -> Result<Machine, Stop>
     requires { length input.now ≤ MOST_INPUT }
-    ensures read { Gives (IsAlone ReadsMachine input.now) (FailsWithin ReadsMachine (Fault machine_format) alone input.now) result }
+    ensures read { Gives (IsAlone ReadsMachine input.now)
+        (FailsWithin ReadsMachine (Fault machine_format) alone input.now) result }
     ensures valid { IfOk result IsMachine }
 {
     let (machine, end) = read_machine(alloc, input, Mark::start())?;
@@ -69,7 +74,8 @@ pub fn read_machine_alone(alloc: Global, input: &[u8]) -> Result<Machine, Stop>
 /// The two-input rule whose text the input is.
 pub fn read_quadrant_alone(alloc: Global, input: &[u8]) -> Result<Quadrant, Stop>
     requires { length input.now ≤ MOST_INPUT }
-    ensures read { Gives (IsAlone ReadsQuadrant input.now) (FailsWithin ReadsQuadrant (Fault quadrant_format) alone input.now) result }
+    ensures read { Gives (IsAlone ReadsQuadrant input.now)
+        (FailsWithin ReadsQuadrant (Fault quadrant_format) alone input.now) result }
     ensures valid { IfOk result IsQuadrant }
 {
     let (quadrant, end) = read_quadrant(alloc, input, Mark::start())?;
@@ -87,7 +93,8 @@ pub fn read_jobs(alloc: Global, input: &[u8]) -> Result<Vec<Job>, Stop>
     Ok(read_batch(alloc, input, Mark::start())?)
 }
 
-/// The system and the sequence whose texts are all that is left of a source, which is read in blocks.
+/// The system and the sequence whose texts are all that is left of a source, which is read in
+/// blocks.
 pub fn system_and_sequence<S: Source>(
     alloc: Global,
     source: &mut S,
@@ -143,8 +150,8 @@ struct SystemFront {
     end: Mark,
 }
 
-// The system that what is left of a source begins with. Where it doesn't end within the first block,
-// all is read first. A block that shows no end line isn't tried.
+// The system that what is left of a source begins with. Where it doesn't end within the first
+// block, all is read first. A block that shows no end line isn't tried.
 fn front_of<S: Source>(alloc: Global, source: &mut S) -> Result<SystemFront, Stop>
     ensures read { GivesRead S.left S.faults IsFront FailsAtFront source.old source.new result }
     ensures later { S.faults source.old ≤ S.faults source.new }

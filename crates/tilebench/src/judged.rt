@@ -6,7 +6,6 @@ ghost use Rattle.type_index.specs.Indexes.{IsIndexOf};
 ghost use Rattle.replay_order.specs.ReplayAnswers.{IsWholeOrder};
 ghost use Rattle.local_check.specs.Judgement.{IsVerdict};
 ghost use Rattle.grow_workers.specs.Workers.{IsGrownBy, IsSeenOrder};
-ghost use Rattle.job_board.specs.AnswerText.{is_unique};
 ghost use Rattle.tilebench.specs.Inner.Rooms.{IsJudgedGrowth};
 
 use crate::order::{grow_ordered, known_or_found_order};
@@ -31,13 +30,6 @@ pub struct JudgedGrowth {
     pub order: Sequence,
     pub verdict: Verdict,
     pub outside: Option<(Site, TypeId)>,
-}
-
-/// Whether a verdict is a yes.
-pub fn is_unique(verdict: Verdict) -> bool
-    ensures { result ≡ is_unique verdict }
-{
-    matches!(verdict, Verdict::Yes)
 }
 
 /// Grows a system, and judges what has grown by as many workers, with one index of the types for

@@ -19,8 +19,8 @@ use tile_io::Gate;
 use tile_system::{NoMemory, System};
 use type_index::TypeIndex;
 
-/// Grows a system, and tells its canonical order too where growth went in it, as with the choice 0 one
-/// of the workers does. The index of the types is lent.
+/// Grows a system, and tells its canonical order too where growth went in it, as with the choice 0
+/// one of the workers does. The index of the types is lent.
 pub fn grow_ordered<R: Threads + Sync, G: Gate>(
     resources: &Resources<'_, R, G>,
     sys: &System,

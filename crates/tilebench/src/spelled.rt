@@ -33,8 +33,8 @@ impl Reply for Spelled {
     }
 }
 
-/// The tiles of a machine, a quadrant or a counter, listed and not made into a system, to be spelled.
-/// One type, since an associated type that is a generic one at a machine gets no proof.
+/// The tiles of a machine, a quadrant or a counter, listed and not made into a system, to be
+/// spelled. One type, since an associated type that is a generic one at a machine gets no proof.
 #[derive(Drop)]
 pub enum CompiledTiles {
     Machine(MachineTiles),

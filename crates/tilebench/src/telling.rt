@@ -2,7 +2,8 @@
 ghost use Rattle.std.specs.Prelude.{◌≡◌, IfOk};
 ghost use Rattle.tile_io.specs.Prints.{Prints};
 ghost use Rattle.tilebench.specs.Inner.Tells.{Tells, Refuses, WritesAnswer, written_status};
-ghost use Rattle.tilebench.specs.Refusals.{counter_stop_name, refused_counter, refused_text, refused_words};
+ghost use Rattle.tilebench.specs.Refusals.{counter_stop_name, refused_counter, refused_text};
+ghost use Rattle.tilebench.specs.Refusals.{refused_words};
 ghost use Rattle.tilebench.specs.Statuses.{answer_status};
 
 use crate::room::Reply;

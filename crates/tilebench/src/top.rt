@@ -6,7 +6,8 @@ ghost use Rattle.command_line.specs.declared.commands.Command.TheVariants.{Batch
 ghost use Rattle.command_line.specs.declared.frame_count.FrameCount.{FrameCount};
 ghost use Rattle.command_line.specs.Commands.{IsCallOf, command_named};
 ghost use Rattle.tilebench.specs.Gains.{Gains};
-ghost use Rattle.tilebench.specs.Headline.{Ends, IsAnswer, IsBatchHeadline, IsDue, IsHeadline, IsTextRefusal, IsWatchedHeadline, IsWordsRefusal};
+ghost use Rattle.tilebench.specs.Headline.{Ends, IsAnswer, IsDue, IsTextRefusal, IsWordsRefusal};
+ghost use Rattle.tilebench.specs.Headline.{IsBatchHeadline, IsHeadline, IsWatchedHeadline};
 ghost use Rattle.tilebench.specs.Inputs.{AnswersInput};
 ghost use Rattle.tilebench.specs.Refusals.{IsReadingCall};
 ghost use Rattle.tilebench.specs.Statuses.{IsAnswered, answer_status};
@@ -55,7 +56,8 @@ pub fn tilebench<R: Threads + Wait + Sync, S: Source, K: Sink, E: Sink, G: Gate>
         → IsCallOf (map string_bytes words.now) (Watch workers choice frames)
         → result.status ≡ answer_status is_yes
         → Gains K.written K.faults
-        (AnswersInput (IsWatchedHeadline frames.count) (S.left source.old) (S.left source.new) is_yes)
+        (AnswersInput (IsWatchedHeadline frames.count)
+        (S.left source.old) (S.left source.new) is_yes)
         out.old out.new }
 
     // What `batch` printed.
@@ -80,8 +82,8 @@ pub fn tilebench<R: Threads + Wait + Sync, S: Source, K: Sink, E: Sink, G: Gate>
     ensures faults { (S.faults source.old ≤ S.faults source.new)
         × (K.faults out.old ≤ K.faults out.new) × (E.faults err.old ≤ E.faults err.new) }
 
-    // Where the words, their numbers and the input are in order and nothing fails, there is an answer, or no
-    // memory for it.
+    // Where the words, their numbers and the input are in order and nothing fails, there is an
+    // answer, or no memory for it.
     ensures complete { IsDue (map string_bytes words.now) (S.left source.old)
         → ¬ Rose (S.faults source.old) (S.faults source.new)
         → ¬ Rose (K.faults out.old) (K.faults out.new)

@@ -11,14 +11,13 @@ ghost use Rattle.tilebench.specs.Inner.Gives.{GivesAnswer};
 ghost use Rattle.tilebench.specs.Inner.Runs.{EndsCommand};
 
 use crate::input::read_jobs;
-use crate::judged::is_unique;
 use crate::resources::Resources;
 use crate::room::{Reply, Room};
 use crate::run::run_by;
 use crate::status::Ran;
 use crate::stop::Stop;
 use fan_out::WorkerCount;
-use job_board::{Job, Outcome, print_batch, run_board};
+use job_board::{Job, Outcome, is_unique, print_batch, run_board};
 use site_table::Grown;
 use std::sync::Wait;
 use std::thread::Threads;
@@ -67,7 +66,8 @@ impl Batch {
         input: Vec<u8>,
     ) -> Result<(Batched, Option<Grown>), Stop>
         requires { length input.items ≤ MOST_INPUT }
-        ensures { GivesAnswer ⟦<Batched as Reply>⟧.yes ⟦<Batched as Reply>⟧.text ⟦<Batched as Reply>⟧.printable
+        ensures { GivesAnswer
+            ⟦<Batched as Reply>⟧.yes ⟦<Batched as Reply>⟧.text ⟦<Batched as Reply>⟧.printable
             batch_row input.items result }
     {
         let jobs = read_jobs(resources.alloc, &input)?;
@@ -100,7 +100,8 @@ impl Drop for Batched {
 impl Reply for Batched {
     ghost text = { λ batched. batch_text batched.jobs.items batched.outcomes.items };
 
-    ghost yes = { λ batched. list_all (λ outcome. is_unique outcome.verdict) batched.outcomes.items };
+    ghost yes = { λ batched.
+        list_all (λ outcome. is_unique outcome.verdict) batched.outcomes.items };
 
     ghost printable = { λ batched. AnswerEach batched.jobs.items batched.outcomes.items };
 

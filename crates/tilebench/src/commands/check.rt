@@ -11,11 +11,11 @@ ghost use Rattle.tilebench.specs.Inner.Rooms.{NamesItsTypes};
 ghost use Rattle.tilebench.specs.Inner.Readings.{taken_or_faulty};
 
 use crate::input::system_and_sequence;
-use crate::judged::is_unique;
 use crate::room::{Reply, Room, SourceRoom};
 use crate::stop::Stop;
 use assembly::Sequence;
 use atam::{Legality, Verdict};
+use job_board::is_unique;
 use local_check::{Judged, judge_once};
 use seq_text::{print_legality, print_verdict};
 use site_table::Grown;

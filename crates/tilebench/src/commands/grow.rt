@@ -45,7 +45,8 @@ impl Grow {
         out: &mut K,
         err: &mut E,
     ) -> Ran
-        ensures { EndsCommand S.left S.faults K.written K.faults E.written E.faults (grow_row self.now.0.workers.count)
+        ensures { EndsCommand S.left S.faults K.written K.faults E.written E.faults
+            (grow_row self.now.0.workers.count)
             source.old source.new out.old out.new err.old err.new result }
     {
         let answer = |input: Vec<u8>|
@@ -61,7 +62,8 @@ impl Grow {
         input: Vec<u8>,
     ) -> Result<(Growth, Option<Grown>), Stop>
         requires { length input.items ≤ MOST_INPUT }
-        ensures { GivesAnswer ⟦<Growth as Reply>⟧.yes ⟦<Growth as Reply>⟧.text ⟦<Growth as Reply>⟧.printable
+        ensures { GivesAnswer
+            ⟦<Growth as Reply>⟧.yes ⟦<Growth as Reply>⟧.text ⟦<Growth as Reply>⟧.printable
             (grow_row self.now.0.workers.count) input.items result }
     {
         let sys = read_alone(resources.alloc, &input)?;

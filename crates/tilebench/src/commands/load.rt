@@ -7,12 +7,13 @@ ghost use Rattle.tile_io.specs.Prints.{Prints};
 ghost use Rattle.counter_compile.specs.Counters.{counter_refusal, counter_system};
 ghost use Rattle.seq_text.specs.GrowthLines.{closed_line};
 ghost use Rattle.seq_text.specs.VerdictLines.{verdict_line};
-ghost use Rattle.tilebench.specs.Commands.Load.{counter_line, load_bits, load_row, load_start, numbers_after_start, summary, tiles_line};
+ghost use Rattle.tilebench.specs.Commands.Load.{counter_line, load_bits, load_row, load_start};
+ghost use Rattle.tilebench.specs.Commands.Load.{numbers_after_start, summary, tiles_line};
 ghost use Rattle.job_board.specs.AnswerText.{is_unique};
 ghost use Rattle.tilebench.specs.Inner.Rooms.{HasTypes, outcome_of};
 
 use crate::growth::{Growth, growth_of};
-use crate::judged::{grow_judged, is_unique};
+use crate::judged::grow_judged;
 use crate::resources::{Crew, Resources};
 use crate::room::{Reply, Room};
 use crate::run::run_by;
@@ -21,6 +22,7 @@ use crate::stop::Stop;
 use counter_compile::{CounterStop, compile_counter};
 use fan_out::WorkerCount;
 use itoa::Buffer;
+use job_board::is_unique;
 use seq_text::{print_closed, print_verdict};
 use site_table::Grown;
 use std::alloc::Global;
@@ -58,7 +60,8 @@ impl Load {
         out: &mut K,
         err: &mut E,
     ) -> Ran
-        ensures { EndsCommand S.left S.faults K.written K.faults E.written E.faults (load_row self.now.number)
+        ensures { EndsCommand S.left S.faults K.written K.faults E.written E.faults
+            (load_row self.now.number)
             source.old source.new out.old out.new err.old err.new result }
     {
         let answer = |input: Vec<u8>|
@@ -73,7 +76,8 @@ impl Load {
         resources: &Resources<'_, R, G>,
         _input: Vec<u8>,
     ) -> Result<(Loaded, Option<Grown>), Stop>
-        ensures { GivesAnswer ⟦<Loaded as Reply>⟧.yes ⟦<Loaded as Reply>⟧.text ⟦<Loaded as Reply>⟧.printable
+        ensures { GivesAnswer
+            ⟦<Loaded as Reply>⟧.yes ⟦<Loaded as Reply>⟧.text ⟦<Loaded as Reply>⟧.printable
             (load_row self.now.number) _input.items result }
     {
         let counter = counter_of(self.number);
@@ -121,7 +125,8 @@ impl Drop for Loaded {
 }
 
 impl Reply for Loaded {
-    ghost text = { λ loaded. summary loaded.number loaded.counter.bits loaded.counter.start loaded.tiles
+    ghost text = { λ loaded. summary loaded.number
+        loaded.counter.bits loaded.counter.start loaded.tiles
         loaded.growth.sys loaded.growth.outside loaded.growth.verdict };
 
     ghost yes = { λ loaded. is_unique loaded.growth.verdict };

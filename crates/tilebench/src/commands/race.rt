@@ -51,7 +51,8 @@ impl Race {
         out: &mut K,
         err: &mut E,
     ) -> Ran
-        ensures { EndsCommand S.left S.faults K.written K.faults E.written E.faults (race_row self.now.0.workers.count)
+        ensures { EndsCommand S.left S.faults K.written K.faults E.written E.faults
+            (race_row self.now.0.workers.count)
             source.old source.new out.old out.new err.old err.new result }
     {
         let answer = |input: Vec<u8>|
@@ -67,7 +68,8 @@ impl Race {
         input: Vec<u8>,
     ) -> Result<(Raced, Option<Grown>), Stop>
         requires { length input.items ≤ MOST_INPUT }
-        ensures { GivesAnswer ⟦<Raced as Reply>⟧.yes ⟦<Raced as Reply>⟧.text ⟦<Raced as Reply>⟧.printable
+        ensures { GivesAnswer
+            ⟦<Raced as Reply>⟧.yes ⟦<Raced as Reply>⟧.text ⟦<Raced as Reply>⟧.printable
             (race_row self.now.0.workers.count) input.items result }
     {
         let sys = read_alone(resources.alloc, &input)?;

@@ -12,13 +12,14 @@ ghost use Rattle.tilebench.specs.Inputs.{alone};
 
 use crate::growth::{Growth, growth_of};
 use crate::input::read_alone;
-use crate::judged::{grow_judged, is_unique};
+use crate::judged::grow_judged;
 use crate::resources::{Crew, Resources};
 use crate::room::{Reply, Room};
 use crate::run::run_by;
 use crate::status::Ran;
 use crate::stop::Stop;
 use crate::wins::{Win, wins_of};
+use job_board::is_unique;
 use report::report_text;
 use site_table::Grown;
 use std::alloc::Global;
@@ -51,7 +52,8 @@ impl Report {
         out: &mut K,
         err: &mut E,
     ) -> Ran
-        ensures { EndsCommand S.left S.faults K.written K.faults E.written E.faults (report_row self.now.0.workers.count)
+        ensures { EndsCommand S.left S.faults K.written K.faults E.written E.faults
+            (report_row self.now.0.workers.count)
             source.old source.new out.old out.new err.old err.new result }
     {
         let answer = |input: Vec<u8>|
@@ -67,7 +69,8 @@ impl Report {
         input: Vec<u8>,
     ) -> Result<(Reported, Option<Grown>), Stop>
         requires { length input.items ≤ MOST_INPUT }
-        ensures { GivesAnswer ⟦<Reported as Reply>⟧.yes ⟦<Reported as Reply>⟧.text ⟦<Reported as Reply>⟧.printable
+        ensures { GivesAnswer
+            ⟦<Reported as Reply>⟧.yes ⟦<Reported as Reply>⟧.text ⟦<Reported as Reply>⟧.printable
             (report_row self.now.0.workers.count) input.items result }
     {
         let sys = read_alone(resources.alloc, &input)?;

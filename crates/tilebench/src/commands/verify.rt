@@ -45,8 +45,8 @@ impl Room for Verify {
 }
 
 impl Verify {
-    /// Runs the command on all that is left of a source, which it reads in blocks. Nothing is handed
-    /// out.
+    /// Runs the command on all that is left of a source, which it reads in blocks. Nothing is
+    /// handed out.
     pub fn run<R: Threads + Sync, G: Gate, S: Source, K: Sink, E: Sink>(
         &self,
         resources: &Resources<'_, R, G>,

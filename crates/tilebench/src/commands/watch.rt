@@ -16,7 +16,7 @@ ghost use Rattle.tilebench.specs.Inputs.{alone};
 
 use crate::growth::{Growth, growth_of};
 use crate::input::read_alone;
-use crate::judged::{JudgedGrowth, is_unique, judge_grid};
+use crate::judged::{JudgedGrowth, judge_grid};
 use crate::resources::{Crew, Resources};
 use crate::room::{Reply, Room};
 use crate::run::run_by;
@@ -24,6 +24,7 @@ use crate::status::Ran;
 use crate::stop::Stop;
 use command_line::FrameCount;
 use fan_out::WorkerCount;
+use job_board::is_unique;
 use site_table::Grown;
 use std::thread::Threads;
 use tile_io::{Failed, Gate, Sink, Source};
@@ -59,7 +60,8 @@ impl Watch {
         out: &mut K,
         err: &mut E,
     ) -> Ran
-        ensures { EndsCommand S.left S.faults K.written K.faults E.written E.faults (watch_row self.now.crew.workers.count self.now.frames.count)
+        ensures { EndsCommand S.left S.faults K.written K.faults E.written E.faults
+            (watch_row self.now.crew.workers.count self.now.frames.count)
             source.old source.new out.old out.new err.old err.new result }
     {
         let answer = |input: Vec<u8>|
@@ -75,7 +77,8 @@ impl Watch {
         input: Vec<u8>,
     ) -> Result<(Watched, Option<Grown>), Stop>
         requires { length input.items ≤ MOST_INPUT }
-        ensures { GivesAnswer ⟦<Watched as Reply>⟧.yes ⟦<Watched as Reply>⟧.text ⟦<Watched as Reply>⟧.printable
+        ensures { GivesAnswer
+            ⟦<Watched as Reply>⟧.yes ⟦<Watched as Reply>⟧.text ⟦<Watched as Reply>⟧.printable
             (watch_row self.now.crew.workers.count self.now.frames.count) input.items result }
     {
         let sys = read_alone(resources.alloc, &input)?;
@@ -138,7 +141,8 @@ impl Drop for Watched {
 }
 
 impl Reply for Watched {
-    ghost text = { λ watched. frames_text watched.growth.sys watched.frames.places watched.frames.counts
+    ghost text = { λ watched.
+        frames_text watched.growth.sys watched.frames.places watched.frames.counts
         ++ growth_text watched.growth.sys (outcome_of watched.growth) };
 
     ghost yes = { λ watched. is_unique watched.growth.verdict };
