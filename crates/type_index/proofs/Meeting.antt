@@ -1,9 +1,10 @@
 -- The lists of the types that interact with a glue on a side.
-use Rattle.std.proofs.Common.{◌≡◌, ◌≢◌, ℕ, zero, suc, true, false, ◌+◌, ◌<◌, ◌≤◌, ◌⊎◌, ◌==◌, ◌&&◌, ◌||◌, List, [], ◌∷◌, ◌++◌, AllPairs, length, length-set, get_or, Option, None, IfSome, slice_get, sym, subst, ap, ◌∙◌, refl, inl, inr, arith, tests, Some, zero-le, get_or-set_same, get_or-set_other}
+use Rattle.std.proofs.Common.{◌≡◌, ◌≢◌, ℕ, zero, suc, true, false, ◌+◌, ◌<◌, ◌≤◌, ◌⊎◌, ◌==◌, ◌&&◌, ◌||◌, List, [], ◌∷◌, ◌++◌, AllPairs, length, length-set, get_or, set, Option, None, IfSome, slice_get, sym, subst, ap, ◌∙◌, refl, inl, inr, arith, tests, Some, zero-le, get_or-set_same, get_or-set_other}
 use Rattle.std.specs.Prelude.{slice_index}
 use Rattle.std.proofs.lemmas.Bool.{cases_Bool, cases_eq, cases_lt}
-use Rattle.std.proofs.lemmas.List.{get_or-replicate, length-replicate}
-use Rattle.std.proofs.lemmas.Option.{same_Some, slice_get_within, get_or_from_slice_get}
+use Rattle.std.proofs.Math.ListN.{get_or-append}
+use Rattle.std.proofs.Math.Seq.{get_or-append_seam}
+use Rattle.std.proofs.lemmas.Option.{same_Some, slice_get-get_or, slice_get_within, get_or_from_slice_get}
 use Rattle.atam.specs.declared.limits.TheConstants.{MOST_STRENGTH}
 use Rattle.atam.specs.declared.site.Side.{Side}
 use Rattle.atam.specs.declared.place.GlueId.{GlueId}
@@ -17,7 +18,7 @@ use Rattle.type_index.specs.declared.glue_table.GlueKind.TheVariants.{Listed}
 use Rattle.type_index.specs.declared.meeting_lists.Meeting.{Meeting}
 use Rattle.type_index.specs.Meetings.{NoneMeets, Leads, ends, leads, MeetingOrder, AreMeetings}
 use Rattle.type_index.specs.PairLinks.{IsNextPair}
-use Rattle.type_index.specs.Inner.Linking.{HasNoMeetings, PutsMeeting}
+use Rattle.type_index.specs.Inner.Linking.{HasNoMeetings, PutsMeeting, TakesPlace}
 use Rattle.type_index.specs.declared.cursor.Cursor.{Cursor}
 use Rattle.type_index.specs.Inner.Cursors.{IsCursor}
 use Rattle.type_index.proofs.PairOrders.{pairs_with}
@@ -33,12 +34,49 @@ last_append : {X : Type 0} (xs : List X) (x : X) → slice_get (xs ++ x ∷ []) 
 last_append [] x = refl
 last_append (y ∷ xs) x = last_append xs x
 
+-- a list with another element in one of its places has all else that it had, and the new one there
+kept_set : {X : Type 0} (xs : List X) (place k : ℕ) (x y : X) → slice_get xs k ≡ Some x → k ≢ place → slice_get (set xs place y) k ≡ Some x
+kept_set [] place k x y there apart = let never : ⊥ = cc in absurd never
+kept_set (z ∷ xs) zero zero x y there apart = absurd (apart refl)
+kept_set (z ∷ xs) zero (suc k) x y there apart = there
+kept_set (z ∷ xs) (suc place) zero x y there apart = there
+kept_set (z ∷ xs) (suc place) (suc k) x y there apart = kept_set xs place k x y there (λ same. apart (ap suc same))
+
+new_set : {X : Type 0} (xs : List X) (place : ℕ) (x y : X) → slice_get xs place ≡ Some x → slice_get (set xs place y) place ≡ Some y
+new_set [] place x y there = let never : ⊥ = cc in absurd never
+new_set (z ∷ xs) zero x y there = refl
+new_set (z ∷ xs) (suc place) x y there = new_set xs place x y there
+
+module _ (old new : List Meeting) (place : ℕ) (m : Meeting) (takes : TakesPlace old place m new) where
+  -- the type is in its place
+  new_taken : slice_get new place ≡ Some m
+  new_taken =
+      let At : List Meeting → Type 0 = λ ms. slice_get ms place ≡ Some m in
+      let Last : ℕ → Type 0 = λ k. slice_get (old ++ m ∷ []) k ≡ Some m in
+      elim takes [
+        | inl free ↦ subst At (sym free.1) (new_set old place free.0.meeting m free.0.there)
+        | inr end ↦ subst At (sym end.1) (subst Last (sym end.0) (last_append old m))
+      ]
+
+  -- and each place that was not free has what it had
+  kept_taken : (k : ℕ) (n : Meeting) → n.tile ≢ 65535 → slice_get old k ≡ Some n → slice_get new k ≡ Some n
+  kept_taken k n full there =
+      let At : List Meeting → Type 0 = λ ms. slice_get ms k ≡ Some n in
+      elim takes [
+        | inl free ↦
+            let Full : ℕ → Type 0 = λ j. slice_get old j ≡ Some n in
+            let apart : k ≢ place = λ same. full (ap (λ f. f.tile) (same_Some n free.0.meeting (sym (subst Full same there) ∙ free.0.there)) ∙ free.0.free) in
+            subst At (sym free.1) (kept_set old place k n m there apart)
+        | inr end ↦ subst At (sym end.1) (kept_append old (m ∷ []) k n there)
+      ]
+
 module _ (sys : TileSystem) (d : Side) (g : GlueId) where
-  -- more places change no list
-  pub leads_more : (meetings more : List Meeting) (from place : ℕ) → Leads sys d g meetings from place → Leads sys d g (meetings ++ more) from place
-  leads_more meetings more _ _ (ends from place m there after end weak none) = ends from place m (kept_append meetings more place m there) after end weak none
-  leads_more meetings more _ _ (leads from place m there after within strength none next) =
-      leads from place m (kept_append meetings more place m there) after within strength none (leads_more meetings more _ _ next)
+  -- a type that comes into a place changes no list
+  pub leads_taken : (old new : List Meeting) (place : ℕ) (m : Meeting) (from at : ℕ) → length sys.types < 65535 → TakesPlace old place m new → Leads sys d g old from at → Leads sys d g new from at
+  leads_taken old new place m _ _ few takes (ends from at n there after end weak none) =
+      ends from at n (kept_taken old new place m takes at n (λ free. omega (arith, few, end, free)) there) after end weak none
+  leads_taken old new place m _ _ few takes (leads from at n there after within strength none next) =
+      leads from at n (kept_taken old new place m takes at n (λ free. omega (arith, few, within, free)) there) after within strength none (leads_taken old new place m _ _ few takes next)
 
   -- nor does a type that doesn't interact
   none_more : (from to : ℕ) → interaction sys (side_glue sys (record { 0 = from }) d) (Some g) ≡ 0 → NoneMeets sys d g (from + 1) to → NoneMeets sys d g from to
@@ -96,37 +134,40 @@ module _ (sys : TileSystem) (d : Side) (kinds : List GlueKind) (target : GlueId)
   pub put_length : length new.first ≡ length old.first
   put_length = elim puts [
     | inl none ↦ ap (λ l. length l.first) none.1
-    | inr some ↦ elim some [ inl unlisted ↦ ap (λ l. length l.first) unlisted.1 | inr is ↦ ap (λ l. length l.first) is ∙ length-set old.first target.0 _ ]
+    | inr some ↦ elim some [ inl unlisted ↦ ap (λ l. length l.first) unlisted.1 | inr is ↦ ap length is.first ∙ length-set old.first target.0 is.place ]
   ]
 
-  -- other lists stay
-  pub put_apart : (h : GlueId) (from : ℕ) → h.0 ≢ target.0 → Leads sys d h old.meetings from (slice_index old.first h.0) → Leads sys d h new.meetings from (slice_index new.first h.0)
-  put_apart h from apart before =
-      let Is : MeetingOrder → Type 0 = λ l. Leads sys d h l.meetings from (slice_index l.first h.0) in
-      elim puts [
-        | inl none ↦ subst Is (sym none.1) before
-        | inr some ↦ elim some [
-          | inl unlisted ↦ subst Is (sym unlisted.1) before
-          | inr is ↦ subst Is (sym is) (rw (get_or-set_other old.first target.0 h.0 (length old.meetings) 0 apart) (leads_more sys d h old.meetings _ from _ before))
+  module _ (few : length sys.types < 65535) where
+    -- other lists stay
+    pub put_apart : (h : GlueId) (from : ℕ) → h.0 ≢ target.0 → Leads sys d h old.meetings from (slice_index old.first h.0) → Leads sys d h new.meetings from (slice_index new.first h.0)
+    put_apart h from apart before =
+        let Is : MeetingOrder → Type 0 = λ l. Leads sys d h l.meetings from (slice_index l.first h.0) in
+        let At : List ℕ → Type 0 = λ first. Leads sys d h new.meetings from (slice_index first h.0) in
+        elim puts [
+          | inl none ↦ subst Is (sym none.1) before
+          | inr some ↦ elim some [
+            | inl unlisted ↦ subst Is (sym unlisted.1) before
+            | inr is ↦ subst At (sym is.first) (rw (get_or-set_other old.first target.0 h.0 is.place 0 apart) (leads_taken sys d h old.meetings new.meetings is.place _ from _ few is.takes before))
+          ]
         ]
-      ]
 
-  -- and that of the glue has the type
-  pub put_here : slice_get kinds target.0 ≡ Some Listed → target.0 < length old.first → IsType sys t → strength ≡ interaction sys (side_glue sys t d) (Some target) →
-      Leads sys d target old.meetings (t.0 + 1) (slice_index old.first target.0) → Leads sys d target new.meetings t.0 (slice_index new.first target.0)
-  put_here listed known kind is_strength before =
-      let Is : MeetingOrder → Type 0 = λ l. Leads sys d target l.meetings t.0 (slice_index l.first target.0) in
-      let m : Meeting = record { tile = t.0; strength = strength; next = slice_index old.first target.0 } in
-      elim puts [
-        | inl none ↦ subst Is (sym none.1) (leads_kept sys d target old.meetings t.0 (t.0 + 1) _ refl (sym is_strength ∙ none.0) before)
-        | inr some ↦ elim some [
-          | inl unlisted ↦ absurd (unlisted.0 listed)
-          | inr is ↦
-              subst Is (sym is) (rw (get_or-set_same old.first target.0 (length old.meetings) 0 known)
-              (leads t.0 (length old.meetings) m (last_append old.meetings m) (omega arith) kind is_strength (λ u later below. absurd (omega (arith, later, below)))
-              (leads_more sys d target old.meetings (m ∷ []) (t.0 + 1) _ before)))
+    -- and that of the glue has the type
+    pub put_here : slice_get kinds target.0 ≡ Some Listed → target.0 < length old.first → IsType sys t → strength ≡ interaction sys (side_glue sys t d) (Some target) →
+        Leads sys d target old.meetings (t.0 + 1) (slice_index old.first target.0) → Leads sys d target new.meetings t.0 (slice_index new.first target.0)
+    put_here listed known kind is_strength before =
+        let Is : MeetingOrder → Type 0 = λ l. Leads sys d target l.meetings t.0 (slice_index l.first target.0) in
+        let At : List ℕ → Type 0 = λ first. Leads sys d target new.meetings t.0 (slice_index first target.0) in
+        let m : Meeting = record { tile = t.0; strength = strength; next = slice_index old.first target.0 } in
+        elim puts [
+          | inl none ↦ subst Is (sym none.1) (leads_kept sys d target old.meetings t.0 (t.0 + 1) _ refl (sym is_strength ∙ none.0) before)
+          | inr some ↦ elim some [
+            | inl unlisted ↦ absurd (unlisted.0 listed)
+            | inr is ↦
+                subst At (sym is.first) (rw (get_or-set_same old.first target.0 is.place 0 known)
+                (leads t.0 is.place m (new_taken old.meetings new.meetings is.place m is.takes) (omega arith) kind is_strength (λ u later below. absurd (omega (arith, later, below)))
+                (leads_taken sys d target old.meetings new.meetings is.place m (t.0 + 1) _ few is.takes before)))
+          ]
         ]
-      ]
 
 -- no pair but the first of two glues is theirs
 of_one : (pairs : List GluePair) (g h : GlueId) (j k : ℕ) (p q : GluePair) → AllPairs (λ p q. is_pair_of q p.first p.second ≡ false) pairs → slice_get pairs j ≡ Some p → slice_get pairs k ≡ Some q →
@@ -192,12 +233,15 @@ true_false : true ≡ false → ⊥
 true_false both = cc
 
 module _ (sys : TileSystem) (d : Side) (kinds : List GlueKind) (valid : IsValid sys) (t : TypeId) (g : GlueId) (kind : IsType sys t) (bears : side_glue sys t d ≡ Some g) where
+  few : length sys.types < 65535
+  few = omega (arith, valid.type_count)
+
   pub met_begun : (n : ℕ) (strength : ℕ) (old new : MeetingOrder) → strength ≡ strength_of sys g → IsNextPair sys.pairs kinds g 0 n → AreMeetings sys d kinds (t.0 + 1) old → PutsMeeting kinds g t strength old new → AreMet sys d kinds t g n new
   met_begun n strength old new is next lists puts = record {
     known = λ h listed. omega (arith, put_length sys d kinds g t strength old new puts, lists.known h listed);
-    own = λ listed. put_here sys d kinds g t strength old new puts listed (lists.known g listed) kind (is ∙ sym (between_same sys g) ∙ sym (ap (λ own. interaction sys own (Some g)) bears)) (lists.first g listed);
+    own = λ listed. put_here sys d kinds g t strength old new puts few listed (lists.known g listed) kind (is ∙ sym (between_same sys g) ∙ sym (ap (λ own. interaction sys own (Some g)) bears)) (lists.first g listed);
     met = λ h listed k p below there hit. absurd (next.none_between k p (omega arith) below there (pairs_with kinds p g h listed hit));
-    rest = λ h listed apart none. put_apart sys d kinds g t strength old new puts h (t.0 + 1) apart (lists.first h listed);
+    rest = λ h listed apart none. put_apart sys d kinds g t strength old new puts few h (t.0 + 1) apart (lists.first h listed);
   }
 
   module _ (n : ℕ) (p : GluePair) (other : GlueId) (there : slice_get sys.pairs n ≡ Some p) (apart : other.0 ≢ g.0) (of_both : is_pair_of p g other ≡ true) where
@@ -220,21 +264,21 @@ module _ (sys : TileSystem) (d : Side) (kinds : List GlueKind) (valid : IsValid 
     pub met_more : (to : ℕ) (old new : MeetingOrder) → IsNextPair sys.pairs kinds g (n + 1) to → AreMet sys d kinds t g n old → PutsMeeting kinds other t p.strength old new → AreMet sys d kinds t g to new
     met_more to old new next lists puts = record {
       known = λ h listed. omega (arith, put_length sys d kinds other t p.strength old new puts, lists.known h listed);
-      own = λ listed. put_apart sys d kinds other t p.strength old new puts g t.0 (λ same. apart (sym same)) (lists.own listed);
+      own = λ listed. put_apart sys d kinds other t p.strength old new puts few g t.0 (λ same. apart (sym same)) (lists.own listed);
       met = λ h listed k q below at hit. elim (cases_eq h.0 other.0) [
         | inl same ↦
             let Listed_at : ℕ → Type 0 = λ m. slice_get kinds m ≡ Some Listed in
             let Is : ℕ → Type 0 = λ m. Leads sys d (record { 0 = m }) new.meetings t.0 (slice_index new.first m) in
             let listed_other : Listed_at other.0 = subst Listed_at same listed in
-            subst Is (sym same) (put_here sys d kinds other t p.strength old new puts listed_other (lists.known other listed_other) kind strength_there (lists.rest other listed_other apart none_before))
-        | inr unlike ↦ put_apart sys d kinds other t p.strength old new puts h t.0 unlike (lists.met h listed k q (earlier h k q listed unlike below at hit) at hit)
+            subst Is (sym same) (put_here sys d kinds other t p.strength old new puts few listed_other (lists.known other listed_other) kind strength_there (lists.rest other listed_other apart none_before))
+        | inr unlike ↦ put_apart sys d kinds other t p.strength old new puts few h t.0 unlike (lists.met h listed k q (earlier h k q listed unlike below at hit) at hit)
       ];
       rest = λ h listed unlike none.
           let not_other : h.0 ≢ other.0 = λ same.
           let Of : ℕ → Type 0 = λ m. is_pair_of p g (record { 0 = m }) ≡ true in
           true_false (sym (subst Of (sym same) of_both) ∙ none n p (omega (arith, next.after)) there)
           in
-          put_apart sys d kinds other t p.strength old new puts h (t.0 + 1) not_other (lists.rest h listed unlike (λ k q below at. none k q (omega (arith, below, next.after)) at));
+          put_apart sys d kinds other t p.strength old new puts few h (t.0 + 1) not_other (lists.rest h listed unlike (λ k q below at. none k q (omega (arith, below, next.after)) at));
     }
       where
         earlier : (h : GlueId) (k : ℕ) (q : GluePair) → slice_get kinds h.0 ≡ Some Listed → h.0 ≢ other.0 → k < to → slice_get sys.pairs k ≡ Some q → is_pair_of q g h ≡ true → k < n
@@ -283,15 +327,33 @@ meetings_unborne sys d kinds t lists bare are = record {
 -- lists without a type are those of the types past the last one
 pub meetings_ended : (sys : TileSystem) (d : Side) (kinds : List GlueKind) (from : ℕ) (lists : MeetingOrder) → from ≡ length sys.types → length kinds ≡ length sys.glues → HasNoMeetings sys lists → AreMeetings sys d kinds from lists
 meetings_ended sys d kinds from lists all count none =
-    let m : Meeting = record { tile = length sys.types; strength = 0; next = 0 } in
     let within : (g : GlueId) → slice_get kinds g.0 ≡ Some Listed → g.0 < length sys.glues = λ g listed. omega (arith, count, slice_get_within kinds g.0 Listed listed) in
     record {
-      known = λ g listed. omega (arith, within g listed, ap length none.first ∙ length-replicate (length sys.glues) 0);
-      first = λ g listed.
-          let Is : ℕ → Type 0 = λ place. Leads sys d g lists.meetings from place in
-          let zero_there : slice_index lists.first g.0 ≡ 0 = ap (λ xs. get_or xs g.0 0) none.first ∙ get_or-replicate (length sys.glues) g.0 0 0 (within g listed) in
-          subst Is (sym zero_there) (ends from 0 m (ap (λ ms. slice_get ms 0) none.meetings) (omega (arith, all)) refl refl (λ t later below. absurd (omega (arith, all, later, below))));
+      known = λ g listed. omega (arith, within g listed, none.count);
+      first = λ g listed. ends from _ _ (none.ends g (within g listed)) (omega (arith, all)) refl refl (λ t later below. absurd (omega (arith, all, later, below)));
     }
+
+-- an end put into a place leaves all others ends, and one more list begins with one
+pub ends_more : (meetings : List Meeting) (first : List ℕ) (end n : ℕ) (m : Meeting) → length first ≡ n → end < length meetings → ((k : ℕ) → k < n → slice_get meetings (slice_index first k) ≡ Some m) →
+    (k : ℕ) → k < n + 1 → slice_get (set meetings end m) (slice_index (first ++ end ∷ []) k) ≡ Some m
+ends_more meetings first end n m count within before k below = elim (cases_lt k n) [
+  | inl earlier ↦
+      let At : ℕ → Type 0 = λ place. slice_get (set meetings end m) place ≡ Some m in
+      subst At (sym (get_or-append first (end ∷ []) 0 k (omega (arith, count, earlier)))) (still (slice_index first k) (before k earlier))
+  | inr last ↦
+      let At : ℕ → Type 0 = λ place. slice_get (set meetings end m) place ≡ Some m in
+      let Of : ℕ → Type 0 = λ j. slice_index (first ++ end ∷ []) j ≡ end in
+      let is_last : length first ≡ k = omega (arith, count, last, below) in
+      subst At (sym (subst Of is_last (get_or-append_seam first end [] 0))) (new_set meetings end _ m (slice_get-get_or meetings end m within))
+]
+  where
+    still : (place : ℕ) → slice_get meetings place ≡ Some m → slice_get (set meetings end m) place ≡ Some m
+    still place there = elim (cases_eq place end) [
+      | inl same ↦
+          let At : ℕ → Type 0 = λ j. slice_get (set meetings end m) j ≡ Some m in
+          subst At (sym same) (new_set meetings end _ m (slice_get-get_or meetings end m within))
+      | inr apart ↦ kept_set meetings end place m m there apart
+    ]
 
 -- a cursor at a place of a list
 pub cursor_at : (sys : TileSystem) (d : Side) (g : GlueId) (meetings : List Meeting) (from place : ℕ) (m : Meeting) (cursor : Cursor) → IsValid sys → slice_get meetings place ≡ Some m → Leads sys d g meetings from place →

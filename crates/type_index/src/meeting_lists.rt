@@ -1,5 +1,5 @@
 // The types by the glues that interact with one of their sides.
-ghost use Rattle.std.specs.Prelude.{◌≡◌, ◌≢◌, ◌<◌, ◌≤◌, ◌+◌, ◌^◌, ◌⊎◌, true, length, slice_get, IfOk, OnOk, Some};
+ghost use Rattle.std.specs.Prelude.{◌≡◌, ◌≢◌, ◌<◌, ◌≤◌, ◌+◌, ◌^◌, ◌⊎◌, true, length, slice_get, IfOk, IsTrue, OnOk, Some};
 ghost use Rattle.atam.specs.declared.limits.TheConstants.{MOST_STRENGTH};
 ghost use Rattle.atam.specs.declared.site.Side.{Side};
 ghost use Rattle.atam.specs.declared.place.TypeId.{TypeId};
@@ -9,14 +9,21 @@ ghost use Rattle.type_index.specs.Indexes.{AreGlueFacts};
 ghost use Rattle.type_index.specs.Meetings.{AreMeetings, Leads};
 ghost use Rattle.type_index.specs.PairLinks.{ArePairLinks, HasGlue};
 ghost use Rattle.type_index.specs.Inner.Cursors.{GoesBy, IsBehind, IsCursor};
-ghost use Rattle.type_index.specs.Inner.Linking.{HasNoMeetings, PutsMeeting};
+ghost use Rattle.type_index.specs.Inner.Linking.{HasNoMeetings, IsFree, PutsMeeting, TakesPlace};
 
 use crate::cursor::{Cursor, Way};
 use crate::glue_table::{GlueKind, GlueTable};
 use crate::pair_links::PairLinks;
+use crate::reach::room_of;
 use std::alloc::Global;
 use std::marker::Model;
 use tile_system::{GlueId, GluePair, NoMemory, Side, System, TypeId};
+
+// The most places of the lists of a side that have room for their types.
+const MOST_PLACES: u32 = 4_194_304;
+
+// The number in a free place, which no type has.
+const NO_TILE: u16 = 65_535;
 
 // A type that interacts with a glue, the strength, and the place of the next such type.
 #[derive(Clone, Copy)]
@@ -26,8 +33,16 @@ pub(crate) struct Meeting {
     pub(crate) strength: u8,
 }
 
+// What is in a free place.
+const FREE: Meeting = Meeting {
+    next: 0,
+    tile: NO_TILE,
+    strength: 0,
+};
+
 // For each glue that is listed the place of the first type that interacts with it on one side. The
-// last place of each list has the number of types.
+// last place of each list has the number of types. A list is in one piece, in the order in which it
+// is walked, as far as there was room for it.
 pub(crate) struct MeetingLists {
     first: Vec<u32>,
     meetings: Vec<Meeting>,
@@ -89,7 +104,7 @@ impl MeetingLists {
     {
         sys.recall_valid();
         let count = sys.type_count();
-        let mut lists = MeetingLists::ended(alloc, sys)?;
+        let mut lists = MeetingLists::with_room(alloc, sys, side, glues)?;
         for passed in 0..count {
             let tile = TypeId(count - 1 - passed);
             lists.pass(sys, side, tile, glues, links)?;
@@ -97,20 +112,34 @@ impl MeetingLists {
         Ok(lists)
     }
 
-    // Lists without a type.
-    fn ended(alloc: Global, sys: &System) -> Result<MeetingLists, NoMemory>
-        ensures { IfOk result (HasNoMeetings sys.now) }
+    // Lists without a type, each with a free place before its end for each type to come.
+    fn with_room(
+        alloc: Global,
+        sys: &System,
+        side: Side,
+        glues: &GlueTable,
+    ) -> Result<MeetingLists, NoMemory>
+        requires glues { AreGlueFacts sys.now glues.now }
+        ensures none { IfOk result (HasNoMeetings sys.now) }
+        ensures few { IfOk result (λ l. length l.meetings ≤ 4194304) }
     {
         sys.recall_valid();
-        let end = Meeting {
-            next: 0,
-            tile: sys.type_count() as u16,
-            strength: 0,
-        };
-        Ok(MeetingLists {
-            first: Vec::from_elem(alloc, 0, sys.glue_count() as usize)?,
-            meetings: Vec::from_elem(alloc, end, 1)?,
-        })
+        let count = sys.glue_count();
+        let room = room_of(alloc, sys, side, glues)?;
+        let places = places_of(&room);
+        let mut first = Vec::with_capacity(alloc, count as usize)?;
+        let mut meetings = Vec::from_elem(alloc, FREE, places as usize)?;
+        let mut end = 0;
+        for number in 0..count {
+            end = room[number as usize].saturating_add(end).min(places - 1);
+            meetings[end as usize] = Meeting {
+                tile: sys.type_count() as u16,
+                ..FREE
+            };
+            first.push(end)?;
+            end += 1;
+        }
+        Ok(MeetingLists { first, meetings })
     }
 
     // Puts a type first in the lists of all glues that interact with its side.
@@ -195,14 +224,13 @@ impl MeetingLists {
         if strength == 0 || glues.kind(sys, glue) != GlueKind::Listed {
             return Ok(());
         }
+        let behind = self.first[glue.0 as usize];
         let meeting = Meeting {
-            next: self.first[glue.0 as usize],
+            next: behind,
             tile: tile.0 as u16,
             strength: strength as u8,
         };
-        let place = self.meetings.len() as u32;
-        self.meetings.push(meeting)?;
-        self.first[glue.0 as usize] = place;
+        self.first[glue.0 as usize] = put_before(&mut self.meetings, behind, meeting)?;
         Ok(())
     }
 
@@ -276,6 +304,45 @@ impl MeetingLists {
         cursor.at = on.at;
         cursor.strength = on.strength;
         cursor.next = on.next;
+    }
+}
+
+// The places of lists with this much room, each with its end, or the most that there may be.
+fn places_of(room: &[u32]) -> u32
+    ensures some { 0 < result }
+    ensures few { result ≤ 4194304 }
+{
+    let mut places: u32 = 0;
+    for types in room {
+        places = places.saturating_add(*types).saturating_add(1);
+    }
+    places.clamp(1, MOST_PLACES)
+}
+
+// Puts a type into the place before another one, where that is free, and else behind all others.
+#[inline(always)]
+fn put_before(meetings: &mut Vec<Meeting>, behind: u32, meeting: Meeting) -> Result<u32, NoMemory>
+    requires few { length meetings.old.items < 2 ^ 32 }
+    ensures place { IfOk result (λ place. TakesPlace meetings.old.items place meeting meetings.new.items) }
+    ensures few { length meetings.new.items ≤ length meetings.old.items + 1 }
+{
+    if behind > 0 && is_free(meetings, behind - 1) {
+        meetings[behind as usize - 1] = meeting;
+        return Ok(behind - 1);
+    }
+    let place = meetings.len() as u32;
+    meetings.push(meeting)?;
+    Ok(place)
+}
+
+// Whether a place is free.
+#[inline(always)]
+fn is_free(meetings: &[Meeting], place: u32) -> bool
+    ensures { IsTrue result → IsFree meetings.now place }
+{
+    match meetings.get(place as usize) {
+        Some(meeting) => meeting.tile == NO_TILE,
+        None => false,
     }
 }
 

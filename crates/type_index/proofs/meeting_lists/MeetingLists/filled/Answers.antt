@@ -1,5 +1,4 @@
-use Rattle.std.proofs.Common.{◌∙◌, ℕ, ap, arith, length, subst}
-use Rattle.std.proofs.lemmas.List.{length-replicate}
+use Rattle.std.proofs.Common.{ℕ, arith, subst}
 use Rattle.type_index.specs.Meetings.{AreMeetings}
 use Rattle.type_index.proofs.Meeting.{meetings_ended}
 use Rattle.type_index.proofs.meeting_lists.MeetingLists.filled.Goals as goal
@@ -7,11 +6,11 @@ use Rattle.type_index.proofs.meeting_lists.MeetingLists.filled.Goals as goal
 pub loop-passed-init : goal.loop-passed-init
 loop-passed-init c =
     let sys = c.args.sys.now in
-    let none = c.in_ok-lists.ensures in
+    let none = c.in_ok-lists.ensures.none in
     record {
       lists = meetings_ended sys c.args.side c.args.glues.now.kinds _ c.in_ok-lists.lists (omega arith) c.requires.glues.kinds.count none;
-      few = omega (arith, ap length none.meetings);
-      each = ap length none.first ∙ length-replicate (length sys.glues) 0;
+      few = omega (arith, c.in_ok-lists.ensures.few);
+      each = none.count;
     }
 
 pub pass-requires-clause-lists : goal.pass-requires-clause-lists

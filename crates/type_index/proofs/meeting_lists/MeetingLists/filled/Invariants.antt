@@ -6,6 +6,6 @@ use Rattle.type_index.proofs.meeting_lists.MeetingLists.filled.Given as goal
 abbrev pub invariant-loop-passed : goal.invariant-loop-passed
 invariant-loop-passed l = record {
   lists : AreMeetings l.sys l.side l.glues.kinds (length l.sys.types - l.passed) l.lists;
-  few : length l.lists.meetings ≤ 1 + 65537 * l.passed;
+  few : length l.lists.meetings ≤ 4194304 + 65537 * l.passed;
   each : length l.lists.first ≡ length l.sys.glues;
 }
