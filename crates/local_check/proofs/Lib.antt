@@ -10,3 +10,4 @@ pub mod Standing
 pub mod StoodSites
 pub mod Clean
 pub mod Glimpses
+pub mod Passing

@@ -1,10 +1,9 @@
 // The places of a sequence, put into a grid one by one, with what is seen of each as it comes.
-ghost use Rattle.std.specs.Prelude.{◌≡◌, ◌<◌, ◌^◌, length, take, IfOk};
-ghost use Rattle.atam.specs.Placements.{SamePlacements};
-ghost use Rattle.atam.specs.Assembly.{Fits};
+ghost use Rattle.std.specs.Prelude.{◌≡◌, ◌≢◌, ◌<◌, true, false, is_some, None, IfOk, IsTrue};
+ghost use Rattle.atam.specs.Placements.{tile_at};
 ghost use Rattle.atam.specs.Growth.{IsLegal};
-ghost use Rattle.type_index.specs.Indexes.{IsIndexOf};
-ghost use Rattle.local_check.specs.Inner.Passages.{IsPassed, IsPassageOfLegal};
+ghost use Rattle.assembly.specs.Cells.{cell_count, site_at};
+ghost use Rattle.local_check.specs.Inner.Passages.{CanJudge, IsPassed};
 
 use crate::breaches::Breaches;
 use crate::glances::Glances;
@@ -14,47 +13,32 @@ use std::alloc::Global;
 use tile_system::{NoMemory, Site, System};
 use type_index::TypeIndex;
 
-// What is found of a legal sequence: the first place that isn't held by exactly the temperature,
-// with what holds it, and whether all places came clean.
-#[derive(Clone, Copy)]
-pub(crate) struct Passage {
-    pub(crate) inexact: Option<(Site, u32)>,
-    pub(crate) clean: bool,
-}
-
-// The same of any sequence, or what breaks legality first.
+// What is found of a sequence: what breaks legality first, or of a legal one the first place that
+// isn't held by exactly the temperature, with what holds it, or else whether all places came clean.
 #[derive(Clone, Copy)]
 pub(crate) enum Passed {
-    Legal(Passage),
     Breach(Legality),
-}
-
-// What is found of a sequence that is known to be legal: the first place that isn't held by exactly
-// the temperature, with what holds it, or else whether all places came clean.
-#[derive(Clone, Copy)]
-pub(crate) enum LegalPassage {
     NotExact { site: Site, sum: u32 },
     Exact { clean: bool },
 }
 
-// Puts the places behind the seeds into a grid of these, as long as they are legal.
+// Puts the places behind the seeds into a grid of these, as long as they are legal. Where it is
+// known that all are, it ends at the first that isn't held by exactly the temperature: whatever
+// stands behind that, the verdict is known there.
 #[inline(never)]
-pub(crate) fn pass(
+pub(crate) fn pass<const KNOWN: bool>(
     alloc: Global,
     sys: &System,
     seq: &Sequence,
     types: &TypeIndex,
     grid: &mut Grid,
 ) -> Result<Passed, NoMemory>
-    requires index { IsIndexOf sys.now types.now }
-    requires area { grid.old.area ≡ sys.now.area }
-    requires seeds { SamePlacements sys.now.seeds grid.old.tiles }
-    requires begun { take (length sys.now.seeds) seq.now ≡ sys.now.seeds }
-    requires fits { Fits sys.now seq.now }
-    requires short { length seq.now < 2 ^ 32 }
+    requires can { CanJudge sys.now seq.now types.now grid.old }
+    requires known { KNOWN ≡ true → IsLegal sys.now seq.now }
     ensures area { grid.new.area ≡ grid.old.area }
     ensures passed { IfOk result (IsPassed sys.now seq.now grid.new.tiles) }
 {
+    let known = KNOWN;
     let tau = sys.tau();
     let mut glances = Glances::make(alloc, sys)?;
     let mut breaches = Breaches::NONE;
@@ -62,7 +46,7 @@ pub(crate) fn pass(
     for index in sys.seeds().len() as u32..seq.len() as u32 {
         let place = seq.get(index as usize);
         let number = site_index(&grid.area(), place.site);
-        if grid.tile(number).is_some() {
+        if is_taken(grid, number, known) {
             return Ok(Passed::Breach(Legality::SiteTaken { index }));
         }
         let glance = glances.at(sys, types, grid, place, number, clean);
@@ -71,45 +55,36 @@ pub(crate) fn pass(
             return Ok(Passed::Breach(Legality::TooWeak { index, pull }));
         }
         breaches.see(sys, seq, index as usize, pull, None);
-        clean = glance.is_clean_after(clean);
-        grid.put_at(place, number);
-    }
-    let inexact = breaches.inexact;
-    Ok(Passed::Legal(Passage { inexact, clean }))
-}
-
-// The same for a sequence that is known to be legal, as long as its places are held by exactly the
-// temperature: whatever stands behind the first that isn't, the verdict is known there.
-#[inline(never)]
-pub(crate) fn pass_legal(
-    alloc: Global,
-    sys: &System,
-    seq: &Sequence,
-    types: &TypeIndex,
-    grid: &mut Grid,
-) -> Result<LegalPassage, NoMemory>
-    requires legal { IsLegal sys.now seq.now }
-    requires index { IsIndexOf sys.now types.now }
-    requires area { grid.old.area ≡ sys.now.area }
-    requires seeds { SamePlacements sys.now.seeds grid.old.tiles }
-    requires fits { Fits sys.now seq.now }
-    ensures area { grid.new.area ≡ grid.old.area }
-    ensures passed { IfOk result (IsPassageOfLegal sys.now seq.now grid.new.tiles) }
-{
-    let tau = sys.tau();
-    let mut glances = Glances::make(alloc, sys)?;
-    let mut clean = true;
-    for index in sys.seeds().len()..seq.len() {
-        let place = seq.get(index);
-        let number = site_index(&grid.area(), place.site);
-        let glance = glances.at(sys, types, grid, place, number, clean);
-        let sum = glance.sum;
-        if sum != tau {
+        if is_last(pull, tau, known) {
             let site = place.site;
-            return Ok(LegalPassage::NotExact { site, sum });
+            return Ok(Passed::NotExact { site, sum: pull });
         }
         clean = glance.is_clean_after(clean);
         grid.put_at(place, number);
     }
-    Ok(LegalPassage::Exact { clean })
+    match breaches.inexact {
+        Some((site, sum)) => Ok(Passed::NotExact { site, sum }),
+        None => Ok(Passed::Exact { clean }),
+    }
+}
+
+// Whether a tile stands at the site of this number. Where it is known that none does, it is not
+// looked at.
+#[inline(always)]
+fn is_taken(grid: &Grid, number: usize, known: bool) -> bool
+    requires within { number < cell_count grid.now.area }
+    requires known { known ≡ true → tile_at grid.now.tiles (site_at grid.now.area number) ≡ None }
+    ensures { result ≡ is_some (tile_at grid.now.tiles (site_at grid.now.area number)) }
+{
+    !known && grid.tile(number).is_some()
+}
+
+// Whether a place of a sequence that is known to be legal is held by another sum than the
+// temperature.
+#[inline(always)]
+fn is_last(pull: u32, tau: u32, known: bool) -> bool
+    ensures last { IsTrue result → (known ≡ true) × (pull ≢ tau) }
+    ensures further { result ≡ false → known ≡ true → pull ≡ tau }
+{
+    known && pull != tau
 }

@@ -167,14 +167,9 @@ pub(crate) fn inputs_lent<'a>(
     grid: &'a Grid,
     types: &'a TypeIndex,
 ) -> Result<SideSets<'a>, NoMemory>
-    requires legal { IsLegal sys.now seq.now }
-    requires fits { Fits sys.now seq.now }
-    requires area { grid.now.area ≡ sys.now.area }
-    requires placements { SamePlacements seq.now grid.now.tiles }
-    requires index { IsIndexOf sys.now types.now }
+    requires can { CanSurvey sys.now seq.now grid.now types.now }
     ensures { IfOk result (AreSidesOf sys.now seq.now) }
 {
-    sys.recall_valid();
     let survey = survey_range(alloc, sys, seq, grid, types, 0, seq.len())?;
     Ok(table(sys, Cow::Borrowed(grid), Cow::Borrowed(types), survey))
 }

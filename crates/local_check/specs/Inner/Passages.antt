@@ -1,39 +1,40 @@
 -- What is found as the places of a sequence are put into a grid.
-use Rattle.std.specs.Prelude.{◌≡◌, ◌≢◌, Bool, true, List, length}
+use Rattle.std.specs.Prelude.{◌≡◌, ◌≢◌, ◌<◌, ◌^◌, Bool, true, List, length, take}
 use Rattle.atam.specs.declared.place.Place.{Place}
 use Rattle.atam.specs.Placements.{SamePlacements}
 use Rattle.atam.specs.TileSystem.{TileSystem}
+use Rattle.atam.specs.Assembly.{Fits}
 use Rattle.atam.specs.Growth.{IsLegal}
-use Rattle.atam.specs.declared.legality.Legality.TheVariants as legality
-use Rattle.replay_order.specs.Legalities.{IsLegalityAnswer}
-use Rattle.local_check.specs.declared.passage.Passage.{Passage}
-use Rattle.local_check.specs.declared.passage.Passed.{Passed}
-use Rattle.local_check.specs.declared.passage.Passed.TheVariants.{Legal, Breach}
-use Rattle.local_check.specs.declared.passage.LegalPassage.{LegalPassage}
-use Rattle.local_check.specs.declared.passage.LegalPassage.TheVariants.{NotExact, Exact}
 use Rattle.atam.specs.Determinism.{HasExactInputs}
+use Rattle.atam.specs.declared.legality.Legality.TheVariants as legality
+use Rattle.assembly.specs.Grids.{TileGrid}
+use Rattle.replay_order.specs.Legalities.{IsLegalityAnswer}
 use Rattle.type_index.specs.Clean.{HasCleanPlaces}
-use Rattle.local_check.specs.Judgement.{FindsInexact, IsFirstInexact}
+use Rattle.type_index.specs.Indexes.{TypeLists, IsIndexOf}
+use Rattle.local_check.specs.Judgement.{IsFirstInexact}
+use Rattle.local_check.specs.declared.passage.Passed.{Passed}
+use Rattle.local_check.specs.declared.passage.Passed.TheVariants.{Breach, NotExact, Exact}
 
--- of a legal sequence, whose places now stand in the grid: the first that isn't held exactly, and that all came clean, if that is said
-pub record IsPassage (sys : TileSystem) (s tiles : List Place) (passage : Passage) : Type 0 where
-  pub legal : IsLegal sys s
-  pub placed : SamePlacements s tiles
-  pub inexact : FindsInexact sys s (length s) passage.inexact
-  pub clean : passage.clean ≡ true → HasCleanPlaces sys s
+-- a sequence that fits and begins with the seeds, with an index of the system's types and a grid
+-- of the seeds
+pub record CanJudge (sys : TileSystem) (s : List Place) (types : TypeLists) (grid : TileGrid)
+    : Type 0 where
+  pub begun : take (length sys.seeds) s ≡ sys.seeds
+  pub fits : Fits sys s
+  pub short : length s < 2 ^ 32
+  pub index : IsIndexOf sys types
+  pub area : grid.area ≡ sys.area
+  pub seeds : SamePlacements sys.seeds grid.tiles
 
--- of any sequence
-abbrev pub IsPassed : TileSystem → List Place → List Place → Passed → Type 0
-IsPassed sys s tiles (Legal passage) = IsPassage sys s tiles passage
-IsPassed sys s tiles (Breach breach) = (breach ≢ legality.Legal) × IsLegalityAnswer sys s breach
-
--- each place of the sequence is held exactly, all of them now stand in the grid, and that all came clean, if that is said
+-- each place of the sequence is held exactly, all of them now stand in the grid, and all came
+-- clean, if that is said
 pub record IsExactPassage (sys : TileSystem) (s tiles : List Place) (said : Bool) : Type 0 where
   pub exact : HasExactInputs sys s
   pub placed : SamePlacements s tiles
   pub clean : said ≡ true → HasCleanPlaces sys s
 
--- of a sequence that is known to be legal: the first place that isn't held exactly, if there is one
-abbrev pub IsPassageOfLegal : TileSystem → List Place → List Place → LegalPassage → Type 0
-IsPassageOfLegal sys s tiles (NotExact m sum) = IsFirstInexact sys s m sum
-IsPassageOfLegal sys s tiles (Exact clean) = IsExactPassage sys s tiles clean
+-- what breaks legality first, or of a legal sequence the first place that isn't held exactly
+abbrev pub IsPassed : TileSystem → List Place → List Place → Passed → Type 0
+IsPassed sys s tiles (Breach breach) = (breach ≢ legality.Legal) × IsLegalityAnswer sys s breach
+IsPassed sys s tiles (NotExact m sum) = IsLegal sys s × IsFirstInexact sys s m sum
+IsPassed sys s tiles (Exact clean) = IsLegal sys s × IsExactPassage sys s tiles clean
