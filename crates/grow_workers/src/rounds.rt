@@ -3,6 +3,7 @@ ghost use Rattle.std.specs.Prelude.{All, ◌≡◌, ◌≤◌, ◌<◌, ◌+◌,
 ghost use Rattle.atam.specs.Growth.{IsClosedInBox};
 ghost use Rattle.atam.specs.Placements.{SamePlacements};
 ghost use Rattle.site_table.specs.Seats.{IsSeatOf};
+ghost use Rattle.type_index.specs.Indexes.{IsIndexOf};
 ghost use Rattle.grow_workers.specs.Workers.{GrewOn, OwnsAtLeast};
 ghost use Rattle.frontier_seat.specs.Growths.{GrowsOn};
 ghost use Rattle.grow_workers.specs.Inner.Rounds.{AddsUp, AreRoundsOf, GoesRound, IsFar, IsRoundOf, IsStage};
@@ -43,14 +44,8 @@ pub(crate) struct Stage {
     pub wins: Vec<u32>,
 }
 
-/// Grows with so many workers, from what the seat has seen, in rounds. The list has what each worker
-/// has won. In a round the seat is parted among the workers, each has a copy of the grid, and each
-/// makes one burst of at most 4096 claims in a thread of its own but worker 0, first over its share
-/// of the open sites; then the grids are merged and the seats joined. The rounds end where the
-/// merged grid is closed in the box. Each but the last adds 4096 sites or more, so there are at most
-/// a round more than the box has room for: 257. A worker calls the gate once, before its first
-/// claim. Where several types attach, worker w chooses by PCG's generator of state `choice` and
-/// stream w, which it makes anew in each round; no clause says more of it. Where memory is wanting
+/// Grows with so many workers, from what the seat has seen, by `grow_on_by_index` with an index of
+/// the system's types that it makes. The list has what each worker has won. Where memory is wanting
 /// the seats are dropped, and the table stays usable.
 pub fn grow_on<R: Threads + Sync, G: Gate>(
     rt: &R,
@@ -73,12 +68,47 @@ pub fn grow_on<R: Threads + Sync, G: Gate>(
     ensures grew { IfOk result (λ r. GrewOn sys.now seat seen r.0 r.1 r.2.items) }
     ensures count { IfOk result (λ r. length r.2.items ≡ workers) }
 {
-    let workers = WorkerCount::new(workers);
     let types = TypeIndex::build(alloc, sys)?;
+    let workers = WorkerCount::new(workers);
+    grow_on_by_index(
+        rt, alloc, sys, table, &types, seat, seen, workers, choice, gate,
+    )
+}
+
+/// Grows with so many workers, from what the seat has seen, in rounds, with an index of the system's
+/// types that is lent to them. The list has what each worker has won. In a round the seat is parted
+/// among the workers, each has a copy of the grid, and each makes one burst of at most 4096 claims
+/// in a thread of its own but worker 0, first over its share of the open sites; then the grids are
+/// merged and the seats joined. The rounds end where the merged grid is closed in the box. Each but
+/// the last adds 4096 sites or more, so there are at most a round more than the box has room for:
+/// 257. A worker calls the gate once, before its first claim. Where several types attach, worker w
+/// chooses by PCG's generator of state `choice` and stream w, which it makes anew in each round; no
+/// clause says more of it. Where memory is wanting the seats are dropped, and the table stays usable.
+pub fn grow_on_by_index<R: Threads + Sync, G: Gate>(
+    rt: &R,
+    alloc: Global,
+    sys: &System,
+    table: &SiteTable,
+    types: &TypeIndex,
+    seat: SiteSeat,
+    seen: Grid,
+    workers: WorkerCount,
+    choice: u64,
+    gate: &G,
+) -> Result<(SiteSeat, Grid, Vec<u32>), NoMemory>
+    requires index { IsIndexOf sys.now types.now }
+    requires numbers { OwnsAtLeast workers.count seat.scout.owned }
+    requires seat { IsSeatOf table.now seat }
+    requires system { table.now.sys ≡ sys.now }
+    requires area { seen.area ≡ sys.now.area }
+    requires seen { SamePlacements seat.scout.seen seen.tiles }
+    ensures grew { IfOk result (λ r. GrewOn sys.now seat seen r.0 r.1 r.2.items) }
+    ensures count { IfOk result (λ r. length r.2.items ≡ workers.count) }
+{
     let shared = Shared {
         sys,
         table,
-        types: &types,
+        types,
         gate,
         choice,
         workers,

@@ -1,6 +1,6 @@
 use Rattle.std.proofs.Common.{◌≡◌, ◌≤◌, ◌*◌, length}
 use Rattle.grow_workers.specs.Inner.Rounds.{WentOn}
-use Rattle.grow_workers.proofs.rounds.grow_on.Given as goal
+use Rattle.grow_workers.proofs.rounds.grow_on_by_index.Given as goal
 
 -- the rounds so far lead to the stage, and each of them took as many sites as a worker may claim
 abbrev pub invariant-loop-round : goal.invariant-loop-round

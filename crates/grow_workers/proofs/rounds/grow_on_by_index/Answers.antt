@@ -8,7 +8,7 @@ use Rattle.site_table.specs.Seats.{SeatValue}
 use Rattle.grow_workers.specs.declared.rounds.Stage.{Stage}
 use Rattle.grow_workers.specs.Inner.Rounds.{WentOn}
 use Rattle.grow_workers.proofs.Stages.{each_few, seen_went, went_both, went_nowhere}
-use Rattle.grow_workers.proofs.rounds.grow_on.Goals as goal
+use Rattle.grow_workers.proofs.rounds.grow_on_by_index.Goals as goal
 
 -- before the first round nobody has won anything
 pub loop-round-init : goal.loop-round-init
@@ -21,7 +21,7 @@ loop-round-init g c =
     let many : length none ≡ c.get.result = ap length zeros ∙ length-replicate c.get.result 0 in
     let each : (i : ℕ) → i < length none → get_or none i 0 ≡ 0 = λ i within. ap (λ l. get_or l i 0) zeros ∙ get_or-replicate c.get.result i 0 0 (omega (arith, within, many)) in
     record {
-      went = went_nowhere sys seat _ seen _ none c.seat.view_is c.seen.view_is c.requires.area c.requires.seen each;
+      went = went_nowhere sys seat _ seen _ none refl refl c.requires.area c.requires.seen each;
       count = many ∙ c.get.ensures.count;
       far = omega arith;
     }
