@@ -1,5 +1,5 @@
 -- One tile more at a site that was listed, and the lists of sites.
-use Rattle.std.proofs.Common.{◌≡◌, ◌≢◌, ◌⊎◌, ◌<◌, ◌≤◌, ◌+◌, ◌++◌, ℕ, List, [], ◌∷◌, length, take, get_or, None, Contains, pos, ◌+ℤ◌, ◌-ℤ◌, sym, ◌∙◌, ap, subst, inl, inr, arith}
+use Rattle.std.proofs.Common.{◌≡◌, ◌≢◌, ◌<◌, ◌≤◌, ◌+◌, ◌++◌, ℕ, List, [], ◌∷◌, length, take, get_or, None, Contains, pos, ◌+ℤ◌, ◌-ℤ◌, sym, ◌∙◌, ap, subst, inl, inr, arith}
 use Rattle.std.proofs.lemmas.Int.{ints}
 use Rattle.std.proofs.lemmas.List.{take_all, take_more}
 use Rattle.std.proofs.lemmas.List.Elements.{Contains-push_cases}
@@ -27,8 +27,8 @@ use Rattle.assembly.proofs.Cells.{site_at-injective}
 use Rattle.grow_core.specs.Steps.{place}
 use Rattle.number_set.specs.Numbers.{Numbers, IsIn}
 use Rattle.frontier_seat.specs.declared.work_list.Spot.{Spot}
-use Rattle.frontier_seat.specs.Inner.Listings.{AreEmptySites, ListsAround, IsSpot}
-use Rattle.frontier_seat.specs.Inner.Looks.{IsClosedBut}
+use Rattle.frontier_seat.specs.Inner.Listings.{ListsAround}
+use Rattle.frontier_seat.specs.Inner.Looks.{IsClosedBut, IsTaken}
 use Rattle.frontier_seat.specs.Inner.Fillings.{IsFilling, ListsBeside, ListsOn}
 
 -- a site is not beside itself
@@ -52,25 +52,25 @@ beside_still before after m t beside tiles stand =
     }
 
 -- where a type attaches and fills the site
-pub lists_filled : (sys : TileSystem) (before after : List Place) (spot : Spot) (t : TypeId) (old new : Numbers) → IsSpot sys.area spot →
-    IsClosedBut sys before (λ n. IsIn old n ⊎ (n ≡ spot.number)) → ¬ IsIn old spot.number → AreEmptySites sys.area before old → tile_at before spot.site ≡ None →
+pub lists_filled : (sys : TileSystem) (before after : List Place) (spot : Spot) (t : TypeId) (old new : Numbers) → IsTaken sys before old spot →
     ((n : Site) → tile_at after n ≡ tile_at (before ++ place spot.site t ∷ []) n) → length after ≡ length before + 1 → ListsAround sys.area after spot.site old new → ListsOn sys before after old new
-lists_filled sys before after spot t old new is closed gone listed empty tiles count around =
+lists_filled sys before after spot t old new taken tiles count around =
     let p : Place = place spot.site t in
+    let is = taken.spot in
     let other : (n : ℕ) → site_at sys.area n ≡ spot.site → n ≡ spot.number = λ n here. site_at-injective sys.area n spot.number (here ∙ sym is.site) in
     record {
       lists = record {
         empty = λ n in_new. elim (around.only n in_new) [
           | inl in_old ↦
-              let differs : spot.site ≢ site_at sys.area n = λ same. gone (subst (IsIn old) (other n (sym same)) in_old) in
-              tiles (site_at sys.area n) ∙ (tile_at-push_other before p (site_at sys.area n) differs ∙ listed n in_old)
+              let differs : spot.site ≢ site_at sys.area n = λ same. taken.gone (subst (IsIn old) (other n (sym same)) in_old) in
+              tiles (site_at sys.area n) ∙ (tile_at-push_other before p (site_at sys.area n) differs ∙ taken.listed n in_old)
           | inr bare ↦ bare
         ];
         all = λ n u within grows.
             let m = site_at sys.area n in
-            elim (IsCandidate-push sys before p m u empty (IsCandidate-same sys after (before ++ p ∷ []) m u tiles grows)) [
+            elim (IsCandidate-push sys before p m u taken.empty (IsCandidate-same sys after (before ++ p ∷ []) m u tiles grows)) [
               | inl beside ↦ around.added n beside.0 within (sym beside.1) (subst (λ (k : Site). tile_at after k ≡ None) (sym beside.1) grows.attaches.empty)
-              | inr far ↦ elim (closed n u within far.1) [
+              | inr far ↦ elim (taken.closed n u within far.1) [
                 | inl in_old ↦ around.kept n in_old
                 | inr one ↦ absurd (far.0 (sym (ap (site_at sys.area) one ∙ is.site)))
               ]
@@ -80,14 +80,14 @@ lists_filled sys before after spot t old new is closed gone listed empty tiles c
     }
 
 -- where no type attaches
-pub lists_unfilled : (sys : TileSystem) (tiles : List Place) (spot : Spot) (old : Numbers) → IsSpot sys.area spot → IsClosedBut sys tiles (λ n. IsIn old n ⊎ (n ≡ spot.number)) → AreEmptySites sys.area tiles old →
+pub lists_unfilled : (sys : TileSystem) (tiles : List Place) (spot : Spot) (old : Numbers) → IsTaken sys tiles old spot →
     ((t : TypeId) → ¬ IsCandidate sys tiles spot.site t) → ListsOn sys tiles tiles old old
-lists_unfilled sys tiles spot old is closed listed none = record {
+lists_unfilled sys tiles spot old taken none = record {
   lists = record {
-    empty = listed;
-    all = λ n t within grows. elim (closed n t within grows) [
+    empty = taken.listed;
+    all = λ n t within grows. elim (taken.closed n t within grows) [
       | inl in_old ↦ in_old
-      | inr one ↦ absurd (none t (subst (λ (m : Site). IsCandidate sys tiles m t) (ap (site_at sys.area) one ∙ is.site) grows))
+      | inr one ↦ absurd (none t (subst (λ (m : Site). IsCandidate sys tiles m t) (ap (site_at sys.area) one ∙ taken.spot.site) grows))
     ];
   };
   work = λ k. omega arith;

@@ -1,5 +1,5 @@
 -- Sites that are listed by their numbers.
-use Rattle.std.proofs.Common.{◌⊎◌, Bool, true, true≢false, not, is_some, ◌≡◌, ◌<◌, ◌≤◌, ◌+◌, ◌*◌, ℕ, List, Option, Some, None, sym, ◌∙◌, ap, subst, inl, inr, arith}
+use Rattle.std.proofs.Common.{◌⊎◌, Bool, true, true≢false, not, is_some, ◌≡◌, refl, ◌<◌, ◌≤◌, ◌+◌, ◌*◌, ℕ, List, Option, Some, None, sym, ◌∙◌, ap, subst, inl, inr, arith}
 use Rattle.std.proofs.lemmas.Bool.{cases_eq, cases_lt}
 use Rattle.std.proofs.lemmas.Option.{none-some}
 use Rattle.std.proofs.Math.Nat.{le_trans}
@@ -23,8 +23,9 @@ use Rattle.assembly.specs.Cells.{IsSiteNumber, cell_count, site_at}
 use Rattle.assembly.proofs.Cells.{at_cell, index_of, site_at-injective, site_at-inside}
 use Rattle.number_set.specs.Numbers.{Numbers, IsIn, Adds, Removes}
 use Rattle.number_set.proofs.Counting.{count_below-adds}
-use Rattle.frontier_seat.specs.Inner.Listings.{AreEmptySites, ListsAround, ListsFrontier, ListsFrontierTo, ListsSide, IsSpot}
-use Rattle.frontier_seat.specs.Inner.Looks.{IsClosedBut, ListsOpen}
+use Rattle.frontier_seat.specs.declared.work_list.Spot.{Spot}
+use Rattle.frontier_seat.specs.Inner.Listings.{AreEmptySites, ListsAround, ListsFrontier, ListsFrontierTo, ListsSide, IsSpot, TakesSpot}
+use Rattle.frontier_seat.specs.Inner.Looks.{IsClosedBut, IsTaken, ListsOpen}
 
 -- a site that is looked up by its number
 pub spot_here : (area : BoxArea) (m : Site) (n : ℕ) → n < cell_count area → m ≡ site_at area n → InBox area m → IsSpot area (record { site = m; number = n })
@@ -152,6 +153,24 @@ closed_taken sys tiles old new k removes closed n t within grows = elim (cases_e
   | inl same ↦ inr same
   | inr other ↦ inl ((removes n).1 (closed n t within grows, other))
 ]
+
+-- so a listed site is taken
+pub taken_out : (sys : TileSystem) (tiles : List Place) (old new : Numbers) (spot : Spot) →
+    IsSpot sys.area spot → tile_at tiles spot.site ≡ None → Removes old new spot.number →
+    ListsOpen sys tiles old → IsTaken sys tiles new spot
+taken_out sys tiles old new spot is empty removes lists = record {
+  spot = is;
+  gone = λ still. ((removes spot.number).0 still).1 refl;
+  empty = empty;
+  listed = λ n still. lists.empty n ((removes n).0 still).0;
+  closed = closed_taken sys tiles old new spot.number removes lists.all;
+}
+
+pub taken_spot : (sys : TileSystem) (tiles : List Place) (old new : Numbers) (spot : Spot) →
+    TakesSpot sys.area old new spot → ListsOpen sys tiles old → IsTaken sys tiles new spot
+taken_spot sys tiles old new spot takes lists =
+    let empty = ap (tile_at tiles) (sym takes.spot.site) ∙ lists.empty spot.number takes.listed in
+    taken_out sys tiles old new spot takes.spot empty takes.removed lists
 
 -- and listed again, it leaves what was
 pub lists_again : (sys : TileSystem) (tiles : List Place) (old mid new : Numbers) (k : ℕ) → IsIn old k → Removes old mid k → Adds mid new k → ListsOpen sys tiles old → ListsOpen sys tiles new

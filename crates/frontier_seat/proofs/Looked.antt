@@ -24,19 +24,19 @@ use Rattle.grow_core.specs.declared.placed_tile.PlacedTile.{PlacedTile}
 use Rattle.grow_core.specs.Core.{ScoutState, least, places}
 use Rattle.grow_core.proofs.Listed.{unplaced, whole_place}
 use Rattle.grow_core.specs.Steps.{place, tile_of, Supports, Sees, Wins}
-use Rattle.site_table.specs.Seats.{SeatValue, GoesOn}
+use Rattle.site_table.specs.Seats.{GoesOn, IsSeatOf, SeatValue, TableValue}
 use Rattle.site_table.specs.Rule.{IsPossible}
 use Rattle.site_table.proofs.Seen.{seen_fits}
 use Rattle.frontier_seat.specs.declared.growing.Growing.{Growing}
 use Rattle.frontier_seat.specs.Growths.{ClaimsNothing, EndsBurst, IsGrowing, GrowsOn}
 use Rattle.frontier_seat.specs.declared.bursting.Burst.{Burst}
 use Rattle.frontier_seat.specs.declared.bursting.Burst.TheVariants.{Quiet, Spent}
-use Rattle.frontier_seat.specs.Inner.Looks.{CatchesUp, Puts, ClaimsAt, ClaimsPick, IsClosedBut, ListsOpen, LooksAt}
+use Rattle.frontier_seat.specs.Inner.Looks.{CanLook, CatchesUp, Puts, ClaimsAt, ClaimsPick, IsTaken, ListsOpen, LooksAt}
 use Rattle.number_set.specs.Numbers.{Numbers, IsIn, Removes}
 use Rattle.assembly.specs.Cells.{cell_count}
 use Rattle.frontier_seat.specs.declared.work_list.Spot.{Spot}
-use Rattle.frontier_seat.specs.Inner.Listings.{AreEmptySites, ListsAround, IsSpot}
-use Rattle.frontier_seat.proofs.Listing.{closed_none, closed_taken}
+use Rattle.frontier_seat.specs.Inner.Listings.{ListedSites, ListsAround, IsSpot}
+use Rattle.frontier_seat.proofs.Listing.{closed_none, taken_out}
 use Rattle.frontier_seat.proofs.Filling.{beside_still, lists_filled, lists_unfilled}
 
 -- a claim leaves what stands beside its site
@@ -126,20 +126,42 @@ goes_further a b c first second =
       won = omega (arith, last, before, both);
     }
 
+-- after a look it can look on
+pub can_again : (sys : TileSystem) (table : TableValue) (before after : Growing) (old new : ListedSites) →
+    CanLook sys table before old → GrowsOn before after → IsGrowing sys after → new.area ≡ old.area →
+    CanLook sys table after new
+can_again sys table before after old new can goes growing area = record {
+  seat = record { table = goes.seat.table ∙ can.seat.table; sys = goes.seat.sys ∙ can.seat.sys };
+  system = can.system;
+  growing = growing;
+  area = area ∙ can.area;
+}
+
+-- of a seat of the table
+pub can_look : (sys : TileSystem) (table : TableValue) (g : Growing) (work : ListedSites) →
+    IsSeatOf table g.seat → table.sys ≡ sys → IsGrowing g.seat.sys g → work.area ≡ g.seat.sys.area →
+    CanLook sys table g work
+can_look sys table g work seat system growing area =
+    let same : g.seat.sys ≡ sys = seat.sys ∙ system in
+    record {
+      seat = seat;
+      system = system;
+      growing = subst (λ (z : TileSystem). IsGrowing z g) same growing;
+      area = area ∙ ap (λ (z : TileSystem). z.area) same;
+    }
+
 -- where a type attaches and is claimed
-pub looked_at_some : (sys : TileSystem) (before after : Growing) (spot : Spot) (old new : Numbers) → IsSpot sys.area spot →
-    IsClosedBut sys before.grid.tiles (λ n. IsIn old n ⊎ (n ≡ spot.number)) → ¬ IsIn old spot.number → AreEmptySites sys.area before.grid.tiles old →
-    tile_at before.grid.tiles spot.site ≡ None → ClaimsAt sys spot.site before after → ListsAround sys.area after.grid.tiles spot.site old new → LooksAt sys before after old new
-looked_at_some sys before after spot old new is closed gone listed empty claim around =
-    let on = lists_filled sys before.grid.tiles after.grid.tiles spot claim.tile old new is closed gone listed empty claim.tiles claim.count around in
+pub looked_at_some : (sys : TileSystem) (before after : Growing) (spot : Spot) (old new : Numbers) → IsTaken sys before.grid.tiles old spot →
+    ClaimsAt sys spot.site before after → ListsAround sys.area after.grid.tiles spot.site old new → LooksAt sys before after old new
+looked_at_some sys before after spot old new taken claim around =
+    let on = lists_filled sys before.grid.tiles after.grid.tiles spot claim.tile old new taken claim.tiles claim.count around in
     record { growing = claim.growing; goes = claim.goes; closed = on.lists.all; listed = on.lists.empty; work = on.work }
 
 -- where no type attaches
-pub looked_at_none : (sys : TileSystem) (g : Growing) (spot : Spot) (old : Numbers) → IsGrowing sys g → IsSpot sys.area spot →
-    IsClosedBut sys g.grid.tiles (λ n. IsIn old n ⊎ (n ≡ spot.number)) → AreEmptySites sys.area g.grid.tiles old →
+pub looked_at_none : (sys : TileSystem) (g : Growing) (spot : Spot) (old : Numbers) → IsGrowing sys g → IsTaken sys g.grid.tiles old spot →
     ((t : TypeId) → ¬ IsCandidate sys g.grid.tiles spot.site t) → LooksAt sys g g old old
-looked_at_none sys g spot old growing is closed listed none =
-    let on = lists_unfilled sys g.grid.tiles spot old is closed listed none in
+looked_at_none sys g spot old growing taken none =
+    let on = lists_unfilled sys g.grid.tiles spot old taken none in
     record { growing = growing; goes = goes_nowhere g; closed = on.lists.all; listed = on.lists.empty; work = on.work }
 
 -- the work that is left
@@ -257,8 +279,8 @@ ended_quiet sys old new most Spent fewer ends = let all = ends.1 in absurd (omeg
 pub caught_up : (sys : TileSystem) (before after : Growing) (spot : Spot) (old mid new : Numbers) → IsSpot sys.area spot → tile_at before.grid.tiles spot.site ≡ None → ListsOpen sys before.grid.tiles old → Removes old mid spot.number →
     ClaimsAt sys spot.site before after → ClaimsNothing before after → ListsAround sys.area after.grid.tiles spot.site mid new → CatchesUp sys before after new
 caught_up sys before after spot old mid new is empty lists removes claim idle around =
-    let gone : ¬ IsIn mid spot.number = λ still. ((removes spot.number).0 still).1 refl in
-    let looks = looked_at_some sys before after spot mid new is (closed_taken sys before.grid.tiles old mid spot.number removes lists.all) gone (λ n still. lists.empty n ((removes n).0 still).0) empty claim around in
+    let taken = taken_out sys before.grid.tiles old mid spot is empty removes lists in
+    let looks = looked_at_some sys before after spot mid new taken claim around in
     record {
       growing = looks.growing;
       goes = looks.goes;

@@ -1,14 +1,12 @@
 // Claims up to a bound, and whether a type attaches still.
 ghost use Rattle.std.specs.Prelude.{◌≡◌, ◌⊎◌, ◌≤◌, ◌+◌, ℕ, length, None, MatchBool};
-ghost use Rattle.atam.specs.TileSystem.{IsValid};
 ghost use Rattle.atam.specs.declared.place.TypeId.{TypeId};
 ghost use Rattle.atam.specs.Placements.{tile_at};
 ghost use Rattle.atam.specs.Growth.{IsCandidate, IsClosedInBox};
-ghost use Rattle.site_table.specs.Seats.{IsSeatOf};
 ghost use Rattle.number_set.specs.Numbers.{IsIn};
 ghost use Rattle.frontier_seat.specs.Growths.{IsGrowing, GrowsOn};
 ghost use Rattle.frontier_seat.specs.Inner.Listings.{IsSpot};
-ghost use Rattle.frontier_seat.specs.Inner.Looks.{HasCandidate, ListsOpen};
+ghost use Rattle.frontier_seat.specs.Inner.Looks.{CanLook, HasCandidate, ListsOpen, TakesSteps};
 ghost use Rattle.frontier_seat.specs.Inner.Pickers.{IsPickerOf};
 
 use crate::picking::Picker;
@@ -41,23 +39,17 @@ pub(crate) fn spend<C: Chooser, L: Ledger>(
     most: u32,
     steps: &mut Steps<L>,
 )
-    requires seat { IsSeatOf table.now growing.old.seat }
-    requires system { table.now.sys ≡ sys.now }
-    requires growing { IsGrowing sys.now growing.old }
+    requires can { CanLook sys.now table.now growing.old work.old }
     requires picker { IsPickerOf sys.now picker.old }
-    requires area { work.old.area ≡ sys.now.area }
     requires lists { ListsOpen sys.now growing.old.grid.tiles work.old.numbers }
-    ensures valid { IsValid sys.now }
-    ensures growing { IsGrowing sys.now growing.new }
-    ensures goes { GrowsOn growing.old growing.new }
+    ensures can { CanLook sys.now table.now growing.new work.new }
     ensures picker { IsPickerOf sys.now picker.new }
-    ensures area { work.new.area ≡ work.old.area }
     ensures lists { ListsOpen sys.now growing.new.grid.tiles work.new.numbers }
+    ensures goes { GrowsOn growing.old growing.new }
     ensures done { ((n : ℕ) → ¬ IsIn work.new.numbers n)
         ⊎ (length growing.new.grid.tiles ≡ length growing.old.grid.tiles + most) }
     ensures most { length growing.new.grid.tiles ≤ length growing.old.grid.tiles + most }
-    ensures cost { steps.new + length growing.old.grid.tiles
-        ≡ steps.old + length growing.new.grid.tiles }
+    ensures cost { TakesSteps growing.old growing.new steps.old steps.new }
 {
     sys.recall_valid();
     let area = sys.area();

@@ -1,10 +1,8 @@
 // Looks at sites where others may have placed tiles.
-ghost use Rattle.std.specs.Prelude.{◌≡◌, ◌<◌};
+ghost use Rattle.std.specs.Prelude.{◌<◌};
 ghost use Rattle.atam.specs.Sites.{height_of};
-ghost use Rattle.site_table.specs.Seats.{IsSeatOf};
-ghost use Rattle.frontier_seat.specs.Growths.{IsGrowing, GrowsOn};
 ghost use Rattle.frontier_seat.specs.Inner.Listings.{IsSpot};
-ghost use Rattle.frontier_seat.specs.Inner.Looks.{CatchesUp, ListsOpen};
+ghost use Rattle.frontier_seat.specs.Inner.Looks.{CanLook, CatchesUp, ListsOpen};
 
 use crate::Growing;
 use crate::work_list::{Spot, WorkList};
@@ -15,14 +13,11 @@ use tile_system::System;
 // beside it are listed.
 #[inline(always)]
 fn see(sys: &System, table: &SiteTable, growing: &mut Growing, work: &mut WorkList, spot: Spot)
-    requires seat { IsSeatOf table.now growing.old.seat }
-    requires system { table.now.sys ≡ sys.now }
-    requires growing { IsGrowing sys.now growing.old }
-    requires area { work.old.area ≡ sys.now.area }
+    requires can { CanLook sys.now table.now growing.old work.old }
     requires lists { ListsOpen sys.now growing.old.grid.tiles work.old.numbers }
     requires spot { IsSpot sys.now.area spot }
     ensures catches { CatchesUp sys.now growing.old growing.new work.new.numbers }
-    ensures area { work.new.area ≡ work.old.area }
+    ensures can { CanLook sys.now table.now growing.new work.new }
 {
     sys.recall_valid();
     if let Some(_tile) = growing.grid.tile(spot.number) {
@@ -37,14 +32,11 @@ fn see(sys: &System, table: &SiteTable, growing: &mut Growing, work: &mut WorkLi
 
 // The same at each site of one row, if one is empty.
 fn see_row(sys: &System, table: &SiteTable, growing: &mut Growing, work: &mut WorkList, row: u32)
-    requires seat { IsSeatOf table.now growing.old.seat }
-    requires system { table.now.sys ≡ sys.now }
-    requires growing { IsGrowing sys.now growing.old }
-    requires area { work.old.area ≡ sys.now.area }
+    requires can { CanLook sys.now table.now growing.old work.old }
     requires lists { ListsOpen sys.now growing.old.grid.tiles work.old.numbers }
     requires row { row < height_of sys.now.area }
     ensures catches { CatchesUp sys.now growing.old growing.new work.new.numbers }
-    ensures area { work.new.area ≡ work.old.area }
+    ensures can { CanLook sys.now table.now growing.new work.new }
 {
     let area = sys.area();
     if growing.grid.is_row_full(row) {
@@ -61,13 +53,10 @@ fn see_row(sys: &System, table: &SiteTable, growing: &mut Growing, work: &mut Wo
 
 // The same in the rows beside the worker's bands.
 pub(crate) fn see_edges(sys: &System, table: &SiteTable, growing: &mut Growing, work: &mut WorkList)
-    requires seat { IsSeatOf table.now growing.old.seat }
-    requires system { table.now.sys ≡ sys.now }
-    requires growing { IsGrowing sys.now growing.old }
-    requires area { work.old.area ≡ sys.now.area }
+    requires can { CanLook sys.now table.now growing.old work.old }
     requires lists { ListsOpen sys.now growing.old.grid.tiles work.old.numbers }
     ensures catches { CatchesUp sys.now growing.old growing.new work.new.numbers }
-    ensures area { work.new.area ≡ work.old.area }
+    ensures can { CanLook sys.now table.now growing.new work.new }
 {
     let area = sys.area();
     for row in 0..area.height() {

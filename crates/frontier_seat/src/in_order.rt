@@ -1,6 +1,6 @@
 // Growth by one worker alone, which always fills the least open site and logs its tiles.
-ghost use Rattle.std.specs.Prelude.{◌≡◌, ◌⊎◌, ◌<◌, ◌≤◌, ◌+◌, ℕ, None, true, length, IfOk};
-ghost use Rattle.atam.specs.Placements.{SamePlacements, tile_at};
+ghost use Rattle.std.specs.Prelude.{◌≡◌, ◌<◌, ◌≤◌, ◌+◌, ℕ, true, length, IfOk};
+ghost use Rattle.atam.specs.Placements.{SamePlacements};
 ghost use Rattle.atam.specs.Growth.{IsClosedInBox, IsFullGrowth};
 ghost use Rattle.atam.specs.Canonical.{IsCanonical};
 ghost use Rattle.assembly.specs.Cells.{cell_count};
@@ -8,8 +8,7 @@ ghost use Rattle.number_set.specs.Numbers.{IsIn};
 ghost use Rattle.type_index.specs.Clean.{CameExact};
 ghost use Rattle.type_index.specs.Indexes.{IsIndexOf};
 ghost use Rattle.frontier_seat.specs.Inner.Fillings.{GrewSeen, IsFilling, ListsOn, MayFill};
-ghost use Rattle.frontier_seat.specs.Inner.Listings.{AreEmptySites, IsSpot};
-ghost use Rattle.frontier_seat.specs.Inner.Looks.{IsClosedBut};
+ghost use Rattle.frontier_seat.specs.Inner.Looks.{IsTaken};
 ghost use Rattle.frontier_seat.specs.Inner.Pickers.{IsPickerOf};
 
 use crate::Chooser;
@@ -47,12 +46,7 @@ fn fill<C: Chooser>(
     requires filling { IsFilling sys.now grid.old }
     requires picker { IsPickerOf sys.now picker.old }
     requires area { work.old.area ≡ sys.now.area }
-    requires spot { IsSpot sys.now.area spot }
-    requires gone { ¬ IsIn work.old.numbers spot.number }
-    requires empty { tile_at grid.old.tiles spot.site ≡ None }
-    requires listed { AreEmptySites sys.now.area grid.old.tiles work.old.numbers }
-    requires closed { IsClosedBut sys.now grid.old.tiles
-        (λ n. IsIn work.old.numbers n ⊎ (n ≡ spot.number)) }
+    requires taken { IsTaken sys.now grid.old.tiles work.old.numbers spot }
     requires room { length log.old.places < log.old.room }
     ensures filling { IsFilling sys.now grid.new }
     ensures lists { ListsOn sys.now grid.old.tiles grid.new.tiles work.old.numbers

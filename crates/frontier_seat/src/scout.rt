@@ -1,19 +1,17 @@
 // A scout that claims until nothing attaches to what it has seen.
-ghost use Rattle.std.specs.Prelude.{◌≡◌, ◌⊎◌, ◌<◌, ◌≤◌, ◌+◌, ◌-◌, ◌^◌, [], ℕ, None, length, MatchBool, IfOk, IfErr, IsTrue};
+ghost use Rattle.std.specs.Prelude.{◌≡◌, ◌<◌, ◌≤◌, ◌+◌, ◌-◌, ◌^◌, [], length, IfOk, IfErr, IsTrue};
 ghost use Rattle.atam.specs.TileSystem.{IsValid};
-ghost use Rattle.atam.specs.Placements.{SamePlacements, tile_at};
+ghost use Rattle.atam.specs.Placements.{SamePlacements};
 ghost use Rattle.atam.specs.Growth.{IsClosedInBox};
 ghost use Rattle.assembly.specs.Cells.{cell_count};
 ghost use Rattle.site_table.specs.Seats.{IsSeatOf};
 ghost use Rattle.site_table.specs.Laws.{IsFinal};
 ghost use Rattle.frontier_seat.specs.Growths.{ClaimsNothing, EndsBurst, IsGrowing, GrowsOn};
 ghost use Rattle.frontier_seat.specs.Orders.{AreCanonicalClaims};
-ghost use Rattle.type_index.specs.Clean.{GrewExact, OpensExact};
+ghost use Rattle.type_index.specs.Clean.{GrewExact};
 ghost use Rattle.type_index.specs.Indexes.{IsIndexOf};
-ghost use Rattle.number_set.specs.Numbers.{IsIn};
 ghost use Rattle.frontier_seat.specs.Inner.Insides.{IsInner};
-ghost use Rattle.frontier_seat.specs.Inner.Listings.{AreEmptySites, IsSpot};
-ghost use Rattle.frontier_seat.specs.Inner.Looks.{ClaimsPick, IsClosedBut, ListsOpen, LooksAt, MayList};
+ghost use Rattle.frontier_seat.specs.Inner.Looks.{CanLook, IsTaken, ListsOpen, LooksAt, MayList, TakesSteps, TellsLook};
 ghost use Rattle.frontier_seat.specs.Inner.Pickers.{IsPickerOf};
 
 use crate::beside_seeds::list_beside_seeds;
@@ -100,26 +98,14 @@ pub(crate) fn look<C: Chooser, L: Ledger>(
     steps: &mut Steps<L>,
 ) -> Looked
     requires boxed { area.now ≡ sys.now.area }
-    requires seat { IsSeatOf table.now growing.old.seat }
-    requires system { table.now.sys ≡ sys.now }
-    requires growing { IsGrowing sys.now growing.old }
+    requires can { CanLook sys.now table.now growing.old work.old }
     requires picker { IsPickerOf sys.now picker.old }
-    requires area { work.old.area ≡ sys.now.area }
-    requires spot { IsSpot sys.now.area spot }
-    requires gone { ¬ IsIn work.old.numbers spot.number }
-    requires empty { tile_at growing.old.grid.tiles spot.site ≡ None }
-    requires listed { AreEmptySites sys.now.area growing.old.grid.tiles work.old.numbers }
-    requires closed { IsClosedBut sys.now growing.old.grid.tiles
-        (λ n. IsIn work.old.numbers n ⊎ (n ≡ spot.number)) }
-    ensures looks { LooksAt sys.now growing.old growing.new work.old.numbers work.new.numbers }
-    ensures claims { MatchBool result.claims
-        (ClaimsPick sys.now spot.site growing.old growing.new result.picked)
-        (growing.new ≡ growing.old) }
-    ensures clean { IsTrue result.clean → OpensExact sys.now growing.old.grid.tiles spot.site }
+    requires taken { IsTaken sys.now growing.old.grid.tiles work.old.numbers spot }
+    ensures can { CanLook sys.now table.now growing.new work.new }
     ensures picker { IsPickerOf sys.now picker.new }
-    ensures area { work.new.area ≡ work.old.area }
-    ensures cost { steps.new + length growing.old.grid.tiles
-        ≡ steps.old + length growing.new.grid.tiles }
+    ensures looks { LooksAt sys.now growing.old growing.new work.old.numbers work.new.numbers }
+    ensures tells { TellsLook sys.now spot.site growing.old growing.new result }
+    ensures cost { TakesSteps growing.old growing.new steps.old steps.new }
 {
     if is_inner(area, spot.site) {
         return look_inside(
@@ -147,26 +133,14 @@ fn look_inside<C: Chooser, L: Ledger>(
 ) -> Looked
     requires boxed { area.now ≡ sys.now.area }
     requires inner { IsInner area.now spot.site }
-    requires seat { IsSeatOf table.now growing.old.seat }
-    requires system { table.now.sys ≡ sys.now }
-    requires growing { IsGrowing sys.now growing.old }
+    requires can { CanLook sys.now table.now growing.old work.old }
     requires picker { IsPickerOf sys.now picker.old }
-    requires area { work.old.area ≡ sys.now.area }
-    requires spot { IsSpot sys.now.area spot }
-    requires gone { ¬ IsIn work.old.numbers spot.number }
-    requires empty { tile_at growing.old.grid.tiles spot.site ≡ None }
-    requires listed { AreEmptySites sys.now.area growing.old.grid.tiles work.old.numbers }
-    requires closed { IsClosedBut sys.now growing.old.grid.tiles
-        (λ n. IsIn work.old.numbers n ⊎ (n ≡ spot.number)) }
-    ensures looks { LooksAt sys.now growing.old growing.new work.old.numbers work.new.numbers }
-    ensures claims { MatchBool result.claims
-        (ClaimsPick sys.now spot.site growing.old growing.new result.picked)
-        (growing.new ≡ growing.old) }
-    ensures clean { IsTrue result.clean → OpensExact sys.now growing.old.grid.tiles spot.site }
+    requires taken { IsTaken sys.now growing.old.grid.tiles work.old.numbers spot }
+    ensures can { CanLook sys.now table.now growing.new work.new }
     ensures picker { IsPickerOf sys.now picker.new }
-    ensures area { work.new.area ≡ work.old.area }
-    ensures cost { steps.new + length growing.old.grid.tiles
-        ≡ steps.old + length growing.new.grid.tiles }
+    ensures looks { LooksAt sys.now growing.old growing.new work.old.numbers work.new.numbers }
+    ensures tells { TellsLook sys.now spot.site growing.old growing.new result }
+    ensures cost { TakesSteps growing.old growing.new steps.old steps.new }
 {
     sys.recall_valid();
     let beside = beside_inner(&growing.grid, area, spot);
@@ -201,26 +175,15 @@ fn look_at_edge<C: Chooser, L: Ledger>(
     work: &mut WorkList,
     steps: &mut Steps<L>,
 ) -> Looked
-    requires seat { IsSeatOf table.now growing.old.seat }
-    requires system { table.now.sys ≡ sys.now }
-    requires growing { IsGrowing sys.now growing.old }
+    requires can { CanLook sys.now table.now growing.old work.old }
     requires picker { IsPickerOf sys.now picker.old }
-    requires area { work.old.area ≡ sys.now.area }
-    requires spot { IsSpot sys.now.area (record { site = site; number = number }) }
-    requires gone { ¬ IsIn work.old.numbers number }
-    requires empty { tile_at growing.old.grid.tiles site ≡ None }
-    requires listed { AreEmptySites sys.now.area growing.old.grid.tiles work.old.numbers }
-    requires closed { IsClosedBut sys.now growing.old.grid.tiles
-        (λ n. IsIn work.old.numbers n ⊎ (n ≡ number)) }
-    ensures looks { LooksAt sys.now growing.old growing.new work.old.numbers work.new.numbers }
-    ensures claims { MatchBool result.claims
-        (ClaimsPick sys.now site growing.old growing.new result.picked)
-        (growing.new ≡ growing.old) }
-    ensures clean { IsTrue result.clean → OpensExact sys.now growing.old.grid.tiles site }
+    requires taken { IsTaken sys.now growing.old.grid.tiles work.old.numbers
+        (record { site = site; number = number }) }
+    ensures can { CanLook sys.now table.now growing.new work.new }
     ensures picker { IsPickerOf sys.now picker.new }
-    ensures area { work.new.area ≡ work.old.area }
-    ensures cost { steps.new + length growing.old.grid.tiles
-        ≡ steps.old + length growing.new.grid.tiles }
+    ensures looks { LooksAt sys.now growing.old growing.new work.old.numbers work.new.numbers }
+    ensures tells { TellsLook sys.now site growing.old growing.new result }
+    ensures cost { TakesSteps growing.old growing.new steps.old steps.new }
 {
     sys.recall_valid();
     let beside = growing.grid.beside_at(site, number);

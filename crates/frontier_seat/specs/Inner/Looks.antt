@@ -1,5 +1,5 @@
 -- One look at a site, and the claim there.
-use Rattle.std.specs.Prelude.{◌≡◌, ℕ, ◌+◌, ◌-◌, ◌*◌, ◌^◌, ◌≤◌, ◌<◌, ◌⊎◌, List, [], ◌∷◌, ◌++◌, length, Bool, true, MatchBool, Option, MatchOption}
+use Rattle.std.specs.Prelude.{◌≡◌, ℕ, ◌+◌, ◌-◌, ◌*◌, ◌^◌, ◌≤◌, ◌<◌, ◌⊎◌, List, [], ◌∷◌, ◌++◌, length, Bool, true, None, MatchBool, Option, MatchOption}
 use Rattle.atam.specs.declared.site.Site.{Site}
 use Rattle.atam.specs.declared.place.TypeId.{TypeId}
 use Rattle.atam.specs.declared.place.Place.{Place}
@@ -8,13 +8,15 @@ use Rattle.atam.specs.Placements.{SamePlacements, HasDistinctSites, tile_at}
 use Rattle.atam.specs.Growth.{IsCandidate}
 use Rattle.assembly.specs.Cells.{cell_count, site_at}
 use Rattle.grow_core.specs.Steps.{place}
+use Rattle.site_table.specs.Seats.{IsSeatOf, TableValue}
 use Rattle.number_set.specs.Numbers.{Numbers, IsIn, count_below}
 use Rattle.type_index.specs.Clean.{OpensExact}
 use Rattle.frontier_seat.specs.declared.growing.Growing.{Growing}
+use Rattle.frontier_seat.specs.declared.scout.Looked.{Looked}
 use Rattle.frontier_seat.specs.declared.work_list.Spot.{Spot}
 use Rattle.frontier_seat.specs.Growths.{ClaimsNothing, GrowsOn, IsGrowing}
 use Rattle.frontier_seat.specs.Orders.{LoggedClaims}
-use Rattle.frontier_seat.specs.Inner.Listings.{AreEmptySites}
+use Rattle.frontier_seat.specs.Inner.Listings.{AreEmptySites, IsSpot, ListedSites}
 
 -- a tile more in the grid
 pub record Puts (p : Place) (old new : Growing) : Type 0 where
@@ -61,6 +63,22 @@ MayLogClaim sys spot before after old new = LogsClaim sys spot before after old 
 abbrev pub IsClosedBut : TileSystem → List Place → (ℕ → Type 0) → Type 0
 IsClosedBut sys tiles Listed = (n : ℕ) (t : TypeId) → n < cell_count sys.area → IsCandidate sys tiles (site_at sys.area n) t → Listed n
 
+-- a seat of the table with what it has seen, and the list of sites to look at, all of one system
+pub record CanLook (sys : TileSystem) (table : TableValue) (g : Growing) (work : ListedSites) : Type 0 where
+  pub seat : IsSeatOf table g.seat
+  pub system : table.sys ≡ sys
+  pub growing : IsGrowing sys g
+  pub area : work.area ≡ sys.area
+
+-- an empty site of the box, listed no longer; the listed ones are empty, at no other a type attaches
+pub record IsTaken (sys : TileSystem) (tiles : List Place) (numbers : Numbers) (taken : Spot) :
+    Type 0 where
+  pub spot : IsSpot sys.area taken
+  pub gone : ¬ IsIn numbers taken.number
+  pub empty : tile_at tiles taken.site ≡ None
+  pub listed : AreEmptySites sys.area tiles numbers
+  pub closed : IsClosedBut sys tiles (λ n. IsIn numbers n ⊎ (n ≡ taken.number))
+
 -- the listed sites are empty, and each site of the box at which a type attaches is listed
 pub record ListsOpen (sys : TileSystem) (tiles : List Place) (numbers : Numbers) : Type 0 where
   pub empty : AreEmptySites sys.area tiles numbers
@@ -94,3 +112,13 @@ pub record LooksAt (sys : TileSystem) (before after : Growing) (old new : Number
   pub closed : IsClosedBut sys after.grid.tiles (IsIn new)
   pub listed : AreEmptySites sys.area after.grid.tiles new
   pub work : (k : ℕ) → count_below new k + 4 * length before.grid.tiles ≤ count_below old k + 4 * length after.grid.tiles
+
+-- A look tells whether a type attached at the site, which was then claimed, and whether it is clear
+-- that whichever attached comes clean.
+pub record TellsLook (sys : TileSystem) (site : Site) (before after : Growing) (told : Looked) : Type 0 where
+  pub claims : MatchBool told.claims (ClaimsPick sys site before after told.picked) (after ≡ before)
+  pub clean : told.clean ≡ true → OpensExact sys before.grid.tiles site
+
+-- each tile that came took one step
+abbrev pub TakesSteps : Growing → Growing → ℕ → ℕ → Type 0
+TakesSteps before after start end = end + length before.grid.tiles ≡ start + length after.grid.tiles

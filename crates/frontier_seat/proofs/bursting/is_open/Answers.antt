@@ -7,7 +7,7 @@ use Rattle.atam.specs.Placements.{tile_at}
 use Rattle.number_set.proofs.Counting.{count_below-removes}
 use Rattle.frontier_seat.specs.Inner.Listings.{TakesSpot}
 use Rattle.frontier_seat.specs.Inner.Looks.{HasCandidate}
-use Rattle.frontier_seat.proofs.Listing.{closed_none, closed_taken, lists_again}
+use Rattle.frontier_seat.proofs.Listing.{closed_none, lists_again, taken_spot}
 use Rattle.frontier_seat.proofs.Looked.{looked_at_none}
 use Rattle.frontier_seat.proofs.bursting.is_open.Goals as goal
 
@@ -27,8 +27,7 @@ loop-spot-preserved g c =
     let mid = c.take.new.self.numbers in
     let takes = subst (λ (a : BoxArea). TakesSpot a c.loop-spot.work.numbers mid spot) (inv.area ∙ c.requires.area) c.in-Some.ensures.takes in
     let none = subst (λ (b : Bool). MatchBool b (HasCandidate sys tiles spot.site) ((t : TypeId) → ¬ IsCandidate sys tiles spot.site t)) c.if-attaches.false c.attaches.ensures.open in
-    let looks = looked_at_none sys c.args.growing.now spot mid c.requires.growing takes.spot (closed_taken sys tiles c.loop-spot.work.numbers mid spot.number takes.removed inv.lists.all)
-    (λ n still. inv.lists.empty n ((takes.removed n).0 still).0) none in
+    let looks = looked_at_none sys c.args.growing.now spot mid c.requires.growing (taken_spot sys tiles c.loop-spot.work.numbers mid spot takes inv.lists) none in
     record {
       picker = c.attaches.ensures.picker;
       area = c.take.ensures.area ∙ inv.area;

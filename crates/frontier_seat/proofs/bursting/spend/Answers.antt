@@ -1,30 +1,40 @@
-use Rattle.std.proofs.Common.{◌≡◌, ◌∙◌, Bool, MatchBool, length, ap, subst, arith}
+use Rattle.std.proofs.Common.{◌≡◌, Bool, MatchBool, length, ap, subst, arith}
 use Rattle.atam.specs.declared.area.BoxArea.{BoxArea}
 use Rattle.assembly.specs.Cells.{cell_count}
 use Rattle.number_set.proofs.Counting.{count_below-removes}
 use Rattle.frontier_seat.specs.declared.growing.Growing.{Growing}
 use Rattle.frontier_seat.specs.Inner.Listings.{TakesSpot}
 use Rattle.frontier_seat.specs.Inner.Looks.{ClaimsPick}
+use Rattle.frontier_seat.proofs.Listing.{taken_spot}
 use Rattle.frontier_seat.proofs.Looked.{few_tiles, goes_further, goes_nowhere, less_work}
 use Rattle.frontier_seat.proofs.bursting.spend.Goals as goal
 
 pub loop-left-init : goal.loop-left-init
 loop-left-init g c = record {
-  growing = c.requires.growing;
-  goes = goes_nowhere c.args.growing.now;
+  can = c.requires.can;
   picker = c.requires.picker;
-  area = λ _. c.args.work.now.area;
+  goes = goes_nowhere c.args.growing.now;
   lists = c.requires.lists;
   made = omega arith;
   cost = omega arith;
 }
+
+pub look-seen-requires-clause-taken : goal.look-seen-requires-clause-taken
+look-seen-requires-clause-taken g c =
+    let inv = c.loop-left.invariant in
+    let old = c.loop-left.work.numbers in
+    let new = c.take.new.self.numbers in
+    let spot = c.in-Some.spot in
+    let takes = subst (λ (a : BoxArea). TakesSpot a old new spot)
+    inv.can.area c.in-Some.ensures.takes in
+    taken_spot c.args.sys.now c.loop-left.growing.grid.tiles old new spot takes inv.lists
 
 pub loop-left-smaller-then-seen : goal.loop-left-smaller-then-seen
 loop-left-smaller-then-seen g c =
     let sys = c.args.sys.now in
     let n = cell_count sys.area in
     let looks = c.look-seen.ensures.looks in
-    let takes = subst (λ (a : BoxArea). TakesSpot a c.loop-left.work.numbers c.take.new.self.numbers c.in-Some.spot) (c.loop-left.invariant.area ∙ c.requires.area) c.in-Some.ensures.takes in
+    let takes = subst (λ (a : BoxArea). TakesSpot a c.loop-left.work.numbers c.take.new.self.numbers c.in-Some.spot) c.loop-left.invariant.can.area c.in-Some.ensures.takes in
     less_work n (length c.loop-left.growing.grid.tiles) (length c.look-seen.new.growing.grid.tiles) _ _ _
     (few_tiles sys c.look-seen.new.growing looks.growing)
     (count_below-removes c.loop-left.work.numbers c.take.new.self.numbers c.in-Some.spot.number n takes.removed takes.listed takes.spot.within)
@@ -35,7 +45,7 @@ loop-left-smaller g c =
     let sys = c.args.sys.now in
     let n = cell_count sys.area in
     let looks = c.look-seen.ensures.looks in
-    let takes = subst (λ (a : BoxArea). TakesSpot a c.loop-left.work.numbers c.take.new.self.numbers c.in-Some.spot) (c.loop-left.invariant.area ∙ c.requires.area) c.in-Some.ensures.takes in
+    let takes = subst (λ (a : BoxArea). TakesSpot a c.loop-left.work.numbers c.take.new.self.numbers c.in-Some.spot) c.loop-left.invariant.can.area c.in-Some.ensures.takes in
     less_work n (length c.loop-left.growing.grid.tiles) (length c.look-seen.new.growing.grid.tiles) _ _ _
     (few_tiles sys c.look-seen.new.growing looks.growing)
     (count_below-removes c.loop-left.work.numbers c.take.new.self.numbers c.in-Some.spot.number n takes.removed takes.listed takes.spot.within)
@@ -49,13 +59,12 @@ loop-left-preserved-then-seen g c =
     let before = inv.cost in
     let made = inv.made in
     let some = c.loop-left-test.true in
-    let claim = subst (λ (b : Bool). MatchBool b (ClaimsPick c.args.sys.now c.in-Some.spot.site c.loop-left.growing c.look-seen.new.growing c.look-seen.result.picked) (c.look-seen.new.growing ≡ c.loop-left.growing)) c.if-seen.true c.look-seen.ensures.claims in
+    let claim = subst (λ (b : Bool). MatchBool b (ClaimsPick c.args.sys.now c.in-Some.spot.site c.loop-left.growing c.look-seen.new.growing c.look-seen.result.picked) (c.look-seen.new.growing ≡ c.loop-left.growing)) c.if-seen.true c.look-seen.ensures.tells.claims in
     let count = claim.claim.count in
     record {
-      growing = looks.growing;
-      goes = goes_further c.args.growing.now c.loop-left.growing c.look-seen.new.growing inv.goes looks.goes;
+      can = c.look-seen.ensures.can;
       picker = c.look-seen.ensures.picker;
-      area = c.look-seen.ensures.area ∙ (c.take.ensures.area ∙ inv.area);
+      goes = goes_further c.args.growing.now c.loop-left.growing c.look-seen.new.growing inv.goes looks.goes;
       lists = record { empty = looks.listed; all = looks.closed };
       made = omega (arith, made, count, some);
       cost = omega (arith, cost, before);
@@ -68,13 +77,12 @@ loop-left-preserved g c =
     let cost = c.look-seen.ensures.cost in
     let before = inv.cost in
     let made = inv.made in
-    let same : c.look-seen.new.growing ≡ c.loop-left.growing = subst (λ (b : Bool). MatchBool b (ClaimsPick c.args.sys.now c.in-Some.spot.site c.loop-left.growing c.look-seen.new.growing c.look-seen.result.picked) (c.look-seen.new.growing ≡ c.loop-left.growing)) c.if-seen.false c.look-seen.ensures.claims in
+    let same : c.look-seen.new.growing ≡ c.loop-left.growing = subst (λ (b : Bool). MatchBool b (ClaimsPick c.args.sys.now c.in-Some.spot.site c.loop-left.growing c.look-seen.new.growing c.look-seen.result.picked) (c.look-seen.new.growing ≡ c.loop-left.growing)) c.if-seen.false c.look-seen.ensures.tells.claims in
     let count = ap (λ (h : Growing). length h.grid.tiles) same in
     record {
-      growing = looks.growing;
-      goes = goes_further c.args.growing.now c.loop-left.growing c.look-seen.new.growing inv.goes looks.goes;
+      can = c.look-seen.ensures.can;
       picker = c.look-seen.ensures.picker;
-      area = c.look-seen.ensures.area ∙ (c.take.ensures.area ∙ inv.area);
+      goes = goes_further c.args.growing.now c.loop-left.growing c.look-seen.new.growing inv.goes looks.goes;
       lists = record { empty = looks.listed; all = looks.closed };
       made = omega (arith, made, count);
       cost = omega (arith, cost, before);

@@ -1,18 +1,17 @@
 use Rattle.std.proofs.Common.{◌≡◌, ◌+◌, ◌-◌, ◌*◌, length}
 use Rattle.assembly.specs.Cells.{cell_count}
 use Rattle.number_set.specs.Numbers.{count_below}
-use Rattle.frontier_seat.specs.Growths.{IsGrowing, GrowsOn}
-use Rattle.frontier_seat.specs.Inner.Looks.{ListsOpen}
+use Rattle.frontier_seat.specs.Growths.{GrowsOn}
+use Rattle.frontier_seat.specs.Inner.Looks.{CanLook, ListsOpen}
 use Rattle.frontier_seat.specs.Inner.Pickers.{IsPickerOf}
 use Rattle.frontier_seat.proofs.bursting.spend.Given as goal
 
 -- what may be open is listed, and each claim that was made added a tile
 abbrev pub invariant-loop-left : goal.invariant-loop-left
 invariant-loop-left g l = record {
-  growing : IsGrowing l.sys l.growing;
-  goes : GrowsOn l.fn.growing l.growing;
+  can : CanLook l.sys l.table l.growing l.work;
   picker : IsPickerOf l.sys l.picker;
-  area : l.work.area ≡ l.fn.work.area;
+  goes : GrowsOn l.fn.growing l.growing;
   lists : ListsOpen l.sys l.growing.grid.tiles l.work.numbers;
   made : length l.growing.grid.tiles + l.left ≡ length l.fn.growing.grid.tiles + l.most;
   cost : l.steps + length l.fn.growing.grid.tiles ≡ l.fn.steps + length l.growing.grid.tiles;

@@ -1,4 +1,3 @@
-use Rattle.std.proofs.Common.{◌∙◌}
 use Rattle.frontier_seat.proofs.Looked.{caught_more}
 use Rattle.frontier_seat.proofs.catching.see_edges.Goals.{then-is_beside, else-is_beside}
 use Rattle.frontier_seat.proofs.catching.see_edges.Goals as goal
@@ -9,7 +8,7 @@ loop-row-preserved c =
     elim c.if-is_beside.branch [
       | then-is_beside w ↦ rw (w.growing-is, w.work-is) (record {
         catches = caught_more c.args.sys.now c.args.growing.now c.loop-row.growing w.see_row.new.growing c.loop-row.work.numbers w.see_row.new.work.numbers inv.catches w.see_row.ensures.catches;
-        area = w.see_row.ensures.area ∙ inv.area;
+        can = w.see_row.ensures.can;
       })
       | else-is_beside w ↦ rw (w.growing-is, w.work-is) inv
     ]

@@ -1,4 +1,4 @@
-use Rattle.std.proofs.Common.{◌+◌, ◌*◌, ◌∙◌, refl, subst}
+use Rattle.std.proofs.Common.{◌+◌, ◌*◌, refl, subst}
 use Rattle.atam.specs.declared.area.BoxArea.{BoxArea}
 use Rattle.frontier_seat.specs.Inner.Listings.{IsSpot}
 use Rattle.frontier_seat.proofs.Listing.{spot_in_row}
@@ -16,5 +16,5 @@ loop-column-preserved c =
     let inv = c.loop-column.invariant in
     record {
       catches = caught_more c.args.sys.now c.args.growing.now c.loop-column.growing c.see.new.growing c.loop-column.work.numbers c.see.new.work.numbers inv.catches c.see.ensures.catches;
-      area = c.see.ensures.area ∙ inv.area;
+      can = c.see.ensures.can;
     }

@@ -5,7 +5,7 @@ use Rattle.assembly.specs.Cells.{cell_count}
 use Rattle.number_set.proofs.Counting.{count_below-removes}
 use Rattle.frontier_seat.specs.declared.work_list.Spot.{Spot}
 use Rattle.frontier_seat.specs.Inner.Listings.{IsSpot}
-use Rattle.frontier_seat.proofs.Listing.{closed_none, spot_here}
+use Rattle.frontier_seat.proofs.Listing.{closed_none, spot_here, taken_spot}
 use Rattle.frontier_seat.proofs.Looked.{less_work}
 use Rattle.frontier_seat.proofs.Ordering.{few_logged, least_listed, seen_more, seen_stays}
 use Rattle.frontier_seat.proofs.in_order.fill_all.Goals as goal
@@ -20,6 +20,23 @@ fill-requires-clause-room g c =
     let room = inv.room in
     let enough = c.requires.room in
     omega (arith, few, some, room, enough)
+
+pub fill-requires-clause-taken : goal.fill-requires-clause-taken
+fill-requires-clause-taken g c =
+    let inv = c.loop-number.invariant in
+    let site = c.site-site.result in
+    let number = c.in-Some.number in
+    let spot : Spot = record { site = site; number = number } in
+    let within = subst (λ (a : BoxArea). number < cell_count a)
+    (inv.area ∙ (c.requires.area ∙ sym c.area-area.ensures.area)) c.in-Some.ensures.within in
+    let is : IsSpot c.area-area.result spot = spot_here c.area-area.result site number within
+    c.site-site.ensures.site c.site-site.ensures.inside in
+    taken_spot c.args.sys.now c.loop-number.grid.tiles c.loop-number.work.numbers
+    c.take_least.new.self.numbers spot (record {
+      spot = subst (λ (a : BoxArea). IsSpot a spot) c.area-area.ensures.area is;
+      listed = c.in-Some.ensures.least.member;
+      removed = c.in-Some.ensures.removed;
+    }) inv.lists
 
 pub loop-number-smaller : goal.loop-number-smaller
 loop-number-smaller g c =

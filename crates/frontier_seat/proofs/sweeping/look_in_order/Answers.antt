@@ -7,17 +7,16 @@ use Rattle.frontier_seat.specs.declared.growing.Growing.{Growing}
 use Rattle.frontier_seat.specs.Orders.{LoggedClaims}
 use Rattle.frontier_seat.specs.Inner.Listings.{IsSpot, ListedSites}
 use Rattle.frontier_seat.specs.Inner.Looks.{ListsOpen}
-use Rattle.frontier_seat.proofs.Listing.{closed_none, closed_taken, spot_here}
+use Rattle.frontier_seat.proofs.Listing.{closed_none, spot_here, taken_spot}
 use Rattle.frontier_seat.proofs.Looked.{few_tiles, goes_further, goes_nowhere, less_work}
 use Rattle.frontier_seat.proofs.Ordering.{claims_more, claims_start, claims_stay, least_listed}
 use Rattle.frontier_seat.proofs.sweeping.look_in_order.Goals as goal
 
 pub loop-number-init : goal.loop-number-init
 loop-number-init g c = record {
-  growing = c.requires.growing;
-  goes = goes_nowhere c.args.growing.now;
+  can = c.requires.can;
   picker = c.requires.picker;
-  area = λ _. c.args.work.now.area;
+  goes = goes_nowhere c.args.growing.now;
   row = c.least-row.ensures;
   lists = c.requires.lists;
   order = λ _. claims_start c.args.sys.now c.args.growing.now.grid.tiles c.args.log.now c.area-area.ensures.valid c.requires.start c.requires.none;
@@ -31,23 +30,36 @@ pub look_logged-requires-clause-room : goal.look_logged-requires-clause-room
 look_logged-requires-clause-room g c =
     let sys = c.args.sys.now in
     let inv = c.loop-number.invariant in
-    let few = few_tiles sys c.loop-number.growing inv.growing in
-    let some = c.requires.growing.some_tile in
+    let few = few_tiles sys c.loop-number.growing inv.can.growing in
+    let some = c.requires.can.growing.some_tile in
     let count = inv.count in
     let room = inv.room in
     let enough = c.requires.room in
     omega (arith, few, some, count, room, enough)
 
-pub look_logged-requires-clause-closed : goal.look_logged-requires-clause-closed
-look_logged-requires-clause-closed g c =
-    closed_taken c.args.sys.now c.loop-number.growing.grid.tiles c.loop-number.work.numbers c.take_least.new.self.numbers c.in-Some.number c.in-Some.ensures.removed c.loop-number.invariant.lists.all
+pub look_logged-requires-clause-taken : goal.look_logged-requires-clause-taken
+look_logged-requires-clause-taken g c =
+    let inv = c.loop-number.invariant in
+    let site = c.site-site.result in
+    let number = c.in-Some.number in
+    let spot : Spot = record { site = site; number = number } in
+    let within = subst (λ (a : BoxArea). number < cell_count a)
+    (inv.can.area ∙ sym c.area-area.ensures.area) c.in-Some.ensures.within in
+    let is : IsSpot c.area-area.result spot = spot_here c.area-area.result site number within
+    c.site-site.ensures.site c.site-site.ensures.inside in
+    taken_spot c.args.sys.now c.loop-number.growing.grid.tiles c.loop-number.work.numbers
+    c.take_least.new.self.numbers spot (record {
+      spot = subst (λ (a : BoxArea). IsSpot a spot) c.area-area.ensures.area is;
+      listed = c.in-Some.ensures.least.member;
+      removed = c.in-Some.ensures.removed;
+    }) inv.lists
 
 pub loop-number-smaller : goal.loop-number-smaller
 loop-number-smaller g c =
     let sys = c.args.sys.now in
     let n = cell_count sys.area in
     let looks = c.look_logged.ensures.looks in
-    let within = subst (λ (a : BoxArea). c.in-Some.number < cell_count a) (c.loop-number.invariant.area ∙ c.requires.area) c.in-Some.ensures.within in
+    let within = subst (λ (a : BoxArea). c.in-Some.number < cell_count a) c.loop-number.invariant.can.area c.in-Some.ensures.within in
     less_work n (length c.loop-number.growing.grid.tiles) (length c.look_logged.new.growing.grid.tiles) _ _ _
     (few_tiles sys c.look_logged.new.growing looks.growing)
     (count_below-removes c.loop-number.work.numbers c.take_least.new.self.numbers c.in-Some.number n c.in-Some.ensures.removed c.in-Some.ensures.least.member within)
@@ -66,20 +78,19 @@ loop-number-preserved g c =
     let site = c.site-site.result in
     let number = c.in-Some.number in
     let is : IsSpot c.area-area.result (record { site = site; number = number }) =
-    spot_here c.area-area.result site number (subst (λ (a : BoxArea). number < cell_count a) (inv.area ∙ (c.requires.area ∙ sym c.area-area.ensures.area)) c.in-Some.ensures.within) c.site-site.ensures.site c.site-site.ensures.inside in
+    spot_here c.area-area.result site number (subst (λ (a : BoxArea). number < cell_count a) (inv.can.area ∙ sym c.area-area.ensures.area) c.in-Some.ensures.within) c.site-site.ensures.site c.site-site.ensures.inside in
     let spot : Spot = record { site = site; number = number } in
     let is_own : IsSpot sys.area spot = subst (λ (a : BoxArea). IsSpot a spot) c.area-area.ensures.area is in
     let cost = c.look_logged.ensures.cost in
     let was = inv.cost in
     record {
-      growing = looks.growing;
-      goes = goes_further c.args.growing.now before after inv.goes looks.goes;
+      can = c.look_logged.ensures.can;
       picker = c.look_logged.ensures.picker;
-      area = c.look_logged.ensures.area ∙ (c.take_least.ensures.area ∙ inv.area);
+      goes = goes_further c.args.growing.now before after inv.goes looks.goes;
       row = c.site-site.ensures.row;
       lists = record { empty = looks.listed; all = looks.closed };
       order = λ said. elim c.look_logged.ensures.logs [
-        | inl logged ↦ claims_more sys before after spot old new inv.growing is_own
+        | inl logged ↦ claims_more sys before after spot old new inv.can.growing is_own
             (least_listed sys before.grid.tiles numbers spot c.area-area.ensures.valid.box is_own inv.lists.all c.in-Some.ensures.least) logged (logged.in_order said).1 (inv.order (logged.in_order said).0)
         | inr same ↦ claims_stay sys before after old new same.0 same.1 (inv.order (sym (ap (λ (l : LoggedClaims). l.in_order) same.1) ∙ said))
       ];

@@ -2,19 +2,18 @@ use Rattle.std.proofs.Common.{◌≡◌, ◌+◌, ◌-◌, ◌*◌, ◌^◌, tru
 use Rattle.assembly.specs.Cells.{cell_count}
 use Rattle.assembly.specs.Rows.{IsRow}
 use Rattle.number_set.specs.Numbers.{count_below}
-use Rattle.frontier_seat.specs.Growths.{IsGrowing, GrowsOn}
+use Rattle.frontier_seat.specs.Growths.{GrowsOn}
 use Rattle.frontier_seat.specs.Inner.Fillings.{GrewByLog}
-use Rattle.frontier_seat.specs.Inner.Looks.{ListsOpen}
+use Rattle.frontier_seat.specs.Inner.Looks.{CanLook, ListsOpen}
 use Rattle.frontier_seat.specs.Inner.Pickers.{IsPickerOf}
 use Rattle.frontier_seat.proofs.sweeping.look_in_order.Given as goal
 
 -- what is listed is all that may be open, and what was claimed is logged
 abbrev pub invariant-loop-number : goal.invariant-loop-number
 invariant-loop-number g l = record {
-  growing : IsGrowing l.sys l.growing;
-  goes : GrowsOn l.fn.growing l.growing;
+  can : CanLook l.sys l.table l.growing l.work;
   picker : IsPickerOf l.sys l.picker;
-  area : l.work.area ≡ l.fn.work.area;
+  goes : GrowsOn l.fn.growing l.growing;
   row : IsRow l.area l.row;
   lists : ListsOpen l.sys l.growing.grid.tiles l.work.numbers;
   order : l.log.in_order ≡ true → GrewByLog l.sys l.growing.grid.tiles l.log;

@@ -13,13 +13,13 @@ pub returns-clause-last : goal.returns-clause-last
 returns-clause-last g c closed =
     let sys = c.args.sys.now in
     let new = c.spend.new.growing in
-    let growing = c.spend.ensures.growing in
+    let growing = c.spend.ensures.can.growing in
     let real : IsPossible sys new.seat.scout = subst (λ z. IsPossible z new.seat.scout) growing.system c.recall_possible.ensures.possible in
     finally sys new.seat.scout real.valid (closed_seen sys new growing real.scout.distinct closed)
 
 pub returns-clause-fewer : goal.returns-clause-fewer
 returns-clause-fewer g c =
-    let few = few_tiles c.args.sys.now c.spend.new.growing c.spend.ensures.growing in
+    let few = few_tiles c.args.sys.now c.spend.new.growing c.spend.ensures.can.growing in
     let some = c.self.invariant.0.some_tile in
     let cost = c.spend.ensures.cost in
     omega (arith, few, some, cost)
@@ -43,4 +43,4 @@ returns-clause-ends g c =
     ])
 
 pub returns-clause-room : goal.returns-clause-room
-returns-clause-room g c = few_tiles c.args.sys.now c.spend.new.growing c.spend.ensures.growing
+returns-clause-room g c = few_tiles c.args.sys.now c.spend.new.growing c.spend.ensures.can.growing
