@@ -1,6 +1,5 @@
 // Growth by one worker in canonical order.
 ghost use Rattle.std.specs.Prelude.{◌≡◌, ◌<◌, ◌-◌, ◌^◌, [], IfOk, IfSome, IsTrue};
-ghost use Rattle.atam.specs.Canonical.{IsCanonical};
 ghost use Rattle.type_index.specs.Indexes.{IsIndexOf};
 ghost use Rattle.grow_workers.specs.Workers.{IsGrownBy, IsSeenOrder};
 ghost use Rattle.grow_workers.specs.Inner.Sharing.{BeginsLog, HasSeen, IsLogOf, IsOrderLog, IsShared};
@@ -12,7 +11,7 @@ use crate::picks::picks_in_order;
 use crate::prepared::{Prepared, prepare};
 use crate::shared::Shared;
 use crate::team::Team;
-use assembly::{Grid, Sequence};
+use assembly::Grid;
 use fan_out::WorkerCount;
 use frontier_seat::ClaimLog;
 use site_table::{Grown, SiteSeat};
@@ -23,28 +22,9 @@ use tile_io::{Gate, Steps};
 use tile_system::{NoMemory, System};
 use type_index::TypeIndex;
 
-/// What `grow` leaves with one worker and the choice 0, and its canonical sequence, which is the
-/// order of its claims: no pass has to find it. An index of the system's types is lent to it. It
-/// calls the gate once, before its first claim.
-pub fn grow_in_order_by_index<G: Gate>(
-    alloc: Global,
-    sys: &System,
-    types: &TypeIndex,
-    gate: &G,
-) -> Result<(Grown, Sequence), NoMemory>
-    requires { IsIndexOf sys.now types.now }
-    ensures growth { IfOk result (λ r. IsGrownBy sys.now 1 r.0) }
-    ensures order { IfOk result (λ r. IsCanonical sys.now r.0.grid.tiles r.1) }
-{
-    let (grown, seen) = grow_in_order_seeing(alloc, sys, types, gate)?;
-    let SeenOrder {
-        order,
-        clean: _clean,
-    } = seen;
-    Ok((grown, order))
-}
-
-// The same, and whether it is clear that each tile came clean, which was seen as it was claimed.
+// What `grow` leaves with one worker and the choice 0, and its canonical sequence, which is the order
+// of its claims: no pass has to find it. With it comes whether it is clear that each tile came clean,
+// which was seen as it was claimed. It calls the gate once, before its first claim.
 pub(crate) fn grow_in_order_seeing<G: Gate>(
     alloc: Global,
     sys: &System,

@@ -17,7 +17,6 @@ mod starts;
 mod team;
 
 pub use growth::{grow, grow_by_index};
-pub use in_order::grow_in_order_by_index;
 pub use numbers::worker_number;
 pub use ordered::{SeenOrder, grow_seeing_order};
 pub use picks::picks_in_order;

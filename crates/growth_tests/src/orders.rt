@@ -4,7 +4,7 @@ ghost use Rattle.atam.specs.Assembly.{Fits};
 
 use assembly::{Grid, Sequence};
 use fan_out::WorkerCount;
-use grow_workers::{SeenOrder, grow_in_order_by_index, grow_seeing_order};
+use grow_workers::{SeenOrder, grow_seeing_order};
 use replay_order::{ReplayStop, replay, replay_by};
 use site_table::Grown;
 use std::alloc::{AllocError, Global};
@@ -62,18 +62,6 @@ fn are_same(one: &Sequence, other: &Sequence) -> bool {
     true
 }
 
-// What a system grows into, its canonical order, and whether the one worker came to the gate once.
-fn grown_in_order(alloc: Global, sys: &System) -> Result<(Grown, Sequence, bool), NoMemory>
-    ensures area { IfOk result (λ r. r.0.grid.area ≡ sys.now.area) }
-    ensures fits { IfOk result (λ r. Fits sys.now r.0.grid.tiles) }
-{
-    let gate = CountingGate::make();
-    let types = TypeIndex::build(alloc, sys)?;
-    let (grown, order) = grow_in_order_by_index(alloc, sys, &types, &gate)?;
-    grown.grid().recall_sites();
-    Ok((grown, order, gate.saw_each_once(1)))
-}
-
 // Whether so many workers find this order of the grid.
 fn is_found<R: Threads + Sync>(
     rt: &R,
@@ -95,14 +83,17 @@ fn is_found<R: Threads + Sync>(
     Ok(are_same(&replay(alloc, sys, grid)?, order))
 }
 
-// Whether any number of workers find the order in which the system grows by one.
+// Whether one worker sees the order in which the system grows, and any number of workers find it.
 fn orders_agree<R: Threads + Sync>(
     rt: &R,
     alloc: Global,
     sys: &System,
 ) -> Result<bool, ReplayStop> {
-    let (grown, order, came) = grown_in_order(alloc, sys)?;
-    Ok(came && is_found(rt, alloc, sys, grown.grid(), &order)?)
+    let (grown, seen, came) = grown_seeing(rt, alloc, sys, WorkerCount::new(1))?;
+    let Some(seen) = seen else {
+        return Ok(false);
+    };
+    Ok(came && is_found(rt, alloc, sys, grown.grid(), &seen.order)?)
 }
 
 #[test]
