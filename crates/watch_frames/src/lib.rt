@@ -13,4 +13,4 @@ pub use frames::Frames;
 pub use laws::{law_extension, law_extension_grows, law_frames};
 pub use printing::print_frames;
 pub use watcher::Watcher;
-pub use watching::watch;
+pub use watching::{watch, watch_by_index};

@@ -3,6 +3,7 @@ ghost use Rattle.std.specs.Prelude.{◌≡◌, ◌≤◌, ◌++◌, All, IfOk, l
 ghost use Rattle.atam.specs.Growth.{IsFullGrowth};
 ghost use Rattle.atam.specs.TileSystem.{IsType};
 ghost use Rattle.tile_io.specs.declared.limits.TheConstants.{MOST_INPUT};
+ghost use Rattle.type_index.specs.Indexes.{IsIndexOf};
 ghost use Rattle.watch_frames.specs.FrameText.{frames_text};
 ghost use Rattle.watch_frames.specs.Watched.{IsWatchedGrowth};
 ghost use Rattle.tilebench.specs.Commands.Watch.{watch_row};
@@ -30,7 +31,7 @@ use std::thread::Threads;
 use tile_io::{Failed, Gate, Sink, Source};
 use tile_system::{NoMemory, System};
 use type_index::TypeIndex;
-use watch_frames::{Frames, print_frames, watch};
+use watch_frames::{Frames, print_frames, watch_by_index};
 
 /// The command.
 #[derive(Clone, Copy)]
@@ -82,28 +83,32 @@ impl Watch {
             (watch_row self.now.crew.workers.count self.now.frames.count) input.items result }
     {
         let sys = read_alone(resources.alloc, &input)?;
-        let (frames, grown) = grow_watched(resources, &sys, self.crew, self.frames)?;
-        let judged = judge_watched(resources, &sys, &grown, self.crew.workers)?;
+        let types = TypeIndex::build(resources.alloc, &sys)?;
+        let (frames, grown) = grow_watched(resources, &sys, &types, self.crew, self.frames)?;
+        let judged = judge_watched(resources, &sys, &types, &grown, self.crew.workers)?;
         let growth = growth_of(sys, grown.grid(), judged);
         Ok((Watched { frames, growth }, Some(grown)))
     }
 }
 
-// Grows a system while so many frames of it are taken.
+// Grows a system while so many frames of it are taken. The index of the types is lent.
 fn grow_watched<R: Threads + Sync, G: Gate>(
     resources: &Resources<'_, R, G>,
     sys: &System,
+    types: &TypeIndex,
     crew: Crew,
     frames: FrameCount,
 ) -> Result<(Frames, Grown), NoMemory>
+    requires { IsIndexOf sys.now types.now }
     ensures { IfOk result (λ r. IsWatchedGrowth sys.now crew.workers.count frames.count r.0 r.1) }
 {
     let Crew { workers, choice } = crew;
-    watch(
+    watch_by_index(
         resources.rt,
         resources.alloc,
         sys,
-        workers.get(),
+        types,
+        workers,
         choice,
         frames.get(),
         resources.gate,
@@ -114,15 +119,16 @@ fn grow_watched<R: Threads + Sync, G: Gate>(
 fn judge_watched<R: Threads + Sync, G: Gate>(
     resources: &Resources<'_, R, G>,
     sys: &System,
+    types: &TypeIndex,
     grown: &Grown,
     workers: WorkerCount,
 ) -> Result<JudgedGrowth, NoMemory>
+    requires index { IsIndexOf sys.now types.now }
     requires area { grown.now.grid.area ≡ sys.now.area }
     requires full { IsFullGrowth sys.now grown.now.grid.tiles }
     ensures { IfOk result (IsJudgedGrowth sys.now grown.now.grid.tiles) }
 {
-    let types = TypeIndex::build(resources.alloc, sys)?;
-    judge_grid(resources, sys, &types, grown.grid(), None, workers)
+    judge_grid(resources, sys, types, grown.grid(), None, workers)
 }
 
 /// Frames of a growth, and what the system grew into.

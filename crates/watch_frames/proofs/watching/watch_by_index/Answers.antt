@@ -10,7 +10,7 @@ use Rattle.grow_workers.specs.Workers.{GrewOn, OwnsAtLeast}
 use Rattle.watch_frames.specs.Frames.{FrameList, AreFrames}
 use Rattle.grow_workers.proofs.Splitting.{rest_owns, seeds_seen}
 use Rattle.watch_frames.proofs.Watched.{is_watched, total, watcher_won, idle_won}
-use Rattle.watch_frames.proofs.watching.watch.Goals as goal
+use Rattle.watch_frames.proofs.watching.watch_by_index.Goals as goal
 
 pub split-kept-requires-clause-two : goal.split-kept-requires-clause-two
 split-kept-requires-clause-two g c = subst OwnsTwoOrMore (sym c.in_ok-table.ensures.scout.owned) two-all
@@ -23,10 +23,10 @@ make-requires-2-clause-seen g c =
 
 pub grow_watched-watcher-requires-clause-numbers : goal.grow_watched-watcher-requires-clause-numbers
 grow_watched-watcher-requires-clause-numbers g c κs within =
-    let few = c.requires.few in
+    let few = c.args.workers.few in
     let all = c.in_ok-table.ensures.scout.owned in
     let rest = c.split-kept.ensures.kept.owned ∙ ap (λ (o : ℕ). o - 2 ^ greatest o) all in
-    subst (OwnsAtLeast c.args.workers) (sym rest) (rest_owns c.args.workers (omega (arith, few)))
+    subst (OwnsAtLeast c.args.workers.count) (sym rest) (rest_owns c.args.workers.count (omega (arith, few)))
 
 pub grow_watched-watcher-requires-clause-seen : goal.grow_watched-watcher-requires-clause-seen
 grow_watched-watcher-requires-clause-seen g c κs within =
@@ -62,8 +62,8 @@ returns g c =
     let none_old : c.split-kept.result.0.scout.mine ≡ [] =
     c.split-kept.ensures.kept.mine ∙ ap (kept_tiles (greatest first.owned)) c.in_ok-table.ensures.scout.mine
     in
-    let few = c.requires.few in
-    let count : length c.in_ok-kept._wins.items ≡ c.args.workers = search rules in
+    let few = c.args.workers.few in
+    let count : length c.in_ok-kept._wins.items ≡ c.args.workers.count = search rules in
     record {
       watched = is_watched sys c.args.frames frames.places frames.counts c.split-kept.result.0 kept given joined c.in_ok-seen.seen c.in_ok-kept.grid c.in_ok-kept._wins.items c.close.result
           c.recall_valid.ensures.valid are taken c.end-given.ensures.part c.join-seat.ensures.union c.in_ok-seen.ensures.seeds grew c.recall_sites.ensures.distinct closes;
@@ -72,7 +72,7 @@ returns g c =
         numbers = closes.numbers;
         watcher = watcher_won sys kept.scout given.scout joined.scout c.close.result rest top c.join-seat.ensures.union closes kept.sys c.recall_possible.ensures.possible none;
         idle = idle_won sys kept.scout given.scout joined.scout c.close.result rest top c.join-seat.ensures.union closes kept.sys c.recall_possible.ensures.possible none
-            c.split-kept.result.0.scout (sym grew.seat.owned) none_old c.in_ok-kept._wins.items grew.workers_win c.args.workers count few;
+            c.split-kept.result.0.scout (sym grew.seat.owned) none_old c.in_ok-kept._wins.items grew.workers_win c.args.workers.count count few;
         total = total sys kept.scout given.scout joined.scout c.close.result rest top c.join-seat.ensures.union closes c.recall_valid.ensures.valid;
       };
     }
