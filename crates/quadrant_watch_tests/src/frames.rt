@@ -2,4 +2,3 @@
 mod answers;
 mod commands;
 mod meetings;
-mod watchers;

@@ -5,6 +5,7 @@ ghost use Rattle.atam.specs.TileSystem.{IsType};
 ghost use Rattle.atam.specs.Placements.{SamePlacements};
 ghost use Rattle.grow_core.specs.Steps.{IsScoutOf, Supports};
 ghost use Rattle.site_table.specs.Seats.{IsSeatOf};
+ghost use Rattle.grow_workers.specs.Workers.{OwnsAtLeast};
 
 use assembly::{Grid, grid_of_seeds};
 use attach_rule::pull;
@@ -18,7 +19,7 @@ use tile_io::Steps;
 use tile_system::{NoMemory, Placed, Site, System, TypeId};
 use worked_systems::{CHAIN, RIVALS, system};
 
-const BESIDE: Site = Site { x: 1, y: 0 };
+pub(crate) const BESIDE: Site = Site { x: 1, y: 0 };
 
 const THIRD: Site = Site { x: 2, y: 0 };
 
@@ -72,8 +73,8 @@ fn claim_counted<L: Ledger>(
     Some(table.claim(seat, site, tile, &mut steps))
 }
 
-// It picks the ledger.
-fn claim_alone(
+// A claim at the site beside the seed. It picks the ledger.
+pub(crate) fn claim_alone(
     sys: &System,
     table: &SiteTable,
     mut seat: SiteSeat,
@@ -98,6 +99,7 @@ pub(crate) fn split(table: &SiteTable, seat: SiteSeat, seeds: &Grid) -> (SiteSea
     ensures second { IsSeatOf table.now result.1 }
     ensures first_seen { SamePlacements result.0.scout.seen seeds.now.tiles }
     ensures second_seen { SamePlacements result.1.scout.seen seeds.now.tiles }
+    ensures numbers { OwnsAtLeast 2 result.0.scout.owned }
 {
     table.split(seat)
 }
