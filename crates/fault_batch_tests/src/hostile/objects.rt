@@ -1,7 +1,10 @@
 // Sources and sinks that tell nothing of their bytes, and move them as slowly as they may or fail.
+// They count two faults for each call that fails, as if they had tried it twice.
 ghost use Rattle.std.specs.Prelude.{None};
 
 use tile_io::{Failed, Sink, Source};
+
+pub const FAULTS_A_CALL: u64 = 2;
 
 // Text that is given byte by byte. The call of one number fails, and all later ones too, also where
 // the text had its end told before.
@@ -37,7 +40,7 @@ impl Source for Drip {
         let call = self.calls;
         self.calls = call.saturating_add(1);
         if call >= self.fails_from {
-            self.faults = self.faults.saturating_add(1);
+            self.faults = self.faults.saturating_add(FAULTS_A_CALL);
             return Err(Failed);
         }
         match (self.text.as_bytes().get(call), buf.first_mut()) {
@@ -94,7 +97,7 @@ impl Sink for Narrow {
 
     fn write(&mut self, piece: &[u8]) -> Result<usize, Failed> {
         if self.taken >= self.room {
-            self.faults = self.faults.saturating_add(1);
+            self.faults = self.faults.saturating_add(FAULTS_A_CALL);
             return Err(Failed);
         }
         let count = piece.len().min(1);

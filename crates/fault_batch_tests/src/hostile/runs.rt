@@ -1,5 +1,5 @@
 // How runs end over objects that tell nothing.
-use crate::hostile::objects::{Drip, Endless, Narrow};
+use crate::hostile::objects::{Drip, Endless, FAULTS_A_CALL, Narrow};
 use std::alloc::{AllocError, Global};
 use std::sync::Wait;
 use std::test::Fail;
@@ -40,7 +40,7 @@ fn run_on<R: Threads + Wait + Sync, S: Source>(
 }
 
 // The first number of bytes of the chain's text after which the source fails and the run ends
-// otherwise than with that one fault.
+// otherwise than with that one call's faults.
 fn first_unlike_source<R: Threads + Wait + Sync>(
     rt: &R,
     alloc: Global,
@@ -48,7 +48,7 @@ fn first_unlike_source<R: Threads + Wait + Sync>(
     for fails_from in 0..CHAIN.len() + 1 {
         let mut source = Drip::of(CHAIN, fails_from);
         let ended = run_on(rt, alloc, "grow", &mut source, AMPLE_ROOMS)?;
-        if ended != (Status::ReadFault, 0, 0) || source.faults() != 1 {
+        if ended != (Status::ReadFault, 0, 0) || source.faults() != FAULTS_A_CALL {
             return Ok(Some(fails_from));
         }
     }
@@ -112,7 +112,11 @@ fn first_unlike_empty<R: Threads + Wait + Sync>(
             err: *room,
         };
         let ended = run_on(rt, alloc, command, &mut source, rooms)?;
-        let faults = u64::from(wanted.0 == Status::ReadFault);
+        let faults = if wanted.0 == Status::ReadFault {
+            FAULTS_A_CALL
+        } else {
+            0
+        };
         if ended != *wanted || source.faults() != faults {
             return Ok(Some(number));
         }
@@ -154,14 +158,17 @@ fn dripped<R: Threads + Wait + Sync>(
 }
 
 // A source that has told its end is not asked again: where it would fail then it counts no fault, and
-// where it fails in place of its end it counts one.
+// where it fails in place of its end it counts those of one call.
 #[test]
 fn asks_no_more_behind_the_end(rt: HostRuntime) -> Result<(), Fail> {
     for (command, ended) in CHAINED {
         let behind = dripped(&rt, rt.alloc(), command, CHAIN.len() + 1)?;
         assert!(rt; behind == (ended, 0), "{command}");
         let at_end = dripped(&rt, rt.alloc(), command, CHAIN.len())?;
-        assert!(rt; at_end == ((Status::ReadFault, 0, 0), 1), "{command}");
+        assert!(rt;
+            at_end == ((Status::ReadFault, 0, 0), FAULTS_A_CALL),
+            "{command}"
+        );
     }
     Ok(())
 }
