@@ -37,7 +37,8 @@ pub fn tilebench<R: Threads + Wait + Sync, S: Source, K: Sink, E: Sink, G: Gate>
     gate: &G,
 ) -> Ran
     // By its status: `out` gained an answer, with which a growth is handed out where the command
-    // grows; or `err` gained a refusal, or a count of faults rose, or memory was wanting.
+    // grows one system; or `err` gained a refusal, or a count of faults rose, or memory was
+    // wanting.
     ensures ends { Ends S.faults K.written K.faults E.written E.faults
         (IsAnswer (map string_bytes words.now) (S.left source.old) (S.left source.new))
         (IsTextRefusal (map string_bytes words.now) (S.left source.old) (S.left source.new))
