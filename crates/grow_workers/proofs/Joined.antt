@@ -1,21 +1,24 @@
 -- Seats that were parted off one by one, and what is joined of them.
-use Rattle.std.proofs.Common.{◌≡◌, ◌<◌, ◌+◌, ℕ, Bool, true, false, if◌then◌else◌, List, [], ◌∷◌, ◌++◌, length, length-append, take, drop, get_or, All, Option, Some, None, Result, Ok, Err, IfOk, IfSome, refl, sym, ◌∙◌, ap, subst, arith}
+use Rattle.std.proofs.Common.{◌≡◌, ◌<◌, ◌+◌, ◌^◌, ℕ, Bool, true, false, if◌then◌else◌, List, [], ◌∷◌, ◌++◌, length, length-append, take, drop, get_or, All, Option, Some, None, Result, Ok, Err, IfOk, refl, sym, ◌∙◌, ap, subst, arith}
 use Rattle.std.proofs.Math.Seq.{get_or-append_seam, take-append_seam}
 use Rattle.std.specs.Option.{option_to_list}
 use Rattle.std.proofs.lemmas.List.{get_or-take, get_or_default, take-append-drop, take-append-le, take_more}
 use Rattle.std.proofs.lemmas.List.Elements.{All-get_or, All-take}
 use Rattle.atam.specs.TileSystem.{TileSystem}
 use Rattle.atam.specs.Placements.{SamePlacements}
+use Rattle.atam.specs.Growth.{IsClosedInBox}
 use Rattle.atam.proofs.Tiles.{same_back, SamePlacements-trans}
 use Rattle.assembly.specs.Grids.{TileGrid}
 use Rattle.tile_system.specs.declared.memory.NoMemory.{NoMemory}
 use Rattle.site_table.specs.Seats.{IsSeatOf, SeatValue, TableValue}
-use Rattle.frontier_seat.specs.Orders.{LoggedClaims}
+use Rattle.grow_workers.specs.declared.leavings.Harvest.{Harvest}
 use Rattle.grow_workers.specs.declared.leavings.Part.{Part}
 use Rattle.grow_workers.specs.declared.shared.Shared.{Shared}
 use Rattle.grow_workers.specs.declared.starts.Start.{Start}
-use Rattle.grow_workers.specs.Inner.Sharing.{AreStartsOf, ArePartedOff, AreWorksOf, BeginsLog, HasSeen, IsSeenPart, IsWorkOf, start_grid}
+use Rattle.grow_workers.specs.Inner.Sharing.{AreStartsOf, ArePartedOff, AreWorksOf, BeginsAt, HasSeen, IsSeenPart, IsWorkOf, TeamGrew, start_grid}
 use Rattle.grow_workers.specs.Inner.Wins.{IsParted, PartedGrowth}
+use Rattle.grow_workers.specs.Workers.{GrewOn}
+use Rattle.grow_workers.proofs.Numbering.{workers_win}
 
 -- what grew from a seat's start is of its table
 pub seen_on : {G : Type 0} (shared : Shared G) (old new : SeatValue) (start grid : TileGrid) (first : ℕ) (others : List ℕ) → IsSeatOf shared.table.now old → PartedGrowth shared.sys.now old start new grid first others → HasSeen shared new grid
@@ -69,10 +72,9 @@ grew_from sys old new start other grid first others same grew = record {
 pub seen_in : {G : Type 0} (shared : Shared G) (seat : SeatValue) (start grid : TileGrid) → grid.area ≡ shared.sys.now.area → SamePlacements start.tiles grid.tiles → HasSeen shared seat start → HasSeen shared seat grid
 seen_in shared seat start grid area same seen = record { at_table = seen.at_table; area = area; seen = SamePlacements-trans seat.scout.seen start.tiles grid.tiles seen.seen same }
 
--- and a log that begins there begins in it
-pub begins_in : (sys : TileSystem) (start grid : TileGrid) (log : Option LoggedClaims) → SamePlacements start.tiles grid.tiles → IfSome log (BeginsLog sys start) → IfSome log (BeginsLog sys grid)
-begins_in sys start grid (Some l) same begins = record { none = begins.none; in_order = begins.in_order; room = begins.room; start = SamePlacements-trans sys.seeds start.tiles grid.tiles begins.start same }
-begins_in sys start grid None same begins = tt
+-- and growth that begins there begins in it
+pub begins_in : {G : Type 0} (shared : Shared G) (start grid : TileGrid) → SamePlacements start.tiles grid.tiles → BeginsAt shared start → BeginsAt shared grid
+begins_in shared start grid same begins = λ is. SamePlacements-trans shared.sys.now.seeds start.tiles grid.tiles (begins is) same
 
 -- a worker's part, if there is one, by the grid that it made
 pub work_of : {G : Type 0} (shared : Shared G) (start : Start) (grid : TileGrid) (r : Result Part NoMemory) → SamePlacements (start_grid shared.sys.now start.seen).tiles grid.tiles → IfOk r (IsSeenPart shared) →
@@ -175,6 +177,19 @@ prefix_less all left new x first longer =
     let long = ap length longer in
     let both = length-append new (x ∷ []) in
     sym (ap (take k) (sym whole) ∙ (take-append-le k left (drop n all) (omega (arith, long, both)) ∙ (ap (take k) longer ∙ take-append_seam new (x ∷ []))))
+
+-- what a team has made of a seat once the box is closed, if there was memory
+pub team_grew : (sys : TileSystem) (old : SeatValue) (start : TileGrid) (r : Result Harvest NoMemory) → 0 < old.scout.owned → old.scout.owned < 2 ^ 64 → IfOk r (λ h. IsClosedInBox sys h.part.grid.tiles) → IfOk r (TeamGrew sys old start) →
+    IfOk r (λ h. GrewOn sys old start h.part.seat h.part.grid (h.part.won ∷ h.others.items))
+team_grew sys old start (Ok h) some small closed grew = record {
+  seat = grew.seat;
+  area = grew.area;
+  seen = grew.seen;
+  kept = grew.kept;
+  closed = closed;
+  workers_win = workers_win old.scout.mine h.part.seat.scout.mine old.scout.owned h.part.won h.others.items some small grew.first_wins grew.others_win;
+}
+team_grew sys old start (Err e) some small closed grew = tt
 
 -- what a worker leaves was seen at the table
 ok_seen : {G : Type 0} (shared : Shared G) (start : Start) (r : Result Part NoMemory) → IfOk r (IsWorkOf shared start) → IfOk r (IsSeenPart shared)

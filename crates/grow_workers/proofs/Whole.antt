@@ -1,5 +1,5 @@
 -- A closed grid is all that stands, and what its log says of it.
-use Rattle.std.proofs.Common.{◌≡◌, ◌++◌, true, List, Option, Some, None, Contains, inl, inr, IfSome, refl, subst, sym}
+use Rattle.std.proofs.Common.{◌≡◌, ◌≤◌, ◌++◌, ℕ, true, List, length, Option, Some, None, Contains, inl, inr, IfSome, refl, subst, sym}
 use Rattle.std.specs.Option.{is_some}
 use Rattle.std.proofs.lemmas.Bool.{false≢true}
 use Rattle.std.proofs.lemmas.List.Elements.{All-contains, Contains-append_cases, Contains-append_left, Contains-append_right}
@@ -11,8 +11,11 @@ use Rattle.atam.specs.Growth.{IsClosedInBox}
 use Rattle.atam.proofs.Closure.{closure_of_part}
 use Rattle.atam.proofs.Sequences.{IsLegal-distinct}
 use Rattle.assembly.specs.Grids.{TileGrid}
-use Rattle.site_table.specs.Seats.{IsPartOfGrowth}
+use Rattle.site_table.specs.Seats.{GrownValue, IsPartOfGrowth, SeatValue}
 use Rattle.frontier_seat.specs.Orders.{LoggedClaims}
+use Rattle.grow_workers.specs.declared.prepared.Prepared.{Prepared}
+use Rattle.grow_workers.specs.Workers.{GrewOn, IsGrownBy}
+use Rattle.grow_workers.specs.Inner.Prepared.{GrewWhole, IsPrepared}
 use Rattle.grow_workers.specs.Inner.Sharing.{IsLogOf, IsOrderLog}
 use Rattle.grow_workers.proofs.Ordering.{claims_left, exact_left}
 
@@ -51,6 +54,29 @@ closed_by_log sys grid None is said = absurd (false≢true said)
 pub log_stays : (sys : TileSystem) (old new : TileGrid) (log : Option LoggedClaims) → IfSome log (IsLogOf sys old) → (is_some log ≡ true → new ≡ old) → IfSome log (IsLogOf sys new)
 log_stays sys old new (Some l) is same = subst (λ (g : TileGrid). IsLogOf sys g l) (sym (same refl)) is
 log_stays sys old new None is same = is
+
+-- what so many workers have made of what was prepared is a whole growth, whose table is closed to one
+pub whole_of : (sys : TileSystem) (prepared : Prepared) (workers : ℕ) (seat : SeatValue) (grid : TileGrid) (wins : List ℕ) (grown : GrownValue) → IsPrepared sys prepared → GrewOn sys prepared.seat prepared.seen seat grid wins → length wins ≡ workers → workers ≤ 16 →
+    ((workers : ℕ) → GrewWhole prepared.table.sys workers seat grid → IsGrownBy prepared.table.sys workers grown) → IsGrownBy sys workers grown
+whole_of sys prepared workers seat grid wins grown is grew count few closes =
+    subst (λ z. IsGrownBy z workers grown) is.system
+    (closes workers (record {
+      old = prepared.seat;
+      start = prepared.seen;
+      wins = wins;
+      owned = is.scout.owned;
+      mine = is.scout.mine;
+      grew = subst (λ z. GrewOn z prepared.seat prepared.seen seat grid wins) (sym is.system) grew;
+      count = count;
+      few = few;
+    }))
+
+-- and so is its log
+pub log_of : (sys : TileSystem) (prepared : Prepared) (grid : TileGrid) (grown : GrownValue) (log : Option LoggedClaims) → IsPrepared sys prepared → IfSome log (IsLogOf sys grid) →
+    ((log : LoggedClaims) → IsLogOf prepared.table.sys grid log → IsOrderLog prepared.table.sys grown.grid.tiles log) → IfSome log (IsOrderLog sys grown.grid.tiles)
+log_of sys prepared grid grown (Some l) is log closes =
+    subst (λ z. IsOrderLog z grown.grid.tiles l) is.system (closes l (subst (λ z. IsLogOf z grid l) (sym is.system) log))
+log_of sys prepared grid grown None is log closes = tt
 
 -- and what it says of the order is so of what is left of the grid
 pub log_left : (sys : TileSystem) (grid : TileGrid) (left : List Place) (log : Option LoggedClaims) → SamePlacements grid.tiles left → IfSome log (IsLogOf sys grid) → IfSome log (IsOrderLog sys left)

@@ -1,15 +1,13 @@
 // Worker 0, when it goes on alone.
-ghost use Rattle.std.specs.Prelude.{◌≡◌, ◌<◌, ◌≤◌, length, IfOk, IfSome};
+ghost use Rattle.std.specs.Prelude.{◌≡◌, ◌<◌, ◌≤◌, length, None, IfOk, IfSome};
 ghost use Rattle.atam.specs.Placements.{SamePlacements};
 ghost use Rattle.atam.specs.Growth.{IsClosedInBox};
 ghost use Rattle.assembly.specs.Grids.{TileGrid};
 ghost use Rattle.frontier_seat.specs.Growths.{GrowsOn};
 ghost use Rattle.site_table.specs.Seats.{IsSeatOf, SeatValue};
-ghost use Rattle.grow_workers.specs.Inner.Sharing.{HasSeen, IsLogOf, IsShared};
-ghost use Rattle.grow_workers.specs.Inner.Wins.{PartedGrowth};
+ghost use Rattle.grow_workers.specs.Inner.Sharing.{HasSeen, IsLogOf, IsSeenPart, IsShared, TeamGrew};
 
 use crate::leavings::{Harvest, Part, part_of, scout_of};
-use crate::picks::Picks;
 use crate::shared::Shared;
 use assembly::Grid;
 use frontier_seat::Scout;
@@ -28,43 +26,27 @@ pub(crate) fn end<G: Gate>(
     team: Harvest,
 ) -> Result<Harvest, NoMemory>
     requires shared { IsShared shared.now }
-    requires seen { HasSeen shared.now team.seat team.grid }
-    requires log { IfSome team.log (IsLogOf shared.now.sys.now team.grid) }
-    requires few { team.first ≤ length team.seat.scout.mine }
+    requires part { IsSeenPart shared.now team.part }
+    requires few { team.part.won ≤ length team.part.seat.scout.mine }
     ensures grew { IfOk result (λ h. (old : SeatValue) (start : TileGrid) →
-        PartedGrowth shared.now.sys.now old start team.seat team.grid team.first team.others.items →
-        PartedGrowth shared.now.sys.now old start h.seat h.grid h.first h.others.items) }
-    ensures closed { IfOk result (λ h. IsClosedInBox shared.now.sys.now h.grid.tiles) }
-    ensures log { IfOk result (λ h. IfSome h.log (IsLogOf shared.now.sys.now h.grid)) }
+        TeamGrew shared.now.sys.now old start team → TeamGrew shared.now.sys.now old start h) }
+    ensures closed { IfOk result (λ h. IsClosedInBox shared.now.sys.now h.part.grid.tiles) }
+    ensures log { IfOk result (λ h. IfSome h.part.log (IsLogOf shared.now.sys.now h.part.grid)) }
     ensures count { IfOk result (λ h. length h.others.items ≡ length team.others.items) }
 {
-    let Harvest {
-        seat,
-        grid,
-        first,
-        others,
-        log,
-    } = team;
-    if let Some(log) = log {
-        return Ok(Harvest {
-            seat,
-            grid,
-            first,
-            others,
-            log: Some(log),
-        });
+    if team.part.log.is_some() {
+        return Ok(team);
     }
-    shared.sys.recall_valid();
-    seat.recall_possible();
-    let part = sweep(alloc, shared, seat, grid)?;
-    part.seat.recall_possible();
-    Ok(Harvest {
-        seat: part.seat,
-        grid: part.grid,
-        first: first + part.won,
+    let Harvest {
+        part: before,
         others,
-        log: None,
-    })
+    } = team;
+    shared.sys.recall_valid();
+    before.seat.recall_possible();
+    let mut part = sweep(alloc, shared, before.seat, before.grid)?;
+    part.seat.recall_possible();
+    part.won = before.won + part.won;
+    Ok(Harvest { part, others })
 }
 
 // One sweep. It picks the ledger.
@@ -80,6 +62,7 @@ fn sweep<G: Gate>(
         (record { seat = r.seat; grid = r.grid; won = r.won })) }
     ensures closed { IfOk result (λ r. IsClosedInBox shared.now.sys.now r.grid.tiles) }
     ensures seen { IfOk result (λ r. SamePlacements r.seat.scout.seen r.grid.tiles) }
+    ensures log { IfOk result (λ r. r.log ≡ None) }
 {
     let mut scout = scout_of(alloc, shared, seat, seen)?;
     sweep_counted::<Brand, G>(shared, &mut scout, Blank::new(1));
@@ -93,7 +76,7 @@ fn sweep_counted<L: Ledger, G: Gate>(shared: &Shared<'_, G>, scout: &mut Scout<'
     ensures goes { GrowsOn scout.old scout.new }
     ensures closed { IsClosedInBox shared.now.sys.now scout.new.grid.tiles }
 {
-    let mut picks = Picks::make(shared.choice, 0);
+    let mut picks = shared.goes.picks(0);
     let mut steps: Steps<L> = Steps::open(blank);
     scout.sweep(shared.sys, shared.table, &mut picks, &mut steps);
 }

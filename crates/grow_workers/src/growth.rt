@@ -1,19 +1,19 @@
 // Growth on a table, and a whole growth.
-ghost use Rattle.std.specs.Prelude.{All, ◌≡◌, ◌≤◌, length, IfOk, IfSome};
+ghost use Rattle.std.specs.Prelude.{All, ◌≡◌, ◌≤◌, ◌+◌, ◌∷◌, length, IfOk, IfSome};
 ghost use Rattle.type_index.specs.Indexes.{IsIndexOf};
 ghost use Rattle.grow_workers.specs.Workers.{OwnsAtLeast, GrewOn, IsGrownBy};
-ghost use Rattle.grow_workers.specs.Inner.Sharing.{AreWorksOf, BeginsLog, HasSeen, IsLogOf, IsShared, IsStart, IsWorkOf};
+ghost use Rattle.grow_workers.specs.Inner.Sharing.{AreWorksOf, BeginsAt, HasSeen, IsLogOf, IsOrderLog, IsShared, IsStart, IsWorkOf};
 
 use crate::ending::end;
+use crate::goes::Goes;
 use crate::in_order::claim_in_order;
 use crate::joining::join;
-use crate::leavings::{Closing, Harvest, Part};
+use crate::leavings::{Harvest, Part};
 use crate::member::work;
-use crate::prepared::{Prepared, prepare};
+use crate::prepared::{Prepared, close, prepare};
 use crate::rounds::grow_on;
-use crate::shared::Shared;
+use crate::shared::{Lent, Shared};
 use crate::starts::{Start, split};
-use crate::team::Team;
 use assembly::Grid;
 use fan_out::{WorkerCount, share_out};
 use frontier_seat::ClaimLog;
@@ -37,14 +37,9 @@ pub fn grow<R: Threads + Sync, G: Gate>(
     requires few { workers ≤ 16 }
     ensures { IfOk result (IsGrownBy sys.now workers) }
 {
-    sys.recall_valid();
     let Prepared { table, seat, seen } = prepare(alloc, sys)?;
-    let (seat, mut grid, _wins) = grow_on(
-        rt, alloc, sys, &table, seat, seen, workers, choice, gate,
-    )?;
-    grid.recall_sites();
-    grid.clear();
-    Ok(table.close(seat, grid))
+    let (seat, grid, _wins) = grow_on(rt, alloc, sys, &table, seat, seen, workers, choice, gate)?;
+    Ok(close(table, seat, grid))
 }
 
 /// What `grow` leaves, by workers who stay at work until nothing is left to do, with an index of the
@@ -68,71 +63,59 @@ pub fn grow_by_index<R: Threads + Sync, G: Gate>(
     requires index { IsIndexOf sys.now types.now }
     ensures { IfOk result (IsGrownBy sys.now workers.count) }
 {
+    let lent = Lent { sys, types, gate };
     if workers.get() == 1 && choice == 0 {
-        let (grown, _log) = claim_in_order(alloc, sys, types, gate)?;
+        let (grown, _log) = claim_in_order(alloc, &lent)?;
         return Ok(grown);
     }
-    sys.recall_valid();
-    let Prepared { table, seat, seen } = prepare(alloc, sys)?;
-    let shared = Shared {
-        sys,
-        table: &table,
-        types,
-        gate,
-        choice,
-        workers,
-        in_order: false,
-        team: Team::of(workers),
-    };
-    let Closing {
-        seat,
-        mut grid,
-        wins: _wins,
-        log: _log,
-    } = grow_together(rt, alloc, &shared, seat, seen, None)?;
-    drop(shared);
-    grid.recall_sites();
-    grid.clear();
-    Ok(table.close(seat, grid))
+    let (grown, _log) = grow_whole(rt, alloc, &lent, workers, Goes::ByBands { choice })?;
+    Ok(grown)
 }
 
-// Parts the seat among all workers, lets them work, joins what they leave, and ends the growth. With a
-// log worker 0 goes in canonical order.
-pub(crate) fn grow_together<R: Threads + Sync, G: Gate>(
+// A whole growth by workers who stay at work, and the log of worker 0 if it went in order until the
+// box was closed.
+pub(crate) fn grow_whole<R: Threads + Sync, G: Gate>(
+    rt: &R,
+    alloc: Global,
+    lent: &Lent<'_, G>,
+    workers: WorkerCount,
+    goes: Goes,
+) -> Result<(Grown, Option<ClaimLog>), NoMemory>
+    requires { IsIndexOf lent.now.sys.now lent.now.types.now }
+    ensures growth { IfOk result (λ r. IsGrownBy lent.now.sys.now workers.count r.0) }
+    ensures log { IfOk result (λ r. IfSome r.1 (IsOrderLog lent.now.sys.now r.0.grid.tiles)) }
+{
+    let Prepared { table, seat, seen } = prepare(alloc, lent.sys)?;
+    let shared = Shared::of(lent.sys, &table, lent.types, lent.gate, workers, goes);
+    let team = grow_together(rt, alloc, &shared, seat, seen)?;
+    drop(shared);
+    let part = team.part;
+    Ok((close(table, part.seat, part.grid), part.log))
+}
+
+// Parts the seat among all workers, lets them work, joins what they leave, and ends the growth.
+fn grow_together<R: Threads + Sync, G: Gate>(
     rt: &R,
     alloc: Global,
     shared: &Shared<'_, G>,
     seat: SiteSeat,
     seen: Grid,
-    log: Option<ClaimLog>,
-) -> Result<Closing, NoMemory>
+) -> Result<Harvest, NoMemory>
     requires shared { IsShared shared.now }
     requires numbers { OwnsAtLeast shared.now.workers.count seat.scout.owned }
     requires seen { HasSeen shared.now seat seen }
-    requires log { IfSome log (BeginsLog shared.now.sys.now seen) }
-    ensures grew { IfOk result (λ r.
-        GrewOn shared.now.sys.now seat seen r.seat r.grid r.wins.items) }
-    ensures log { IfOk result (λ r. IfSome r.log (IsLogOf shared.now.sys.now r.grid)) }
-    ensures count { IfOk result (λ r. length r.wins.items ≡ shared.now.workers.count) }
+    requires begins { BeginsAt shared.now seen }
+    ensures grew { IfOk result (λ h. GrewOn shared.now.sys.now seat seen
+        h.part.seat h.part.grid (h.part.won ∷ h.others.items)) }
+    ensures log { IfOk result (λ h. IfSome h.part.log (IsLogOf shared.now.sys.now h.part.grid)) }
+    ensures count { IfOk result (λ h.
+        length h.others.items + 1 ≡ shared.now.workers.count) }
 {
     seat.recall_possible();
-    let starts = split(alloc, shared, seat, seen, log)?;
+    let starts = split(alloc, shared, seat, seen)?;
     let done = work_all(rt, alloc, shared, starts)?;
     let team = join(alloc, shared, done)?;
-    let Harvest {
-        seat,
-        grid,
-        first,
-        others: mut wins,
-        log,
-    } = end(alloc, shared, team)?;
-    wins.insert(0, first)?;
-    Ok(Closing {
-        seat,
-        grid,
-        wins,
-        log,
-    })
+    end(alloc, shared, team)
 }
 
 // All workers at work, each but worker 0 in a thread of its own.

@@ -1,12 +1,12 @@
 // What several workers leave, joined.
-ghost use Rattle.std.specs.Prelude.{All, ◌≡◌, ◌<◌, ◌+◌, ◌++◌, ℕ, List, [], length, Some, IfOk, IfSome, IsTrue};
+ghost use Rattle.std.specs.Prelude.{All, ◌≡◌, ◌<◌, ◌+◌, ◌++◌, ℕ, List, [], length, Some, IfOk, IsTrue};
 ghost use Rattle.atam.specs.declared.site.Site.{Site};
 ghost use Rattle.atam.specs.declared.place.TypeId.{TypeId};
 ghost use Rattle.atam.specs.Placements.{SamePlacements, tile_at};
 ghost use Rattle.assembly.specs.Grids.{TileGrid};
 ghost use Rattle.site_table.specs.Seats.{IsSeatOf, SeatValue};
 ghost use Rattle.grow_workers.specs.Inner.Rounds.{IsFar};
-ghost use Rattle.grow_workers.specs.Inner.Sharing.{AreStartsOf, AreWorksOf, HasSeen, IsLogOf, IsSeenPart, IsShared};
+ghost use Rattle.grow_workers.specs.Inner.Sharing.{AreStartsOf, AreWorksOf, HasSeen, IsSeenPart, IsShared, TeamGrew};
 ghost use Rattle.grow_workers.specs.Inner.Wins.{IsParted, PartedGrowth};
 ghost use Rattle.grow_workers.specs.declared.starts.Start.{Start};
 
@@ -30,22 +30,18 @@ pub(crate) fn join<G: Gate>(
     ensures grew { IfOk result (λ h. (old : SeatValue) (grid : TileGrid) (starts : List Start) →
         IsSeatOf shared.now.table.now old → AreStartsOf shared.now.sys.now old grid starts →
         AreWorksOf shared.now starts done.items →
-        PartedGrowth shared.now.sys.now old grid h.seat h.grid h.first h.others.items) }
-    ensures seen { IfOk result (λ h. HasSeen shared.now h.seat h.grid) }
-    ensures log { IfOk result (λ h. IfSome h.log (IsLogOf shared.now.sys.now h.grid)) }
+        TeamGrew shared.now.sys.now old grid h) }
+    ensures part { IfOk result (λ h. IsSeenPart shared.now h.part) }
     ensures count { IfOk result (λ h. length h.others.items + 1 ≡ length done.items) }
     ensures far { IfOk result (λ h. (n : ℕ) →
         All (λ d. IfOk d (λ part. IsFar shared.now.sys.now n part.grid)) done.items →
-        IsFar shared.now.sys.now n h.grid) }
+        IsFar shared.now.sys.now n h.part.grid) }
 {
     let mut left = done;
     let first = left.pop().unwrap()?;
     let mut team = Harvest {
-        seat: first.seat,
-        grid: first.grid,
-        first: first.won,
+        part: first,
         others: Vec::new(alloc),
-        log: first.log,
     };
     while let Some(part) = left.pop() {
         team = join_part(shared, team, part?)?;
@@ -60,29 +56,29 @@ fn join_part<G: Gate>(
     part: Part,
 ) -> Result<Harvest, NoMemory>
     requires shared { IsShared shared.now }
-    requires first { HasSeen shared.now rest.seat rest.grid }
-    requires log { IfSome rest.log (IsLogOf shared.now.sys.now rest.grid) }
+    requires first { IsSeenPart shared.now rest.part }
     requires second { HasSeen shared.now part.seat part.grid }
     ensures grew { IfOk result (λ h. (old kept given : SeatValue) (start : TileGrid) →
         IsSeatOf shared.now.table.now old → IsParted old kept given →
-        PartedGrowth shared.now.sys.now kept start
-        rest.seat rest.grid rest.first rest.others.items →
+        TeamGrew shared.now.sys.now kept start rest →
         PartedGrowth shared.now.sys.now given start part.seat part.grid part.won [] →
-        PartedGrowth shared.now.sys.now old start h.seat h.grid h.first h.others.items) }
-    ensures seen { IfOk result (λ h. HasSeen shared.now h.seat h.grid) }
-    ensures log { IfOk result (λ h. IfSome h.log (IsLogOf shared.now.sys.now h.grid)) }
+        TeamGrew shared.now.sys.now old start h) }
+    ensures part { IfOk result (λ h. IsSeenPart shared.now h.part) }
     ensures count { IfOk result (λ h.
         length h.others.items ≡ length rest.others.items + 1) }
     ensures far { IfOk result (λ h. (n : ℕ) →
-        IsFar shared.now.sys.now n rest.grid → IsFar shared.now.sys.now n h.grid) }
+        IsFar shared.now.sys.now n rest.part.grid → IsFar shared.now.sys.now n h.part.grid) }
 {
     let Harvest {
+        part: first,
+        mut others,
+    } = rest;
+    let Part {
         seat: kept,
         mut grid,
-        first,
-        mut others,
+        won,
         log,
-    } = rest;
+    } = first;
     others.insert(0, part.won)?;
     kept.recall_possible();
     part.seat.recall_possible();
@@ -91,12 +87,15 @@ fn join_part<G: Gate>(
     let seat = shared.table.join(kept, part.seat);
     take_over(&mut grid, &part.grid, log.is_some());
     grid.recall_sites();
-    Ok(Harvest {
+    let first = Part {
         seat,
         grid,
-        first,
-        others,
+        won,
         log,
+    };
+    Ok(Harvest {
+        part: first,
+        others,
     })
 }
 

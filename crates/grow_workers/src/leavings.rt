@@ -21,24 +21,12 @@ pub(crate) struct Part {
     pub log: Option<ClaimLog>,
 }
 
-// What several leave: a seat, what it has seen, how often worker 0 and the others have won, and the
-// log of worker 0.
+// What several leave: the part of worker 0, to whose seat and grid those of the others have come,
+// and how often each of them has won, from worker 1 on.
 #[derive(Drop)]
 pub(crate) struct Harvest {
-    pub seat: SiteSeat,
-    pub grid: Grid,
-    pub first: u32,
+    pub part: Part,
     pub others: Vec<u32>,
-    pub log: Option<ClaimLog>,
-}
-
-// What all leave once the box is closed: how often each has won, from worker 0 on.
-#[derive(Drop)]
-pub(crate) struct Closing {
-    pub seat: SiteSeat,
-    pub grid: Grid,
-    pub wins: Vec<u32>,
-    pub log: Option<ClaimLog>,
 }
 
 // A scout with what was seen, which looks types up in the index of all.

@@ -2,6 +2,7 @@
 #![tactic(auto)]
 
 mod ending;
+mod goes;
 mod growth;
 mod in_order;
 mod joining;

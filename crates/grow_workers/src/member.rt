@@ -1,8 +1,9 @@
 // A worker's life in its thread.
-ghost use Rattle.std.specs.Prelude.{◌≡◌, ◌<◌, [], IfOk, IfSome};
+ghost use Rattle.std.specs.Prelude.{◌≡◌, ◌<◌, [], IfOk};
+ghost use Rattle.atam.specs.Placements.{SamePlacements};
 ghost use Rattle.site_table.specs.Seats.{IsSeatOf};
 ghost use Rattle.frontier_seat.specs.Growths.{GrowsOn};
-ghost use Rattle.grow_workers.specs.Inner.Sharing.{BeginsLog, HasSeen, IsSeenPart, IsShared, IsStart, IsWorkOf};
+ghost use Rattle.grow_workers.specs.Inner.Sharing.{BeginsAt, HasSeen, IsSeenPart, IsShared, IsStart, IsWorkOf};
 ghost use Rattle.grow_workers.specs.Inner.Wins.{PartedGrowth};
 
 use crate::in_order::sweep_logged;
@@ -12,7 +13,7 @@ use crate::shared::Shared;
 use crate::starts::{Start, grid_at_start};
 use crate::team::Waiting;
 use assembly::Grid;
-use frontier_seat::{Burst, ClaimLog, Scout};
+use frontier_seat::{Burst, Scout};
 use site_table::SiteSeat;
 use std::alloc::Global;
 use std::marker::Brand;
@@ -46,38 +47,32 @@ pub(crate) fn work<G: Gate>(
     requires start { IsStart shared.now start }
     ensures { IfOk result (IsWorkOf shared.now start) }
 {
-    let Start {
-        worker,
-        seat,
-        seen,
-        log,
-    } = start;
+    let Start { worker, seat, seen } = start;
     shared.gate.arrive(worker);
     let seen = grid_at_start(alloc, shared.sys, seen)?;
-    work_on(alloc, shared, worker, seat, seen, log)
+    work_on(alloc, shared, worker, seat, seen)
 }
 
-// The same from a grid: with a log it goes through the whole box, and else it claims in its bands, and
-// where nothing is left there it looks beside them, or beside a worker with a log it ends after its
-// first burst, or at once where it leaves all to another.
+// The same from a grid: where growth goes in order worker 0 goes through the whole box. Else it
+// claims in its bands, and where nothing is left there it looks beside them, or beside such a worker
+// it ends after its first burst, or at once where it leaves all to another.
 fn work_on<G: Gate>(
     alloc: Global,
     shared: &Shared<'_, G>,
     worker: u32,
     seat: SiteSeat,
     seen: Grid,
-    log: Option<ClaimLog>,
 ) -> Result<Part, NoMemory>
     requires shared { IsShared shared.now }
     requires worker { worker < shared.now.workers.count }
     requires seen { HasSeen shared.now seat seen }
-    requires log { IfSome log (BeginsLog shared.now.sys.now seen) }
+    requires begins { BeginsAt shared.now seen }
     ensures seen { IfOk result (IsSeenPart shared.now) }
     ensures grew { IfOk result (λ r.
         PartedGrowth shared.now.sys.now seat seen r.seat r.grid r.won []) }
 {
-    if let Some(log) = log {
-        return work_in_order(alloc, shared, seat, seen, log);
+    if worker == 0 && shared.goes.is_in_order() {
+        return work_in_order(alloc, shared, seat, seen);
     }
     if leaves_all(shared) {
         return Ok(Part {
@@ -93,11 +88,11 @@ fn work_on<G: Gate>(
     Ok(part_of(scout))
 }
 
-// Whether a worker without a log leaves all to another: one alone to `end`, and where the types are many
-// to the one that goes through the whole box.
+// Whether a worker leaves all to another: one alone to `end`, and where the types are many to the
+// one that goes through the whole box.
 fn leaves_all<G: Gate>(shared: &Shared<'_, G>) -> bool {
     let has_many = shared.sys.type_count() > FEW_TYPES;
-    shared.workers.get() == 1 || (shared.in_order && has_many)
+    shared.workers.get() == 1 || (shared.goes.is_in_order() && has_many)
 }
 
 // All that a worker does that goes through the whole box.
@@ -106,22 +101,17 @@ fn work_in_order<G: Gate>(
     shared: &Shared<'_, G>,
     seat: SiteSeat,
     seen: Grid,
-    log: ClaimLog,
 ) -> Result<Part, NoMemory>
     requires shared { IsShared shared.now }
     requires seen { HasSeen shared.now seat seen }
-    requires begins { BeginsLog shared.now.sys.now seen log }
+    requires seeds { SamePlacements shared.now.sys.now.seeds seen.tiles }
     ensures seen { IfOk result (IsSeenPart shared.now) }
     ensures grew { IfOk result (λ r.
         PartedGrowth shared.now.sys.now seat seen r.seat r.grid r.won []) }
 {
-    let (part, log) = sweep_logged(alloc, shared, seat, seen, log)?;
-    Ok(Part {
-        seat: part.seat,
-        grid: part.grid,
-        won: part.won,
-        log: Some(log),
-    })
+    let (mut part, log) = sweep_logged(alloc, shared, seat, seen)?;
+    part.log = Some(log);
+    Ok(part)
 }
 
 // A worker's scout. The others are told that it has begun, and where it can't that it has ended.
@@ -153,14 +143,14 @@ fn take_turns<G: Gate>(shared: &Shared<'_, G>, worker: u32, scout: &mut Scout<'_
     requires worker { worker < shared.now.workers.count }
     ensures { GrowsOn scout.old scout.new }
 {
-    let mut picks = Picks::make(shared.choice, worker);
+    let mut picks = shared.goes.picks(worker);
     let most = if worker == 0 {
         FIRST_BURST
     } else {
         FIRST_OF_OTHERS
     };
     let is_closed = burst(shared, worker, scout, &mut picks, most);
-    if is_closed || shared.in_order {
+    if is_closed || shared.goes.is_in_order() {
         return;
     }
     take_later_turns(shared, worker, scout, &mut picks);

@@ -4,12 +4,10 @@ ghost use Rattle.type_index.specs.Indexes.{IsIndexOf};
 ghost use Rattle.grow_workers.specs.Workers.{IsGrownBy, IsSeenOrder};
 ghost use Rattle.grow_workers.specs.Inner.Sharing.{IsOrderLog};
 
-use crate::growth::grow_together;
+use crate::goes::Goes;
+use crate::growth::grow_whole;
 use crate::in_order::grow_in_order_seeing;
-use crate::leavings::Closing;
-use crate::prepared::{Prepared, prepare};
-use crate::shared::Shared;
-use crate::team::Team;
+use crate::shared::Lent;
 use assembly::{Grid, Sequence};
 use fan_out::WorkerCount;
 use frontier_seat::ClaimLog;
@@ -48,49 +46,12 @@ pub fn grow_seeing_order<R: Threads + Sync, G: Gate>(
     ensures order { IfOk result (λ r. IfSome r.1 (IsSeenOrder sys.now r.0.grid.tiles)) }
     ensures sole { workers.count ≡ 1 → IfOk result (λ r. IsSome r.1) }
 {
+    let lent = Lent { sys, types, gate };
     if workers.get() == 1 {
-        let (grown, seen) = grow_in_order_seeing(alloc, sys, types, gate)?;
+        let (grown, seen) = grow_in_order_seeing(alloc, &lent)?;
         return Ok((grown, Some(seen)));
     }
-    grow_beside_first(rt, alloc, sys, types, workers, gate)
-}
-
-// The same by worker 0 and others beside it.
-fn grow_beside_first<R: Threads + Sync, G: Gate>(
-    rt: &R,
-    alloc: Global,
-    sys: &System,
-    types: &TypeIndex,
-    workers: WorkerCount,
-    gate: &G,
-) -> Result<(Grown, Option<SeenOrder>), NoMemory>
-    requires { IsIndexOf sys.now types.now }
-    ensures growth { IfOk result (λ r. IsGrownBy sys.now workers.count r.0) }
-    ensures order { IfOk result (λ r. IfSome r.1 (IsSeenOrder sys.now r.0.grid.tiles)) }
-{
-    sys.recall_valid();
-    let Prepared { table, seat, seen } = prepare(alloc, sys)?;
-    let log = ClaimLog::make(alloc, sys.area())?;
-    let shared = Shared {
-        sys,
-        table: &table,
-        types,
-        gate,
-        choice: 0,
-        workers,
-        in_order: true,
-        team: Team::of(workers),
-    };
-    let Closing {
-        seat,
-        mut grid,
-        wins: _wins,
-        log,
-    } = grow_together(rt, alloc, &shared, seat, seen, Some(log))?;
-    drop(shared);
-    grid.recall_sites();
-    grid.clear();
-    let grown = table.close(seat, grid);
+    let (grown, log) = grow_whole(rt, alloc, &lent, workers, Goes::InOrder)?;
     let order = order_of(alloc, sys, grown.grid(), log)?;
     Ok((grown, order))
 }

@@ -1,21 +1,21 @@
 // Growth on a table, in rounds.
-ghost use Rattle.std.specs.Prelude.{All, ◌≡◌, ◌≤◌, ◌<◌, ◌+◌, ◌↔◌, length, IfOk, IsTrue};
+ghost use Rattle.std.specs.Prelude.{All, ◌≡◌, ◌≢◌, ◌≤◌, ◌<◌, ◌+◌, ◌↔◌, length, IfOk, IsTrue};
 ghost use Rattle.atam.specs.Growth.{IsClosedInBox};
 ghost use Rattle.atam.specs.Placements.{SamePlacements};
 ghost use Rattle.site_table.specs.Seats.{IsSeatOf};
 ghost use Rattle.type_index.specs.Indexes.{IsIndexOf};
+ghost use Rattle.grow_workers.specs.declared.goes.Goes.TheVariants.{InOrder};
 ghost use Rattle.grow_workers.specs.Workers.{GrewOn, OwnsAtLeast};
 ghost use Rattle.frontier_seat.specs.Growths.{GrowsOn};
 ghost use Rattle.grow_workers.specs.Inner.Rounds.{AddsUp, AreRoundsOf, GoesRound, IsFar, IsRoundOf, IsStage};
 ghost use Rattle.grow_workers.specs.Inner.Sharing.{HasSeen, IsShared, IsStart};
 ghost use Rattle.grow_workers.specs.Inner.Wins.{HasNumbers};
 
+use crate::goes::Goes;
 use crate::joining::join;
 use crate::leavings::{Harvest, Part, part_of, scout_of};
-use crate::picks::Picks;
 use crate::shared::Shared;
 use crate::starts::{Start, grid_at_start, split};
-use crate::team::Team;
 use assembly::Grid;
 use attach_rule::least_open_inside_by;
 use fan_out::{WorkerCount, share_out};
@@ -105,26 +105,34 @@ pub fn grow_on_by_index<R: Threads + Sync, G: Gate>(
     ensures grew { IfOk result (λ r. GrewOn sys.now seat seen r.0 r.1 r.2.items) }
     ensures count { IfOk result (λ r. length r.2.items ≡ workers.count) }
 {
-    let shared = Shared {
-        sys,
-        table,
-        types,
-        gate,
-        choice,
-        workers,
-        in_order: false,
-        team: Team::of(workers),
-    };
-    sys.recall_valid();
+    let shared = Shared::of(sys, table, types, gate, workers, Goes::ByBands { choice });
+    grow_in_rounds(rt, alloc, &shared, seat, seen)
+}
+
+// The same with what all workers share.
+fn grow_in_rounds<R: Threads + Sync, G: Gate>(
+    rt: &R,
+    alloc: Global,
+    shared: &Shared<'_, G>,
+    seat: SiteSeat,
+    seen: Grid,
+) -> Result<(SiteSeat, Grid, Vec<u32>), NoMemory>
+    requires shared { IsShared shared.now }
+    requires bands { shared.now.goes ≢ InOrder }
+    requires numbers { OwnsAtLeast shared.now.workers.count seat.scout.owned }
+    requires seen { HasSeen shared.now seat seen }
+    ensures grew { IfOk result (λ r. GrewOn shared.now.sys.now seat seen r.0 r.1 r.2.items) }
+    ensures count { IfOk result (λ r. length r.2.items ≡ shared.now.workers.count) }
+{
     seat.recall_possible();
     let mut stage = Stage {
         seat,
         grid: seen,
-        wins: vec![in alloc; 0; workers.get() as usize]?,
+        wins: vec![in alloc; 0; shared.workers.get() as usize]?,
     };
     for round in 0..MOST_ROUNDS {
-        stage = go_round(rt, alloc, &shared, stage, round == 0)?;
-        if is_closed(&shared, &stage) {
+        stage = go_round(rt, alloc, shared, stage, round == 0)?;
+        if is_closed(shared, &stage) {
             return Ok((stage.seat, stage.grid, stage.wins));
         }
     }
@@ -151,6 +159,7 @@ fn go_round<R: Threads + Sync, G: Gate>(
     is_first: bool,
 ) -> Result<Stage, NoMemory>
     requires shared { IsShared shared.now }
+    requires bands { shared.now.goes ≢ InOrder }
     requires stage { IsStage shared.now stage }
     requires numbers { OwnsAtLeast shared.now.workers.count stage.seat.scout.owned }
     ensures { IfOk result (GoesRound shared.now stage) }
@@ -162,20 +171,18 @@ fn go_round<R: Threads + Sync, G: Gate>(
     } = stage;
     seat.recall_possible();
     grid.recall_sites();
-    let starts = split(alloc, shared, seat, grid, None)?;
+    let starts = split(alloc, shared, seat, grid)?;
     let done = burst_all(rt, alloc, shared, starts, is_first)?;
-    let Harvest {
-        seat,
-        grid,
-        first,
-        mut others,
-        log: _log,
-    } = join(alloc, shared, done)?;
-    others.insert(0, first)?;
-    seat.recall_possible();
-    grid.recall_sites();
+    let Harvest { part, mut others } = join(alloc, shared, done)?;
+    others.insert(0, part.won)?;
+    part.seat.recall_possible();
+    part.grid.recall_sites();
     add_wins(&mut wins, &others);
-    Ok(Stage { seat, grid, wins })
+    Ok(Stage {
+        seat: part.seat,
+        grid: part.grid,
+        wins,
+    })
 }
 
 // Adds what each worker has won in a round.
@@ -224,12 +231,7 @@ fn burst_from<G: Gate>(
     requires start { IsStart shared.now start }
     ensures { IfOk result (IsRoundOf shared.now start) }
 {
-    let Start {
-        worker,
-        seat,
-        seen,
-        log: _log,
-    } = start;
+    let Start { worker, seat, seen } = start;
     if is_first {
         shared.gate.arrive(worker);
     }
@@ -254,7 +256,7 @@ fn burst_counted<L: Ledger, G: Gate>(
     ensures goes { GrowsOn scout.old scout.new }
     ensures far { IsFar shared.now.sys.now (length scout.old.grid.tiles + 4096) scout.new.grid }
 {
-    let mut picks = Picks::make(shared.choice, worker);
+    let mut picks = shared.goes.picks(worker);
     let mut steps: Steps<L> = Steps::open(blank);
     let of = shared.workers.get();
     let _ended = scout.burst(

@@ -1,26 +1,23 @@
 // What each worker begins with.
-ghost use Rattle.std.specs.Prelude.{All, ◌≡◌, ◌≤◌, ◌<◌, ◌+◌, ◌-◌, length, Some, None, if◌then◌else◌, IfOk, IfSome, IsTrue};
+ghost use Rattle.std.specs.Prelude.{All, ◌≡◌, ◌≤◌, ◌<◌, ◌+◌, ◌-◌, length, Some, None, if◌then◌else◌, IfOk};
 ghost use Rattle.atam.specs.Placements.{SamePlacements};
-ghost use Rattle.grow_workers.specs.Inner.Sharing.{ArePartedOff, AreStartsOf, BeginsLog, HasSeen, IsShared, IsStart, start_grid};
+ghost use Rattle.grow_workers.specs.Inner.Sharing.{ArePartedOff, AreStartsOf, BeginsAt, HasSeen, IsShared, IsStart, start_grid};
 ghost use Rattle.grow_workers.specs.Inner.Wins.{HasNumbers, IsParted};
 
 use crate::shared::Shared;
 use assembly::{Grid, grid_of_seeds};
-use frontier_seat::ClaimLog;
 use site_table::SiteSeat;
 use std::alloc::Global;
 use tile_io::Gate;
 use tile_system::{NoMemory, System};
 
-// Which worker it is, a seat of its own, a grid of what the seat has seen, unless that is the seeds
-// alone, of which it makes one itself, and an empty log where it is to go in canonical order until
-// the box is closed.
+// Which worker it is, a seat of its own, and a grid of what the seat has seen, unless that is the
+// seeds alone, of which it makes one itself.
 #[derive(Drop)]
 pub(crate) struct Start {
     pub worker: u32,
     pub seat: SiteSeat,
     pub seen: Option<Grid>,
-    pub log: Option<ClaimLog>,
 }
 
 // The grid that a worker begins with. One of the seeds is made in the worker's own thread, where no
@@ -41,47 +38,42 @@ pub(crate) fn grid_at_start(
     }
 }
 
-// Parts a seat among all workers. Worker 0, which keeps what is left of it, comes last, and gets the
-// log.
+// Parts a seat among all workers. Worker 0, which keeps what is left of it, comes last.
 pub(crate) fn split<G: Gate>(
     alloc: Global,
     shared: &Shared<'_, G>,
     seat: SiteSeat,
     seen: Grid,
-    log: Option<ClaimLog>,
 ) -> Result<Vec<Start>, NoMemory>
     requires shared { IsShared shared.now }
     requires numbers { HasNumbers shared.now.workers.count seat.scout.owned }
     requires seen { HasSeen shared.now seat seen }
-    requires log { IfSome log (BeginsLog shared.now.sys.now seen) }
+    requires begins { BeginsAt shared.now seen }
     ensures starts { IfOk result (λ starts.
         AreStartsOf shared.now.sys.now seat seen starts.items) }
     ensures each { IfOk result (λ starts. All (IsStart shared.now) starts.items) }
     ensures count { IfOk result (λ starts. length starts.items ≡ shared.now.workers.count) }
 {
-    let (mut starts, kept) = split_off(alloc, shared, seat, &seen, log.is_some())?;
+    let (mut starts, kept) = split_off(alloc, shared, seat, &seen)?;
     starts.push(Start {
         worker: 0,
         seat: kept,
         seen: Some(seen),
-        log,
     })?;
     Ok(starts)
 }
 
-// Parts off the seats of all workers but worker 0, for which the rest is kept. It may be said that
-// the seeds alone were seen.
+// Parts off the seats of all workers but worker 0, for which the rest is kept.
 fn split_off<G: Gate>(
     alloc: Global,
     shared: &Shared<'_, G>,
     seat: SiteSeat,
     seen: &Grid,
-    are_seeds: bool,
 ) -> Result<(Vec<Start>, SiteSeat), NoMemory>
     requires shared { IsShared shared.now }
     requires numbers { HasNumbers shared.now.workers.count seat.scout.owned }
     requires seen { HasSeen shared.now seat seen.now }
-    requires seeds { IsTrue are_seeds → SamePlacements shared.now.sys.now.seeds seen.now.tiles }
+    requires begins { BeginsAt shared.now seen.now }
     ensures parted { IfOk result (λ r. ArePartedOff seat r.0.items r.1) }
     ensures kept { IfOk result (λ r. HasSeen shared.now r.1 seen.now) }
     ensures grids { IfOk result (λ r.
@@ -91,6 +83,7 @@ fn split_off<G: Gate>(
     ensures count { IfOk result (λ r. length r.0.items + 1 ≡ shared.now.workers.count) }
 {
     let workers = shared.workers.get();
+    let are_seeds = shared.goes.is_in_order();
     let mut starts = Vec::new(alloc);
     let mut kept = seat;
     for worker in 1..workers {
@@ -100,7 +93,6 @@ fn split_off<G: Gate>(
             worker,
             seat: given,
             seen: grid_for_another(seen, are_seeds)?,
-            log: None,
         })?;
     }
     Ok((starts, kept))

@@ -11,6 +11,8 @@ use Rattle.type_index.specs.Clean.{GrewExact}
 use Rattle.type_index.specs.Indexes.{IsIndexOf}
 use Rattle.frontier_seat.specs.Orders.{AreCanonicalClaims, LoggedClaims}
 use Rattle.site_table.specs.Seats.{IsSeatOf, SeatValue}
+use Rattle.grow_workers.specs.declared.goes.Goes.TheVariants.{InOrder}
+use Rattle.grow_workers.specs.declared.leavings.Harvest.{Harvest}
 use Rattle.grow_workers.specs.declared.leavings.Part.{Part}
 use Rattle.grow_workers.specs.declared.shared.Shared.{Shared}
 use Rattle.grow_workers.specs.declared.starts.Start.{Start}
@@ -26,6 +28,10 @@ pub record HasSeen {G : Type 0} (shared : Shared G) (seat : SeatValue) (grid : T
   pub at_table : IsSeatOf shared.table.now seat
   pub area : grid.area ≡ shared.sys.now.area
   pub seen : SamePlacements seat.scout.seen grid.tiles
+
+-- growth in canonical order begins with the seeds alone
+abbrev pub BeginsAt : {G : Type 0} → Shared G → TileGrid → Type 0
+BeginsAt shared seen = shared.goes ≡ InOrder → SamePlacements shared.sys.now.seeds seen.tiles
 
 -- an empty log with room for the whole box, where the seeds alone were seen
 pub record BeginsLog (sys : TileSystem) (seen : TileGrid) (log : LoggedClaims) : Type 0 where
@@ -49,6 +55,10 @@ pub record IsSeenPart {G : Type 0} (shared : Shared G) (part : Part) : Type 0 wh
   pub seen : HasSeen shared part.seat part.grid
   pub log : IfSome part.log (IsLogOf shared.sys.now part.grid)
 
+-- what a team has made of a seat and a grid
+abbrev pub TeamGrew : TileSystem → SeatValue → TileGrid → Harvest → Type 0
+TeamGrew sys old start team = PartedGrowth sys old start team.part.seat team.part.grid team.part.won team.others.items
+
 -- the grid that a worker begins with: the one that it is given, or else one of the seeds, which it makes
 abbrev pub start_grid : TileSystem → Option TileGrid → TileGrid
 start_grid sys given = unwrap_or given (record { area = sys.area; tiles = sys.seeds })
@@ -57,7 +67,7 @@ start_grid sys given = unwrap_or given (record { area = sys.area; tiles = sys.se
 pub record IsStart {G : Type 0} (shared : Shared G) (start : Start) : Type 0 where
   pub worker : start.worker < shared.workers.count
   pub seen : HasSeen shared start.seat (start_grid shared.sys.now start.seen)
-  pub log : IfSome start.log (BeginsLog shared.sys.now (start_grid shared.sys.now start.seen))
+  pub begins : BeginsAt shared (start_grid shared.sys.now start.seen)
 
 -- and leaves that
 pub record IsWorkOf {G : Type 0} (shared : Shared G) (start : Start) (part : Part) : Type 0 where

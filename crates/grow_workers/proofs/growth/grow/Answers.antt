@@ -1,8 +1,7 @@
 use Rattle.std.proofs.Common.{subst, sym, arith}
-use Rattle.site_table.specs.Seats.{Closes}
 use Rattle.grow_workers.specs.Workers.{OwnsAtLeast}
 use Rattle.grow_workers.proofs.Numbering.{owns_many}
-use Rattle.grow_workers.proofs.Winning.{whole_growth}
+use Rattle.grow_workers.proofs.Whole.{whole_of}
 use Rattle.grow_workers.proofs.growth.grow.Goals as goal
 
 pub grow_on-requires-clause-numbers : goal.grow_on-requires-clause-numbers
@@ -12,8 +11,5 @@ grow_on-requires-clause-numbers g c κs within =
 
 pub returns : goal.returns
 returns g c =
-    let sys = c.args.sys.now in
-    let closes : Closes sys c.in_ok-seat.seat.scout c.close.result = subst (λ z. Closes z c.in_ok-seat.seat.scout c.close.result) c.in_ok-table.ensures.system c.close.ensures in
-    let start = c.in_ok-table.ensures.scout in
-    whole_growth sys c.args.workers _ c.in_ok-table.field-0.seat c.in_ok-seat.seat c.in_ok-seat.grid _ c.close.result c.recall_valid.ensures.valid
-    start.owned start.mine c.in_ok-seat.ensures.grew c.in_ok-seat.ensures.count c.requires.few c.recall_sites.ensures.distinct closes
+    let grew = c.in_ok-seat.ensures in
+    whole_of c.args.sys.now c.in_ok-table.field-0 c.args.workers c.in_ok-seat.seat c.in_ok-seat.grid _ c.close.result c.in_ok-table.ensures grew.grew grew.count c.requires.few c.close.ensures.growth

@@ -22,8 +22,7 @@ loop-part-init g c =
       left = sym (ap (take (length left)) last ∙ take-append_seam left (Ok part ∷ []));
       count = omega (arith, all, both, none);
       each = rest_fact Seen done left (Ok part) last c.requires.each;
-      seen = (last_fact Seen done left (Ok part) last c.requires.each).seen;
-      log = (last_fact Seen done left (Ok part) last c.requires.each).log;
+      part = last_fact Seen done left (Ok part) last c.requires.each;
       far = λ n all. last_fact (λ (d : Result Part NoMemory). IfOk d (λ p. IsFar shared.sys.now n p.grid)) done left (Ok part) last all;
       grew = λ old grid starts is are works. subst (λ (others : List ℕ). IsJoined shared old grid starts (length left) part.seat part.grid part.won others) (sym c.new.ensures.items)
           (joined_first shared old grid starts done left part last are works);
@@ -57,13 +56,12 @@ loop-part-preserved g c =
       left = prefix_less done left new (Ok part) inv.left last;
       count = omega (arith, count, one, long);
       each = rest_fact Seen left new (Ok part) last inv.each;
-      seen = c.in_ok-team.ensures.seen;
-      log = c.in_ok-team.ensures.log;
+      part = c.in_ok-team.ensures.part;
       far = λ n all. c.in_ok-team.ensures.far n (inv.far n all);
       grew = λ old grid starts is are works.
-          joined_more shared old grid starts done new part before.seat after.seat before.grid after.grid before.first after.first before.others.items after.others.items
+          joined_more shared old grid starts done new part before.part.seat after.part.seat before.part.grid after.part.grid before.part.won after.part.won before.others.items after.others.items
           (sym last ∙ (inv.left ∙ ap (λ n. take n done) long)) (omega (arith, count, long)) is are works c.in_ok-team.ensures.grew
-          (subst (λ n. IsJoined shared old grid starts n before.seat before.grid before.first before.others.items) long (inv.grew old grid starts is are works));
+          (subst (λ n. IsJoined shared old grid starts n before.part.seat before.part.grid before.part.won before.others.items) long (inv.grew old grid starts is are works));
     }
 
 pub returns-clause-grew : goal.returns-clause-grew
@@ -71,7 +69,7 @@ returns-clause-grew g c old grid starts is are works =
     let team = c.loop-part.team in
     let left = c.loop-part.left.items in
     let none = c.in_default.ensures.cases.0 in
-    joined_all c.args.shared.now old grid starts (length left) team.seat team.grid team.first team.others.items (sym c.loop-part.left.ok.0 ∙ none) (c.loop-part.invariant.grew old grid starts is are works)
+    joined_all c.args.shared.now old grid starts (length left) team.part.seat team.part.grid team.part.won team.others.items (sym c.loop-part.left.ok.0 ∙ none) (c.loop-part.invariant.grew old grid starts is are works)
 
 pub returns-clause-far : goal.returns-clause-far
 returns-clause-far g c n all = c.loop-part.invariant.far n all

@@ -1,11 +1,11 @@
-use Rattle.std.proofs.Common.{◌≡◌, ◌+◌, ℕ, List, All, Result, IfOk, IfSome, length, take}
+use Rattle.std.proofs.Common.{◌≡◌, ◌+◌, ℕ, List, All, Result, IfOk, length, take}
 use Rattle.assembly.specs.Grids.{TileGrid}
 use Rattle.site_table.specs.Seats.{IsSeatOf, SeatValue}
 use Rattle.grow_workers.specs.declared.leavings.Part.{Part}
 use Rattle.grow_workers.specs.declared.starts.Start.{Start}
 use Rattle.tile_system.specs.declared.memory.NoMemory.{NoMemory}
 use Rattle.grow_workers.specs.Inner.Rounds.{IsFar}
-use Rattle.grow_workers.specs.Inner.Sharing.{AreStartsOf, AreWorksOf, HasSeen, IsLogOf, IsSeenPart}
+use Rattle.grow_workers.specs.Inner.Sharing.{AreStartsOf, AreWorksOf, IsSeenPart}
 use Rattle.grow_workers.proofs.Joined.{IsJoined}
 use Rattle.grow_workers.proofs.joining.join.Given as goal
 
@@ -15,11 +15,10 @@ invariant-loop-part g l = record {
   left : l.left.items ≡ take (length l.left.items) l.fn.done.items;
   count : length l.left.items + 1 + length l.team.others.items ≡ length l.fn.done.items;
   each : All (λ (d : Result Part NoMemory). IfOk d (IsSeenPart l.shared)) l.left.items;
-  seen : HasSeen l.shared l.team.seat l.team.grid;
-  log : IfSome l.team.log (IsLogOf l.shared.sys.now l.team.grid);
-  far : (n : ℕ) → All (λ (d : Result Part NoMemory). IfOk d (λ part. IsFar l.shared.sys.now n part.grid)) l.fn.done.items → IsFar l.shared.sys.now n l.team.grid;
+  part : IsSeenPart l.shared l.team.part;
+  far : (n : ℕ) → All (λ (d : Result Part NoMemory). IfOk d (λ part. IsFar l.shared.sys.now n part.grid)) l.fn.done.items → IsFar l.shared.sys.now n l.team.part.grid;
   grew : (old : SeatValue) (grid : TileGrid) (starts : List Start) → IsSeatOf l.shared.table.now old → AreStartsOf l.shared.sys.now old grid starts → AreWorksOf l.shared starts l.fn.done.items →
-      IsJoined l.shared old grid starts (length l.left.items) l.team.seat l.team.grid l.team.first l.team.others.items;
+      IsJoined l.shared old grid starts (length l.left.items) l.team.part.seat l.team.part.grid l.team.part.won l.team.others.items;
 }
 
 abbrev pub decreases-loop-part : goal.decreases-loop-part

@@ -8,11 +8,10 @@ work_on-requires-clause-seen g c κs within =
     let start = c.args.start in
     seen_in shared start.seat (start_grid shared.sys.now start.seen) c.in_ok-seen.seen c.in_ok-seen.ensures.area c.in_ok-seen.ensures.tiles c.requires.start.seen
 
-pub work_on-requires-clause-log : goal.work_on-requires-clause-log
-work_on-requires-clause-log g c κs within =
+pub work_on-requires-clause-begins : goal.work_on-requires-clause-begins
+work_on-requires-clause-begins g c κs within =
     let shared = c.args.shared.now in
-    let start = c.args.start in
-    begins_in shared.sys.now (start_grid shared.sys.now start.seen) c.in_ok-seen.seen start.log c.in_ok-seen.ensures.tiles c.requires.start.log
+    begins_in shared (start_grid shared.sys.now c.args.start.seen) c.in_ok-seen.seen c.in_ok-seen.ensures.tiles c.requires.start.begins
 
 pub returns : goal.returns
 returns g c = work_of c.args.shared.now c.args.start c.in_ok-seen.seen c.work_on.result c.in_ok-seen.ensures.tiles c.work_on.ensures.seen c.work_on.ensures.grew

@@ -8,7 +8,7 @@ use Rattle.grow_workers.proofs.starts.split.Goals as goal
 pub returns-clause-starts : goal.returns-clause-starts
 returns-clause-starts g c =
     let old = c.in_ok-starts.starts.items in
-    let start : Start = record { worker = 0; seat = c.in_ok-starts.kept; seen = Some c.args.seen; log = c.args.log } in
+    let start : Start = record { worker = 0; seat = c.in_ok-starts.kept; seen = Some c.args.seen } in
     let longer : c.push.new.self.items ≡ old ++ start ∷ [] = c.in_ok-push.ensures.items in
     let Same : Start → Type 0 = λ s. SamePlacements c.args.seen.tiles (start_grid c.args.shared.now.sys.now s.seen).tiles in
     record {
@@ -23,8 +23,8 @@ pub returns-clause-each : goal.returns-clause-each
 returns-clause-each g c =
     let shared = c.args.shared.now in
     let old = c.in_ok-starts.starts.items in
-    let start : Start = record { worker = 0; seat = c.in_ok-starts.kept; seen = Some c.args.seen; log = c.args.log } in
+    let start : Start = record { worker = 0; seat = c.in_ok-starts.kept; seen = Some c.args.seen } in
     let longer : c.push.new.self.items ≡ old ++ start ∷ [] = c.in_ok-push.ensures.items in
     let some = shared.workers.some in
-    let one : IsStart shared start = record { worker = omega (arith, some); seen = c.in_ok-starts.ensures.kept; log = c.requires.log } in
+    let one : IsStart shared start = record { worker = omega (arith, some); seen = c.in_ok-starts.ensures.kept; begins = c.requires.begins } in
     subst (All (IsStart shared)) (sym longer) (All-push (IsStart shared) old start c.in_ok-starts.ensures.each one)
