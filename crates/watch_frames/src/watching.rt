@@ -115,8 +115,8 @@ fn grow_watched<R: Threads + Sync, G: Gate>(
     requires area { seen.area ≡ lent.sys.now.area }
     requires seen { SamePlacements seat.scout.seen seen.tiles }
     ensures watched { HasWatched watcher result.0 }
-    ensures grew { IfOk result.1 (λ r. GrewOn lent.sys.now seat seen r.0 r.1 r.2.items) }
-    ensures count { IfOk result.1 (λ r. length r.2.items ≡ lent.workers.count) }
+    ensures grew { IfOk result.1 (λ r. GrewOn lent.entry.sys.now seat seen r.0 r.1 r.2.items) }
+    ensures count { IfOk result.1 (λ r. length r.2.items ≡ lent.entry.workers.count) }
 {
     let Lent {
         sys,
