@@ -10,7 +10,7 @@ ghost use Rattle.assembly.specs.Cells.{cell_count, site_at};
 ghost use Rattle.assembly.specs.Grids.{IsEmptyRow, IsFullRow};
 ghost use Rattle.tile_system.specs.Neighbors.{StandBeside};
 ghost use Rattle.assembly.specs.Inner.GridCells.{is_tile, type_in};
-ghost use Rattle.assembly.specs.Inner.Filling.{filled_cell};
+ghost use Rattle.assembly.specs.Inner.Filling.{cell_over, filled_cell};
 
 use crate::site_index;
 use std::alloc::Global;
@@ -140,7 +140,9 @@ impl Grid {
         ensures placements { SamePlacements (self.old.tiles ++ other.now.tiles) self.new.tiles }
         ensures distinct { HasDistinctSites self.new.tiles }
     {
-        self.count += fill_gaps(self.cells.as_mut_slice(), other.cells.as_slice());
+        let cells = self.cells.as_mut_slice();
+        fill_gaps(cells, other.cells.as_slice());
+        self.count = count_tiles(cells);
     }
 
     /// Whether no tile is in the row, in one look at each site of it.
@@ -319,21 +321,34 @@ fn are_tiles(cells: &[u16]) -> bool
     gaps == 0
 }
 
-// Copies the cells of tiles to where there are none, and counts them.
-fn fill_gaps(cells: &mut [u16], other: &[u16]) -> u32
-    requires equal { length cells.old ≡ length other.now }
-    requires short { length cells.old < 2 ^ 32 }
-    ensures filled { (k : ℕ) → k < length cells.old →
+// Copies the cells of tiles to where there are none. It and `count_tiles` look at all cells, many
+// at once.
+fn fill_gaps(cells: &mut [u16], other: &[u16])
+    requires { length cells.old ≡ length other.now }
+    ensures { (k : ℕ) → k < length cells.old →
         slice_index cells.new k ≡ filled_cell cells.old other.now k }
-    ensures count { count_by is_tile cells.new ≡ count_by is_tile cells.old + result }
 {
-    let mut filled = 0;
     for index in 0..cells.len() {
-        let own = cells[index];
-        let added = other[index];
-        let cell = if own == 0 { added } else { own };
-        cells[index] = cell;
-        filled += (cell != own) as u32;
+        cells[index] = cell_over(cells[index], other[index]);
     }
-    filled
+}
+
+// A cell, or the other one where it is of no tile. It is a function of its own, since only so the
+// loop over it is compiled without a branch.
+fn cell_over(own: u16, other: u16) -> u16
+    ensures { result ≡ cell_over own other }
+{
+    if own == 0 { other } else { own }
+}
+
+// How many cells are of a tile.
+fn count_tiles(cells: &[u16]) -> u32
+    requires { length cells.now < 2 ^ 32 }
+    ensures { result ≡ count_by is_tile cells.now }
+{
+    let mut count = 0;
+    for cell in cells {
+        count += (*cell != 0) as u32;
+    }
+    count
 }

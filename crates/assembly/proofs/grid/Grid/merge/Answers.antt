@@ -1,6 +1,5 @@
-use Rattle.std.proofs.Common.{◌≡◌, ◌<◌, ◌∙◌, ◌++◌, ℕ, List, length, get_or, take, drop, Some, count_by, ap, sym, subst, arith}
+use Rattle.std.proofs.Common.{◌≡◌, ◌<◌, ◌∙◌, ◌++◌, ℕ, List, length, get_or, take, drop, Some, ap, sym, subst, arith}
 use Rattle.std.proofs.lemmas.List.{take_at}
-use Rattle.std.proofs.lemmas.List.Sums.{count_by-le-length}
 use Rattle.atam.specs.declared.area.BoxArea.{BoxArea}
 use Rattle.atam.specs.declared.site.Site.{Site}
 use Rattle.atam.specs.declared.place.TypeId.{TypeId}
@@ -8,7 +7,6 @@ use Rattle.atam.specs.declared.place.Place.{Place}
 use Rattle.atam.specs.Placements.{SamePlacements, tile_at}
 use Rattle.assembly.specs.Cells.{cell_count, site_at}
 use Rattle.assembly.specs.Grids.{places_of}
-use Rattle.assembly.specs.Inner.GridCells.{is_tile}
 use Rattle.assembly.specs.Inner.Filling.{filled_cell}
 use Rattle.assembly.proofs.Cells.{cell_count-most, site_at-injective}
 use Rattle.assembly.proofs.Contents.{places-distinct}
@@ -16,22 +14,15 @@ use Rattle.atam.proofs.Tiles.{SameTiles}
 use Rattle.assembly.proofs.Grids.{merge_tiles, merge_placements}
 use Rattle.assembly.proofs.grid.Grid.merge.Goals as goal
 
-pub overflow_add-self : goal.overflow_add-self
-overflow_add-self c =
-    let cells = c.self.inside.cells.items in
-    let new = c.fill_gaps.new.cells in
+pub count_tiles-self-inside-requires : goal.count_tiles-self-inside-requires
+count_tiles-self-inside-requires c =
     let grid = c.self.invariant in
-    let before : count_by is_tile c.as_mut_slice.result.now ≡ count_by is_tile cells = ap (count_by is_tile) c.as_mut_slice.ensures.value in
     omega (
       arith,
-      count_by-le-length is_tile new,
       cell_count-most c.self.inside.area grid.box_limits,
       grid.sites,
-      grid.counted,
-      before,
-      c.fill_gaps.ensures.count,
       c.fill_gaps.auto.cells,
-      ap length c.as_mut_slice.ensures.value,
+      ap length c.as_mut_slice-cells.ensures.value,
     )
 
 -- what the cells that were filled stand for
@@ -65,16 +56,16 @@ module _ (area other_area : BoxArea) (same_area : area ≡ other_area) (cells ot
 pub returns-clause-tiles : goal.returns-clause-tiles
 returns-clause-tiles c =
     merged_tiles c.self.inside.area c.other.inside.area (ap (λ v. v.area) c.self.view_is ∙ sym c.requires.area ∙ sym (ap (λ v. v.area) c.other.view_is))
-    c.self.inside.cells.items c.other.inside.cells.items c.as_mut_slice.result.now c.as_slice.result.now c.fill_gaps.new.cells
-    c.as_mut_slice.ensures.value c.as_slice.ensures.value c.self.invariant.sites c.other.invariant.sites c.fill_gaps.auto.cells c.fill_gaps.ensures.filled
+    c.self.inside.cells.items c.other.inside.cells.items c.as_mut_slice-cells.result.now c.as_slice.result.now c.fill_gaps.new.cells
+    c.as_mut_slice-cells.ensures.value c.as_slice.ensures.value c.self.invariant.sites c.other.invariant.sites c.fill_gaps.auto.cells c.fill_gaps.ensures
     (drop (length c.fill_gaps.new.cells) c.self.inside.cells.items) c.self.inside.cells.len c.self.inside.cells.ok.0
     c.args.self.now.tiles c.args.other.now.tiles (ap (λ v. v.tiles) c.self.view_is) (ap (λ v. v.tiles) c.other.view_is)
 
 pub returns-clause-placements : goal.returns-clause-placements
 returns-clause-placements c =
     merged_placements c.self.inside.area c.other.inside.area (ap (λ v. v.area) c.self.view_is ∙ sym c.requires.area ∙ sym (ap (λ v. v.area) c.other.view_is))
-    c.self.inside.cells.items c.other.inside.cells.items c.as_mut_slice.result.now c.as_slice.result.now c.fill_gaps.new.cells
-    c.as_mut_slice.ensures.value c.as_slice.ensures.value c.self.invariant.sites c.other.invariant.sites c.fill_gaps.auto.cells c.fill_gaps.ensures.filled
+    c.self.inside.cells.items c.other.inside.cells.items c.as_mut_slice-cells.result.now c.as_slice.result.now c.fill_gaps.new.cells
+    c.as_mut_slice-cells.ensures.value c.as_slice.ensures.value c.self.invariant.sites c.other.invariant.sites c.fill_gaps.auto.cells c.fill_gaps.ensures
     (drop (length c.fill_gaps.new.cells) c.self.inside.cells.items) c.self.inside.cells.len c.self.inside.cells.ok.0
     c.args.self.now.tiles c.args.other.now.tiles (ap (λ v. v.tiles) c.self.view_is) (ap (λ v. v.tiles) c.other.view_is) c.requires.agree
 
