@@ -127,6 +127,14 @@ impl PackedPlaces {
         })
     }
 
+    // Gives back the memory that it has beyond its places, in place.
+    pub(crate) fn shrink_to_fit(&mut self)
+        ensures { self.new.places ≡ self.old.places }
+    {
+        self.packed.shrink_to_fit();
+        self.far.shrink_to_fit();
+    }
+
     #[inline(always)]
     pub(crate) fn len(&self) -> usize
         ensures { result ≡ length self.now.places }

@@ -76,6 +76,13 @@ impl Sequence {
         })
     }
 
+    /// Gives back the memory that it has beyond its places. It takes none.
+    pub fn shrink_to_fit(&mut self)
+        ensures { self.new ≡ self.old }
+    {
+        self.places.shrink_to_fit();
+    }
+
     pub fn len(&self) -> usize
         ensures { result ≡ length self.now }
     {
