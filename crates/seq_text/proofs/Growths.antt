@@ -1,6 +1,6 @@
 -- The lines of a growth text so far.
 use Rattle.std.proofs.Common.{◌≡◌, ◌⊎◌, ℕ, Bool, true, false, cond, codes, List, [], ◌∷◌, ◌++◌, length, map, slice_get, Option, Some, None, Ok, inl, inr, refl, sym, ap, subst, ◌∙◌}
-use Rattle.std.specs.Prelude.{option_map, filter_map, find, bytes_eq, ◌-◌}
+use Rattle.std.specs.Prelude.{option_map, filter_map, find, bytes_eq, ◌-◌, is_some}
 use Rattle.std.proofs.lemmas.List.{append-nil}
 use Rattle.std.proofs.lemmas.List.Elements.{filter_map-append}
 use Rattle.std.proofs.lemmas.Option.{slice_get-map}
@@ -16,7 +16,7 @@ use Rattle.seq_text.specs.declared.kind.LineKind.TheVariants as kinds
 use Rattle.seq_text.specs.GrowthText.{GrowthItem, growth_table, growth_format, place_row, closed_row, unique_row, grid_format, ReadsPlaces, ReadsGrid, place_of, places_of}
 use Rattle.seq_text.specs.GrowthText.GrowthItem.{PlaceLine, ClosedLine, UniqueLine}
 use Rattle.seq_text.specs.Inner.Kinds.{row_of, kind_of, kind_named}
-use Rattle.seq_text.specs.Inner.SoFar.{HasScratch, HoldsLines}
+use Rattle.seq_text.specs.Inner.SoFar.{HoldsLines, HoldsPlaces, IsOverBox}
 
 -- a place more, and a line without a place
 pub places-push : (items : List GrowthItem) (p : Place) → places_of (items ++ PlaceLine p ∷ []) ≡ places_of items ++ p ∷ []
@@ -28,19 +28,30 @@ unfolding places_of
 places-same items item none = filter_map-append place_of items (item ∷ []) ∙ rw none (append-nil (filter_map place_of items))
 
 module _ (sys : TileSystem) where
-  pub holds_nothing : (scratch : Option TileGrid) → HasScratch sys [] scratch → HoldsLines sys [] scratch None []
+  pub holds_nothing : (grid : Option TileGrid) → IsOverBox sys grid → HoldsPlaces sys [] grid [] → HoldsLines sys [] grid None []
   unfolding places_of
-  holds_nothing scratch grid = record { places_are = refl; grid = grid; kind = refl }
+  holds_nothing grid box_area none = record { box_area = box_area; places = none; kind = refl }
 
-  pub holds_place : (places : List Place) (old new : Option TileGrid) (last : Option LineKind) (items : List GrowthItem) (p : Place) → HoldsLines sys places old last items → HasScratch sys (places ++ p ∷ []) new →
-      HoldsLines sys (places ++ p ∷ []) new (Some kinds.Place) (items ++ PlaceLine p ∷ [])
-  holds_place places old new last items p h grid =
-      record { places_are = ap (λ l. l ++ p ∷ []) h.places_are ∙ sym (places-push items p); grid = grid; kind = sym (ap (option_map kind_of) (last_push items (PlaceLine p))) }
+  pub holds_place : (sequence : List Place) (old : Option TileGrid) (longer : List Place) (new : Option TileGrid) (last : Option LineKind) (items : List GrowthItem) (p : Place) → HoldsLines sys sequence old last items →
+      IsOverBox sys new → HoldsPlaces sys longer new (places_of items ++ p ∷ []) → HoldsLines sys longer new (Some kinds.Place) (items ++ PlaceLine p ∷ [])
+  holds_place sequence old longer new last items p h box_area held = record {
+    box_area = box_area;
+    places = subst (HoldsPlaces sys longer new) (sym (places-push items p)) held;
+    kind = sym (ap (option_map kind_of) (last_push items (PlaceLine p)));
+  }
 
-  pub holds_other : (places : List Place) (scratch : Option TileGrid) (last : Option LineKind) (items : List GrowthItem) (item : GrowthItem) → place_of item ≡ None → HoldsLines sys places scratch last items →
-      HoldsLines sys places scratch (Some (kind_of item)) (items ++ item ∷ [])
-  holds_other places scratch last items item none h =
-      record { places_are = h.places_are ∙ sym (places-same items item none); grid = h.grid; kind = sym (ap (option_map kind_of) (last_push items item)) }
+  pub holds_other : (sequence : List Place) (grid : Option TileGrid) (last : Option LineKind) (items : List GrowthItem) (item : GrowthItem) → place_of item ≡ None → HoldsLines sys sequence grid last items →
+      HoldsLines sys sequence grid (Some (kind_of item)) (items ++ item ∷ [])
+  holds_other sequence grid last items item none h = record {
+    box_area = h.box_area;
+    places = subst (HoldsPlaces sys sequence grid) (sym (places-same items item none)) h.places;
+    kind = sym (ap (option_map kind_of) (last_push items item));
+  }
+
+  -- where there is no grid the sequence has the places
+  pub sequence_is : (sequence : List Place) (grid : Option TileGrid) (places : List Place) → is_some grid ≡ false → HoldsPlaces sys sequence grid places → sequence ≡ places
+  sequence_is sequence None places none h = h
+  sequence_is sequence (Some grid) places none h = absurd (cc none)
 
 follows_some : (p : Option Place) → closed_row.may_follow (option_map PlaceLine p) ≡ true
 follows_some None = refl
@@ -94,9 +105,9 @@ pub into_places : (distinct : Bool) (sys : TileSystem) (text : List ℕ) (from t
     ReadsPlaces (growth_format distinct sys) text from places
 into_places distinct sys text from to places items is reads = record { items = items; to = to; reads = reads; places_are = is }
 
-pub into_grid : (sys held_by : TileSystem) (text : List ℕ) (from to : Mark) (places : List Place) (scratch : Option TileGrid) (grid : TileGrid) (last : Option LineKind) (items : List GrowthItem) → held_by ≡ sys →
-    HoldsLines held_by places scratch last items → scratch ≡ Some grid → Reads (grid_format sys) text from items to → ReadsGrid sys text from grid
-into_grid sys held_by text from to places scratch grid last items same held is reads =
-    let Grid : Option TileGrid → Type 0 = λ s. HasScratch held_by places s in
-    let put = subst Grid is held.grid in
-    record { area = put.area ∙ ap (λ s. s.area) same; places = places; reads = into_places true sys text from to places items held.places_are reads; same = put.same }
+pub into_grid : (sys held_by : TileSystem) (text : List ℕ) (from to : Mark) (sequence : List Place) (held : Option TileGrid) (grid : TileGrid) (last : Option LineKind) (items : List GrowthItem) → held_by ≡ sys →
+    HoldsLines held_by sequence held last items → held ≡ Some grid → Reads (grid_format sys) text from items to → ReadsGrid sys text from grid
+into_grid sys held_by text from to sequence held grid last items same lines is reads =
+    let Places : Option TileGrid → Type 0 = λ g. HoldsPlaces held_by sequence g (places_of items) in
+    let put = subst Places is lines.places in
+    record { area = put.area ∙ ap (λ s. s.area) same; places = places_of items; reads = into_places true sys text from to (places_of items) items refl reads; same = put.same }

@@ -19,7 +19,6 @@ use Rattle.atam.specs.declared.place.TypeId.{TypeId}
 use Rattle.atam.specs.declared.place.Place.{Place}
 use Rattle.atam.specs.TileSystem.{TileSystem}
 use Rattle.tile_system.specs.Names.{type_named}
-use Rattle.assembly.specs.Grids.{TileGrid}
 use Rattle.tile_io.proofs.Rows.{check_line_by}
 use Rattle.tile_text.specs.Fields.{site_field, place_field}
 use Rattle.tile_text.specs.SystemText.{is_in_box}
@@ -28,7 +27,6 @@ use Rattle.seq_text.specs.declared.kind.LineKind.TheVariants as kinds
 use Rattle.seq_text.specs.GrowthText.{GrowthItem, growth_table, place_row, place_in, places_of, names_of, may_stand, closed_row}
 use Rattle.seq_text.specs.GrowthText.GrowthItem.{PlaceLine, ClosedLine, UniqueLine}
 use Rattle.seq_text.specs.Inner.Kinds.{kind_of, may_stand_after}
-use Rattle.seq_text.specs.Inner.SoFar.{HoldsLines}
 use Rattle.seq_text.proofs.Fields.{place_of_found}
 use Rattle.seq_text.proofs.Growths.{row_named}
 use Rattle.tile_text.proofs.PlainWords.{keyword_word, name_word, name_short}
@@ -162,12 +160,12 @@ pub record IsPlaceLine (distinct : Bool) (sys : TileSystem) (earlier : List Plac
   pub keyword : field words 0 ≡ codes "place"
   pub reads : place_in distinct sys earlier words ≡ Ok p
 
--- a text begins with a `place` line that passes its checks, and it has so many bytes with its newline
-pub record BeginsWithPlace (distinct : Bool) (sys : TileSystem) (earlier : List Place) (text : List ℕ) (p : Place) (count : ℕ) : Type 0 where
+-- a text begins with a `place` line that passes its checks after each list of places where it may stand, and it has so many bytes with its newline
+pub record BeginsWithPlace (distinct : Bool) (sys : TileSystem) (text : List ℕ) (p : Place) (count : ℕ) : Type 0 where
   pub line : List ℕ
   pub begins : BeginsWithLine text line
   pub count_is : count ≡ length line + 1
-  pub place : IsPlaceLine distinct sys earlier (words_of line) p
+  pub place : (earlier : List Place) → may_stand distinct earlier p.site ≡ true → IsPlaceLine distinct sys earlier (words_of line) p
 
 -- the checks of a `place` line in its plain form
 pub plain_line : (distinct : Bool) (sys : TileSystem) (earlier : List Place) (line : List ℕ) (m : Site) (name : List ℕ) (t : TypeId) → IsPlainPlace line m name → is_name name ≡ true → type_named sys.types name ≡ Some t.0 →
@@ -181,10 +179,14 @@ plain_line distinct sys earlier line m name t plain named found inside free =
     subst Reads (sym (plain_words line m name plain named)) (record { count = refl; keyword = refl; reads = rw (read, inside, free) refl })
 
 -- and those of one at the front of a text
-pub plain_front : (distinct : Bool) (sys : TileSystem) (earlier : List Place) (text : List ℕ) (m : Site) (name : List ℕ) (count : ℕ) (t : TypeId) → BeginsPlain text m name count → is_name name ≡ true →
-    type_named sys.types name ≡ Some t.0 → is_in_box sys.area m ≡ true → may_stand distinct earlier m ≡ true → BeginsWithPlace distinct sys earlier text (record { site = m; tile = t }) count
-plain_front distinct sys earlier text m name count t h named found inside free =
-    record { line = h.line; begins = plain_begins h.line m name h.plain text h.behind named h.whole; count_is = h.count_is; place = plain_line distinct sys earlier h.line m name t h.plain named found inside free }
+pub plain_front : (distinct : Bool) (sys : TileSystem) (text : List ℕ) (m : Site) (name : List ℕ) (count : ℕ) (t : TypeId) → BeginsPlain text m name count → is_name name ≡ true →
+    type_named sys.types name ≡ Some t.0 → is_in_box sys.area m ≡ true → BeginsWithPlace distinct sys text (record { site = m; tile = t }) count
+plain_front distinct sys text m name count t h named found inside = record {
+  line = h.line;
+  begins = plain_begins h.line m name h.plain text h.behind named h.whole;
+  count_is = h.count_is;
+  place = λ earlier free. plain_line distinct sys earlier h.line m name t h.plain named found inside free;
+}
 
 -- a name and a newline behind the coordinates
 module _ (text : List ℕ) (m : Site) (fields name behind : List ℕ) (plain : IsPlainPlace text m fields) (cut : fields ≡ name ++ 10 ∷ behind) where
@@ -220,9 +222,9 @@ place_follows (Some (PlaceLine p)) e = refl
 place_follows (Some ClosedLine) e = absurd (cc e)
 place_follows (Some UniqueLine) e = absurd (cc e)
 
-module _ (distinct : Bool) (sys : TileSystem) (places : List Place) (scratch : Option TileGrid) (last : Option LineKind) (items : List GrowthItem) (held : HoldsLines sys places scratch last items) where
+module _ (distinct : Bool) (sys : TileSystem) (last : Option LineKind) (items : List GrowthItem) (kind : last ≡ option_map kind_of (last_of items)) where
   -- a `place` line that passes its checks is taken as its place
-  pub place_taken : (words : List (List ℕ)) (p : Place) → IsPlaceLine distinct sys places words p → may_stand_after kinds.Place last ≡ true → check_line (growth_table distinct sys).keywords items words ≡ Ok (PlaceLine p)
+  pub place_taken : (words : List (List ℕ)) (p : Place) → IsPlaceLine distinct sys (places_of items) words p → may_stand_after kinds.Place last ≡ true → check_line (growth_table distinct sys).keywords items words ≡ Ok (PlaceLine p)
   unfolding growth_table
   place_taken words p line stands =
       let Stands : Option LineKind → Type 0 = λ l. may_stand_after kinds.Place l ≡ true in
@@ -232,5 +234,5 @@ module _ (distinct : Bool) (sys : TileSystem) (places : List Place) (scratch : O
       let found : Some row ≡ find (λ r. bytes_eq (field words 0) r.word) keywords = subst Found (sym line.keyword) (row_named distinct sys (codes "place")) in
       let some : 0 < length words = omega (arith, line.count) in
       let count : (length words == 4) ≡ true = rw line.count refl in
-      let read : place_in distinct sys (places_of items) words ≡ Ok p = ap (λ l. place_in distinct sys l words) (sym held.places_are) ∙ line.reads in
-      check_line_by keywords row items words some found count (place_follows (last_of items) (subst Stands held.kind stands)) refl ∙ rw read refl
+      let read : place_in distinct sys (places_of items) words ≡ Ok p = line.reads in
+      check_line_by keywords row items words some found count (place_follows (last_of items) (subst Stands kind stands)) refl ∙ rw read refl

@@ -1,5 +1,5 @@
 -- The scratch grid has the places that were read.
-use Rattle.std.proofs.Common.{◌≡◌, ◌≢◌, true, Option, List, [], ◌∷◌, ◌++◌, Some, None, refl, sym, subst, ◌∙◌, inl, inr}
+use Rattle.std.proofs.Common.{◌≡◌, ◌≢◌, true, Option, List, [], ◌∷◌, ◌++◌, Some, None, refl, sym, ap, subst, ◌∙◌, inl, inr}
 use Rattle.std.specs.Prelude.{is_none, is_some}
 use Rattle.atam.proofs.Lists.{some_or_none}
 use Rattle.atam.specs.declared.site.Site.{Site}
@@ -11,7 +11,7 @@ use Rattle.atam.proofs.Placements.{at_site, tile_at-here, tile_at-past, tile_at-
 use Rattle.assembly.specs.Grids.{TileGrid}
 use Rattle.atam.proofs.Tiles.{SamePlacements-push, SamePlacements-trans}
 use Rattle.seq_text.specs.GrowthText.{may_stand}
-use Rattle.seq_text.specs.Inner.SoFar.{IsScratchOf}
+use Rattle.seq_text.specs.Inner.SoFar.{IsScratchOf, HoldsPlaces, is_free_in}
 
 -- an empty grid has no places
 pub scratch_none : (sys : TileSystem) (grid : TileGrid) → grid.area ≡ sys.area → grid.tiles ≡ [] → IsScratchOf sys [] grid
@@ -53,8 +53,13 @@ scratch_put sys places old new p h empty area here others same = record {
   same = SamePlacements-trans (places ++ p ∷ []) (old.tiles ++ p ∷ []) new.tiles (SamePlacements-push places old.tiles p h.same) same;
 }
 
--- where sites have to differ, a site that is free is empty
-pub free_is : (scratch : Option TileGrid) (grid : TileGrid) (places : List Place) (m : Site) → scratch ≡ Some grid → may_stand (is_some scratch) places m ≡ true → tile_at places m ≡ None
-free_is scratch grid places m is free =
-    let Stands : Option TileGrid → Type 0 = λ s. may_stand (is_some s) places m ≡ true in
-    empty_is places m (subst Stands is free)
+-- a site that is free in a grid is empty there
+pub free_is : (held : Option TileGrid) (grid : TileGrid) (m : Site) → held ≡ Some grid → is_free_in held m ≡ true → tile_at grid.tiles m ≡ None
+free_is held grid m is free =
+    let Free : Option TileGrid → Type 0 = λ g. is_free_in g m ≡ true in
+    none_is (tile_at grid.tiles m) (subst Free is free)
+
+-- a tile may be placed at a site after places exactly where it is free in what holds them
+pub stands_is : (sys : TileSystem) (sequence : List Place) (held : Option TileGrid) (places : List Place) (m : Site) → HoldsPlaces sys sequence held places → may_stand (is_some held) places m ≡ is_free_in held m
+stands_is sys sequence None places m h = refl
+stands_is sys sequence (Some grid) places m h = ap is_none (sym (h.tiles m))

@@ -1,5 +1,6 @@
 // A growth is read from its text.
 ghost use Rattle.std.specs.Prelude.{◌≡◌, ◌≤◌, ◌<◌, ◌^◌, ◌++◌, ◌∷◌, [], ℕ, List, true, false, Some, length, is_some, IfOk, IfErr, IfSome, OnOk, OnErr};
+ghost use Rattle.atam.specs.declared.place.Place.{Place};
 ghost use Rattle.atam.specs.Sites.{InBox};
 ghost use Rattle.atam.specs.Assembly.{Fits};
 ghost use Rattle.atam.specs.Placements.{HasDistinctSites};
@@ -10,10 +11,10 @@ ghost use Rattle.tile_io.specs.Formats.{ReadsOrStops};
 ghost use Rattle.tile_io.specs.LineReader.{TakesItem};
 ghost use Rattle.atam.specs.TileSystem.{IsType};
 ghost use Rattle.tile_text.specs.Fields.{place_field};
-ghost use Rattle.seq_text.specs.GrowthText.{GrowthItem, sequence_format, grid_format, ReadsSequence, ReadsGrid, names_of, place_row, place_in, may_stand};
+ghost use Rattle.seq_text.specs.GrowthText.{GrowthItem, sequence_format, grid_format, ReadsSequence, ReadsGrid, names_of, place_row, place_in};
 ghost use Rattle.seq_text.specs.Inner.Kinds.{may_stand_after};
 ghost use Rattle.seq_text.specs.Inner.Plain.{BeginsPlain};
-ghost use Rattle.seq_text.specs.Inner.SoFar.{HasScratch};
+ghost use Rattle.seq_text.specs.Inner.SoFar.{HoldsPlaces, IsOverBox, is_free_in};
 
 use crate::kind::LineKind;
 use crate::plain::{PlainPlace, plain_place};
@@ -44,7 +45,7 @@ pub fn read_sequence(
 {
     let mut reader = GrowthReader::of_sequence(alloc, sys);
     read_text(&mut reader, text, from)?;
-    Ok(reader.places)
+    Ok(reader.sequence)
 }
 
 /// The same for a text that was begun, and goes on with all that is left of a source
@@ -68,11 +69,11 @@ pub fn read_sequence_in_blocks<S: Source>(
 {
     let mut reader = GrowthReader::of_sequence(alloc, sys);
     read_text_in_blocks(source, &mut reader, begun, from)?;
-    Ok(reader.places)
+    Ok(reader.sequence)
 }
 
 /// Reads a growth text to the end of the input, as a grid over the system's box. The places have to
-/// differ in their sites. Their sequence is kept beside the grid until the end.
+/// differ in their sites. It takes the grid's memory alone.
 pub fn read_grid(alloc: Global, sys: &System, text: &[u8], from: Mark) -> Result<Grid, TextStop>
     requires short { length text.now ≤ MOST_INPUT }
     requires mark { IsMark text.now from }
@@ -83,7 +84,7 @@ pub fn read_grid(alloc: Global, sys: &System, text: &[u8], from: Mark) -> Result
 {
     let mut reader = GrowthReader::of_grid(alloc, sys)?;
     read_text(&mut reader, text, from)?;
-    let grid = reader.scratch.unwrap();
+    let grid = reader.grid.unwrap();
     prove!(grid.area() == sys.area());
     Ok(grid)
 }
@@ -109,19 +110,19 @@ pub fn read_grid_in_blocks<S: Source>(
 {
     let mut reader = GrowthReader::of_grid(alloc, sys)?;
     read_text_in_blocks(source, &mut reader, begun, from)?;
-    let grid = reader.scratch.unwrap();
+    let grid = reader.grid.unwrap();
     prove!(grid.area() == sys.area());
     Ok(grid)
 }
 
-// What was read so far: the places, the keyword of the last line, and where sites have to differ a
-// grid of the same places. Beside it the types that the lines named last.
+// What was read so far: the places, in a grid where sites have to differ and else in a sequence,
+// and the keyword of the last line. Beside it the types that the lines named last.
 #[derive(Drop)]
 struct GrowthReader<'a> {
     system: &'a System,
     found: FoundTypes,
-    places: Sequence,
-    scratch: Option<Grid>,
+    sequence: Sequence,
+    grid: Option<Grid>,
     last: Option<LineKind>,
 }
 
@@ -139,13 +140,13 @@ impl<'a> LineReader for GrowthReader<'a> {
 
     ghost Context = { Bool × TileSystem };
 
-    ghost context = { λ r. (is_some r.scratch, r.system.now) };
+    ghost context = { λ r. (is_some r.grid, r.system.now) };
 
     ghost table = { λ context. growth_table context.0 context.1 };
 
     ghost row = { λ context. row_of context.0 context.1 };
 
-    ghost holds = { λ r. HoldsLines r.system.now r.places r.scratch r.last };
+    ghost holds = { λ r. HoldsLines r.system.now r.sequence r.grid r.last };
 
     fn has_header(&self) -> bool {
         false
@@ -208,16 +209,16 @@ impl<'a> GrowthReader<'a> {
 
     // A reader of a sequence, before the first line.
     fn of_sequence(alloc: Global, system: &'a System) -> GrowthReader<'a>
-        ensures distinct { is_some result.scratch ≡ false }
+        ensures distinct { is_some result.grid ≡ false }
         ensures system { result.system.now ≡ system.now }
-        ensures nothing { HoldsLines result.system.now result.places
-            result.scratch result.last [] }
+        ensures nothing { HoldsLines result.system.now result.sequence
+            result.grid result.last [] }
     {
         GrowthReader {
             system,
             found: FoundTypes::new(),
-            places: Sequence::make(alloc),
-            scratch: None,
+            sequence: Sequence::make(alloc),
+            grid: None,
             last: None,
         }
     }
@@ -225,10 +226,10 @@ impl<'a> GrowthReader<'a> {
     // A reader of a grid, before the first line.
     fn of_grid(alloc: Global, system: &'a System) -> Result<GrowthReader<'a>, TextStop>
         ensures memory { IfErr result (λ stop. stop ≡ TextStop.NoMemory) }
-        ensures distinct { IfOk result (λ reader. is_some reader.scratch ≡ true) }
+        ensures distinct { IfOk result (λ reader. is_some reader.grid ≡ true) }
         ensures system { IfOk result (λ reader. reader.system.now ≡ system.now) }
         ensures nothing { IfOk result (λ reader.
-            HoldsLines reader.system.now reader.places reader.scratch reader.last []) }
+            HoldsLines reader.system.now reader.sequence reader.grid reader.last []) }
     {
         let Ok(grid) = Grid::make(alloc, system.area()) else {
             return Err(TextStop::NoMemory);
@@ -236,8 +237,8 @@ impl<'a> GrowthReader<'a> {
         Ok(GrowthReader {
             system,
             found: FoundTypes::new(),
-            places: Sequence::make(alloc),
-            scratch: Some(grid),
+            sequence: Sequence::make(alloc),
+            grid: Some(grid),
             last: None,
         })
     }
@@ -245,15 +246,15 @@ impl<'a> GrowthReader<'a> {
     // Takes the fields of a `place` line.
     fn take_place(&mut self, words: &LineWords) -> Result<bool, LineStop>
         requires words { length words.now ≡ 4 }
-        requires grid { HasScratch self.old.system.now self.old.places self.old.scratch }
+        requires box_area { IsOverBox self.old.system.now self.old.grid }
         ensures taken { (items : List GrowthItem) →
-            HoldsLines self.old.system.now self.old.places self.old.scratch self.old.last items →
+            HoldsLines self.old.system.now self.old.sequence self.old.grid self.old.last items →
             TakesItem (λ item. false)
-            (HoldsLines self.new.system.now self.new.places self.new.scratch self.new.last)
+            (HoldsLines self.new.system.now self.new.sequence self.new.grid self.new.last)
             items
-            ((place_row (is_some self.old.scratch) self.old.system.now).fields items words.now)
+            ((place_row (is_some self.old.grid) self.old.system.now).fields items words.now)
             result }
-        ensures distinct { is_some self.new.scratch ≡ is_some self.old.scratch }
+        ensures distinct { is_some self.new.grid ≡ is_some self.old.grid }
         ensures system { self.new.system.now ≡ self.old.system.now }
     {
         let place = self.read_fields(words)?;
@@ -266,13 +267,12 @@ impl<'a> GrowthReader<'a> {
     // The fields of a `place` line, and the checks of the whole line.
     fn read_fields(&self, words: &LineWords) -> Result<Place, Cause>
         requires words { length words.now ≡ 4 }
-        requires grid { HasScratch self.now.system.now self.now.places self.now.scratch }
-        ensures place { result
-            ≡ place_in (is_some self.now.scratch) self.now.system.now self.now.places words.now }
+        ensures place { (places : List Place) →
+            HoldsPlaces self.now.system.now self.now.sequence self.now.grid places →
+            result ≡ place_in (is_some self.now.grid) self.now.system.now places words.now }
         ensures inside { IfOk result (λ p. InBox self.now.system.now.area p.site) }
         ensures small { IfOk result (λ p. p.tile.0 < MOST_TYPES) }
-        ensures free { IfOk result (λ p.
-            may_stand (is_some self.now.scratch) self.now.places p.site ≡ true) }
+        ensures free { IfOk result (λ p. is_free_in self.now.grid p.site ≡ true) }
     {
         let place = read_tile(self.system, words.word(1), words.word(2), words.word(3))?;
         if !self.system.area().holds(place.site) {
@@ -288,14 +288,12 @@ impl<'a> GrowthReader<'a> {
     // where a tile may be placed.
     #[inline(always)]
     fn read_front<'t>(&self, text: &'t [u8]) -> Option<PlainPlace<'t>>
-        requires { HasScratch self.now.system.now self.now.places self.now.scratch }
         ensures follows { IfSome result (λ _.
             may_stand_after LineKind.Place self.now.last ≡ true) }
         ensures plain { IfSome result (λ place.
             BeginsPlain text.now place.site place.name.now place.length) }
         ensures inside { IfSome result (λ place. InBox self.now.system.now.area place.site) }
-        ensures free { IfSome result (λ place.
-            may_stand (is_some self.now.scratch) self.now.places place.site ≡ true) }
+        ensures free { IfSome result (λ place. is_free_in self.now.grid place.site ≡ true) }
     {
         if !LineKind::Place.may_stand(self.last) {
             return None;
@@ -313,10 +311,9 @@ impl<'a> GrowthReader<'a> {
 
     // Whether a tile may be placed at a site after those that were read.
     fn is_free(&self, site: Site) -> bool
-        requires { HasScratch self.now.system.now self.now.places self.now.scratch }
-        ensures { result ≡ may_stand (is_some self.now.scratch) self.now.places site }
+        ensures { result ≡ is_free_in self.now.grid site }
     {
-        match &self.scratch {
+        match &self.grid {
             Some(grid) => grid.at(site).is_none(),
             None => true,
         }
@@ -325,22 +322,25 @@ impl<'a> GrowthReader<'a> {
     // Adds a place that may stand here.
     #[inline(always)]
     fn hold(&mut self, place: Place) -> Result<(), NoMemory>
-        requires grid { HasScratch self.old.system.now self.old.places self.old.scratch }
+        requires box_area { IsOverBox self.old.system.now self.old.grid }
         requires inside { InBox self.old.system.now.area place.site }
         requires small { place.tile.0 < MOST_TYPES }
-        requires free { may_stand (is_some self.old.scratch) self.old.places place.site ≡ true }
-        ensures added { OnOk result (self.new.places ≡ self.old.places ++ place ∷ []) }
+        requires free { is_free_in self.old.grid place.site ≡ true }
+        ensures added { OnOk result ((places : List Place) →
+            HoldsPlaces self.old.system.now self.old.sequence self.old.grid places →
+            HoldsPlaces self.old.system.now self.new.sequence self.new.grid
+            (places ++ place ∷ [])) }
         ensures last { OnOk result (self.new.last ≡ Some LineKind.Place) }
-        ensures grid { HasScratch self.new.system.now self.new.places self.new.scratch }
-        ensures distinct { is_some self.new.scratch ≡ is_some self.old.scratch }
+        ensures box_area { IsOverBox self.old.system.now self.new.grid }
+        ensures distinct { is_some self.new.grid ≡ is_some self.old.grid }
         ensures system { self.new.system.now ≡ self.old.system.now }
         ensures unchanged { OnErr result (self.new ≡ self.old) }
     {
         // a system is valid
         self.system.recall_valid();
-        self.places.push_near(place)?;
-        if let Some(grid) = &mut self.scratch {
-            grid.put(place);
+        match &mut self.grid {
+            Some(grid) => grid.put(place),
+            None => self.sequence.push_near(place)?,
         }
         self.last = Some(LineKind::Place);
         Ok(())

@@ -1,5 +1,5 @@
 -- What the reader of a growth text holds of the lines that it took.
-use Rattle.std.specs.Prelude.{◌≡◌, List, option_map, Option, Some, None}
+use Rattle.std.specs.Prelude.{◌≡◌, List, Bool, true, option_map, is_none, Option, Some, None, IfSome}
 use Rattle.tile_io.specs.Checks.{last_of}
 use Rattle.atam.specs.declared.site.Site.{Site}
 use Rattle.atam.specs.declared.place.Place.{Place}
@@ -10,18 +10,28 @@ use Rattle.seq_text.specs.declared.kind.LineKind.{LineKind}
 use Rattle.seq_text.specs.GrowthText.{GrowthItem, places_of}
 use Rattle.seq_text.specs.Inner.Kinds.{kind_of}
 
--- a scratch grid of the system's box has the places, where sites have to differ
+-- a scratch grid of the system's box has the places
 pub record IsScratchOf (sys : TileSystem) (places : List Place) (grid : TileGrid) : Type 0 where
   pub area : grid.area ≡ sys.area
   pub tiles : (m : Site) → tile_at grid.tiles m ≡ tile_at places m
   pub same : SamePlacements places grid.tiles
 
-abbrev pub HasScratch : TileSystem → List Place → Option TileGrid → Type 0
-HasScratch sys places None = Unit {0}
-HasScratch sys places (Some grid) = IsScratchOf sys places grid
+-- the grid, where there is one, has the system's box
+abbrev pub IsOverBox : TileSystem → Option TileGrid → Type 0
+IsOverBox sys grid = IfSome grid (λ g. g.area ≡ sys.area)
 
--- the places of the lines, with their grid, and the keyword of the last line
-pub record HoldsLines (sys : TileSystem) (places : List Place) (scratch : Option TileGrid) (last : Option LineKind) (items : List GrowthItem) : Type 0 where
-  pub places_are : places ≡ places_of items
-  pub grid : HasScratch sys places scratch
+-- the places are in the grid, where there is one, and else they are the sequence
+abbrev pub HoldsPlaces : TileSystem → List Place → Option TileGrid → List Place → Type 0
+HoldsPlaces sys sequence None places = sequence ≡ places
+HoldsPlaces sys sequence (Some grid) places = IsScratchOf sys places grid
+
+-- whether a tile may be placed at a site: where there is a grid, only where it has none
+abbrev pub is_free_in : Option TileGrid → Site → Bool
+is_free_in None m = true
+is_free_in (Some grid) m = is_none (tile_at grid.tiles m)
+
+-- the places of the lines, and the keyword of the last line
+pub record HoldsLines (sys : TileSystem) (sequence : List Place) (grid : Option TileGrid) (last : Option LineKind) (items : List GrowthItem) : Type 0 where
+  pub box_area : IsOverBox sys grid
+  pub places : HoldsPlaces sys sequence grid (places_of items)
   pub kind : last ≡ option_map kind_of (last_of items)

@@ -14,7 +14,7 @@ returns-clause-read c =
     let to = c.in_ok-read_text.field-0 in
     let same = ap (λ (x : Bool × TileSystem). x.1) c.in_ok-read_text.ensures.context ∙ c.in_ok-reader.ensures.system in
     let Read : Bool → TileSystem → Type 0 = λ b s. Reads (growth_format b s) c.args.text.now c.args.from into.items to in
-    let reads = into_grid sys reader.system.now c.args.text.now c.args.from to reader.places reader.scratch c.unwrap-grid.result reader.last into.items same into.held c.unwrap-grid.ensures (subst (Read true) c.in_ok-reader.ensures.system (subst (λ b. Read b c.in_ok-reader.reader.system.now) c.in_ok-reader.ensures.distinct into.reads)) in
+    let reads = into_grid sys reader.system.now c.args.text.now c.args.from to reader.sequence reader.grid c.unwrap-grid.result reader.last into.items same into.held c.unwrap-grid.ensures (subst (Read true) c.in_ok-reader.ensures.system (subst (λ b. Read b c.in_ok-reader.reader.system.now) c.in_ok-reader.ensures.distinct into.reads)) in
     reads
 
 pub returns-clause-fits : goal.returns-clause-fits
@@ -25,5 +25,5 @@ returns-clause-fits c =
     let to = c.in_ok-read_text.field-0 in
     let same = ap (λ (x : Bool × TileSystem). x.1) c.in_ok-read_text.ensures.context ∙ c.in_ok-reader.ensures.system in
     let Read : Bool → TileSystem → Type 0 = λ b s. Reads (growth_format b s) c.args.text.now c.args.from into.items to in
-    let reads = into_grid sys reader.system.now c.args.text.now c.args.from to reader.places reader.scratch c.unwrap-grid.result reader.last into.items same into.held c.unwrap-grid.ensures (subst (Read true) c.in_ok-reader.ensures.system (subst (λ b. Read b c.in_ok-reader.reader.system.now) c.in_ok-reader.ensures.distinct into.reads)) in
+    let reads = into_grid sys reader.system.now c.args.text.now c.args.from to reader.sequence reader.grid c.unwrap-grid.result reader.last into.items same into.held c.unwrap-grid.ensures (subst (Read true) c.in_ok-reader.ensures.system (subst (λ b. Read b c.in_ok-reader.reader.system.now) c.in_ok-reader.ensures.distinct into.reads)) in
     grid_fits c.args.sys.now c.args.text.now c.args.from c.unwrap-grid.result reads

@@ -23,7 +23,7 @@ returns-in_err-read_text_in_blocks-clause-read g c =
     let stop = c.in_err-read_text_in_blocks.field-0.0 in
     let p = err_from_is_err_and c.from_residual-in_err-read_text_in_blocks.result c.from_residual-in_err-read_text_in_blocks.ensures.1 in
     let Stops : Bool → TileSystem → Type 0 = λ b s. StopsInBlocks g.S.Source.left g.S.Source.faults (growth_format b s) c.args.begun.text.items c.args.from c.args.source.now c.read_text_in_blocks.new.source stop in
-    let stops : Stops (is_some reader.scratch) reader.system.now = c.in_err-read_text_in_blocks.ensures.read in
+    let stops : Stops (is_some reader.grid) reader.system.now = c.in_err-read_text_in_blocks.ensures.read in
     rw (p.1, p.2) (subst (Stops true) made.system (subst (λ b. Stops b reader.system.now) made.distinct stops))
 
 pub returns-clause-read : goal.returns-clause-read
@@ -36,7 +36,7 @@ returns-clause-read g c =
     let into = found.0.2.1 in
     let same = ap (λ (x : Bool × TileSystem). x.1) c.in_ok-read_text_in_blocks.ensures.context ∙ c.in_ok-reader.ensures.system in
     let Read : Bool → TileSystem → Type 0 = λ b s. Reads (growth_format b s) whole c.args.from into.items to in
-    let reads = into_grid sys reader.system.now whole c.args.from to reader.places reader.scratch c.unwrap-grid.result reader.last into.items same into.held c.unwrap-grid.ensures (subst (Read true) c.in_ok-reader.ensures.system (subst (λ b. Read b c.in_ok-reader.reader.system.now) c.in_ok-reader.ensures.distinct into.reads)) in
+    let reads = into_grid sys reader.system.now whole c.args.from to reader.sequence reader.grid c.unwrap-grid.result reader.last into.items same into.held c.unwrap-grid.ensures (subst (Read true) c.in_ok-reader.ensures.system (subst (λ b. Read b c.in_ok-reader.reader.system.now) c.in_ok-reader.ensures.distinct into.reads)) in
     ((whole, found.0.1, reads), found.1)
 
 pub returns-clause-fits : goal.returns-clause-fits
@@ -49,5 +49,5 @@ returns-clause-fits g c =
     let into = found.0.2.1 in
     let same = ap (λ (x : Bool × TileSystem). x.1) c.in_ok-read_text_in_blocks.ensures.context ∙ c.in_ok-reader.ensures.system in
     let Read : Bool → TileSystem → Type 0 = λ b s. Reads (growth_format b s) whole c.args.from into.items to in
-    let reads = into_grid sys reader.system.now whole c.args.from to reader.places reader.scratch c.unwrap-grid.result reader.last into.items same into.held c.unwrap-grid.ensures (subst (Read true) c.in_ok-reader.ensures.system (subst (λ b. Read b c.in_ok-reader.reader.system.now) c.in_ok-reader.ensures.distinct into.reads)) in
+    let reads = into_grid sys reader.system.now whole c.args.from to reader.sequence reader.grid c.unwrap-grid.result reader.last into.items same into.held c.unwrap-grid.ensures (subst (Read true) c.in_ok-reader.ensures.system (subst (λ b. Read b c.in_ok-reader.reader.system.now) c.in_ok-reader.ensures.distinct into.reads)) in
     grid_fits sys whole c.args.from c.unwrap-grid.result reads

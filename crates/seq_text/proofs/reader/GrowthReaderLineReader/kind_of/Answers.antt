@@ -7,4 +7,4 @@ use Rattle.seq_text.proofs.reader.GrowthReaderLineReader.kind_of.Goals as goal
 pub returns : goal.returns
 returns c =
     let r = c.args.self.now in
-    ap (option_map (row_of (is_some r.scratch) r.system.now)) c.of.ensures ∙ row_named (is_some r.scratch) r.system.now c.args.word.now
+    ap (option_map (row_of (is_some r.grid) r.system.now)) c.of.ensures ∙ row_named (is_some r.grid) r.system.now c.args.word.now

@@ -11,8 +11,8 @@ unfolding growth_table
 returns-in-Closed c = record {
   taken = λ items held.
       let r = c.args.self.now in
-      let line = ending_line (is_some r.scratch) r.system.now c.args.kind c.in-Closed.is items c.args.words.now in
-      let Last : LineKind → Type 0 = λ kind. HoldsLines r.system.now r.places r.scratch (Some kind) (items ++ line.0 ∷ []) in
-      (line.0, line.3, refl, subst Last line.2 (holds_other r.system.now r.places r.scratch r.last items line.0 line.1 held));
+      let line = ending_line (is_some r.grid) r.system.now c.args.kind c.in-Closed.is items c.args.words.now in
+      let Last : LineKind → Type 0 = λ kind. HoldsLines r.system.now r.sequence r.grid (Some kind) (items ++ line.0 ∷ []) in
+      (line.0, line.3, refl, subst Last line.2 (holds_other r.system.now r.sequence r.grid r.last items line.0 line.1 held));
   context = refl;
 }
