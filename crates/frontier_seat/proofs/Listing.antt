@@ -24,12 +24,14 @@ use Rattle.assembly.proofs.Cells.{at_cell, index_of, site_at-injective, site_at-
 use Rattle.number_set.specs.Numbers.{Numbers, IsIn, Adds, Removes}
 use Rattle.number_set.proofs.Counting.{count_below-adds}
 use Rattle.frontier_seat.specs.declared.work_list.Spot.{Spot}
-use Rattle.frontier_seat.specs.Inner.Listings.{AreEmptySites, ListsAround, ListsFrontier, ListsFrontierTo, ListsSide, IsSpot, TakesSpot}
+use Rattle.frontier_seat.specs.Inner.Listings.{AreEmptySites, ListsAround, ListsFrontier, ListsFrontierTo, ListsSide, IsSpot}
 use Rattle.frontier_seat.specs.Inner.Looks.{IsClosedBut, IsTaken, ListsOpen}
 
--- a site that is looked up by its number
-pub spot_here : (area : BoxArea) (m : Site) (n : ℕ) → n < cell_count area → m ≡ site_at area n → InBox area m → IsSpot area (record { site = m; number = n })
-spot_here area m n within here inside = record { within = within; site = sym here; inside = inside }
+-- a site that is looked up by the number that was listed
+pub spot_here : (listed box area : BoxArea) (m : Site) (n : ℕ) → listed ≡ area → box ≡ area → n < cell_count listed → m ≡ site_at box n → InBox box m → IsSpot area (record { site = m; number = n })
+spot_here listed box area m n same is within here inside =
+    subst (λ (a : BoxArea). IsSpot a (record { site = m; number = n })) is
+    (record { within = subst (λ (a : BoxArea). n < cell_count a) (same ∙ sym is) within; site = sym here; inside = inside })
 
 -- by row and column
 pub spot_in_row : (area : BoxArea) (m : Site) (row column width number : ℕ) → InBox area m → m ≡ site_in area column row → width ≡ width_of area → number ≡ row * width + column → IsSpot area (record { site = m; number = number })
@@ -167,10 +169,10 @@ taken_out sys tiles old new spot is empty removes lists = record {
 }
 
 pub taken_spot : (sys : TileSystem) (tiles : List Place) (old new : Numbers) (spot : Spot) →
-    TakesSpot sys.area old new spot → ListsOpen sys tiles old → IsTaken sys tiles new spot
-taken_spot sys tiles old new spot takes lists =
-    let empty = ap (tile_at tiles) (sym takes.spot.site) ∙ lists.empty spot.number takes.listed in
-    taken_out sys tiles old new spot takes.spot empty takes.removed lists
+    IsSpot sys.area spot → IsIn old spot.number → Removes old new spot.number → ListsOpen sys tiles old → IsTaken sys tiles new spot
+taken_spot sys tiles old new spot is listed removed lists =
+    let empty = ap (tile_at tiles) (sym is.site) ∙ lists.empty spot.number listed in
+    taken_out sys tiles old new spot is empty removed lists
 
 -- and listed again, it leaves what was
 pub lists_again : (sys : TileSystem) (tiles : List Place) (old mid new : Numbers) (k : ℕ) → IsIn old k → Removes old mid k → Adds mid new k → ListsOpen sys tiles old → ListsOpen sys tiles new

@@ -13,6 +13,7 @@ use crate::picking::Picker;
 use crate::scout::look;
 use crate::work_list::{Spot, WorkList};
 use crate::{Chooser, Growing};
+use assembly::Row;
 use site_table::SiteTable;
 use std::sync::ledger::Ledger;
 use tile_io::Steps;
@@ -54,11 +55,14 @@ pub(crate) fn spend<C: Chooser, L: Ledger>(
     sys.recall_valid();
     let area = sys.area();
     let count = work.count();
+    let mut row = Row::least(&area);
     let mut left = most;
     while left > 0 {
-        let Some(spot) = work.take(chooser.start(count)) else {
+        let Some(number) = work.take(chooser.start(count)) else {
             return;
         };
+        let site = row.site(&area, number);
+        let spot = Spot { site, number };
         let seen = look(
             sys, &area, table, growing, chooser, picker, spot, work, steps,
         );
@@ -87,10 +91,13 @@ pub(crate) fn is_open<C: Chooser>(
         (IsClosedInBox sys.now growing.now.grid.tiles) }
 {
     sys.recall_valid();
+    let area = sys.area();
     let count = work.count();
-    while let Some(spot) = work.take(chooser.start(count)) {
-        if attaches(sys, growing, chooser, picker, spot) {
-            work.put_back(spot);
+    let mut row = Row::least(&area);
+    while let Some(number) = work.take(chooser.start(count)) {
+        let site = row.site(&area, number);
+        if attaches(sys, growing, chooser, picker, Spot { site, number }) {
+            work.put_back(number);
             return true;
         }
     }

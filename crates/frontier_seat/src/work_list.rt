@@ -1,16 +1,16 @@
 // The sites that are to be looked at.
 ghost use Rattle.std.specs.Prelude.{◌≡◌, ◌<◌, ◌≤◌, ◌+◌, ◌*◌, ℕ, IfOk, IfSome, IfNone, IsTrue};
-ghost use Rattle.atam.specs.Sites.{InBox, IsBox, IsNearSite, neighbor, width_of, height_of};
+ghost use Rattle.atam.specs.Sites.{IsBox, IsNearSite, neighbor, width_of, height_of};
 ghost use Rattle.atam.specs.Placements.{tile_at};
 ghost use Rattle.assembly.specs.Cells.{cell_count};
 ghost use Rattle.tile_system.specs.Neighbors.{StandBeside};
 ghost use Rattle.number_set.specs.Numbers.{Adds, IsIn, IsLeastOf, Removes};
 ghost use Rattle.frontier_seat.specs.Inner.Insides.{IsInner};
-ghost use Rattle.frontier_seat.specs.Inner.Listings.{AreEmptySites, ListsAround, ListsFrontier, ListsFrontierTo, ListsSide, IsClosedRow, IsSpot, TakesSpot};
+ghost use Rattle.frontier_seat.specs.Inner.Listings.{AreEmptySites, ListsAround, ListsFrontier, ListsFrontierTo, ListsSide, IsClosedRow, IsSpot};
 
 use crate::inside::number_next;
 use crate::share::Share;
-use assembly::{Grid, Row, number_beside};
+use assembly::{Grid, number_beside};
 use number_set::NumberSet;
 use std::alloc::Global;
 use std::marker::Model;
@@ -24,13 +24,11 @@ pub(crate) struct Spot {
 }
 
 // Sites of a box, each listed at most once, with room for all, and which of them are looked at
-// first: an eighth of a byte a site. The row of the site that was looked at last is kept, since the
-// next one is mostly in it.
+// first: an eighth of a byte a site. Sites are handed out by their numbers.
 pub(crate) struct WorkList {
     area: BoxArea,
     numbers: NumberSet,
     share: Share,
-    row: Row,
 }
 
 impl Drop for WorkList {
@@ -39,7 +37,6 @@ impl Drop for WorkList {
             area: _area,
             numbers: _numbers,
             share: _share,
-            row: _row,
         } = self;
     }
 }
@@ -49,14 +46,12 @@ impl Model for WorkList {
     ghost use Rattle.atam.specs.Sites.{IsBox};
     ghost use Rattle.assembly.specs.Cells.{cell_count};
     ghost use Rattle.frontier_seat.specs.Inner.Listings.{ListedSites};
-    ghost use Rattle.assembly.specs.Rows.{IsRow};
 
     ghost Value = { ListedSites };
 
     ghost view = { λ w. record { area = w.area; numbers = w.numbers } };
 
-    ghost invariant = { λ w. IsBox w.area × (w.numbers.bound ≡ cell_count w.area)
-        × IsRow w.area w.row };
+    ghost invariant = { λ w. IsBox w.area × (w.numbers.bound ≡ cell_count w.area) };
 }
 
 impl WorkList {
@@ -71,7 +66,6 @@ impl WorkList {
             area,
             numbers: NumberSet::make(alloc, count)?,
             share: Share::whole(),
-            row: Row::least(&area),
         })
     }
 
@@ -83,98 +77,81 @@ impl WorkList {
         self.area.width() * self.area.height()
     }
 
-    // The site with this number.
+    // The number of the next of the worker's own sites, if any is left.
     #[inline(always)]
-    fn spot_of(&mut self, number: usize) -> Spot
-        requires { number < cell_count self.old.area }
-        ensures same { self.new ≡ self.old }
-        ensures number { result.number ≡ number }
-        ensures spot { IsSpot self.old.area result }
-    {
-        let area = self.area;
-        let site = self.row.site(&area, number);
-        Spot { site, number }
-    }
-
-    // The next of the worker's own sites, if any is left.
-    #[inline(always)]
-    fn next_own(&mut self, from: u32) -> Option<Spot>
+    fn next_own(&mut self, from: u32) -> Option<usize>
         requires { from < cell_count self.old.area }
         ensures same { self.new ≡ self.old }
-        ensures spot { IfSome result (IsSpot self.old.area) }
-        ensures listed { IfSome result (λ spot. IsIn self.old.numbers spot.number) }
+        ensures within { IfSome result (λ n. n < cell_count self.old.area) }
+        ensures listed { IfSome result (IsIn self.old.numbers) }
     {
         if from > 0 {
             return self.own_from(from);
         }
         if let Some(number) = self.share.here(&self.numbers) {
-            return Some(self.spot_of(number));
+            return Some(number);
         }
         self.own_elsewhere()
     }
 
     // The same where the worker goes on elsewhere than it looked last.
     #[inline(never)]
-    fn own_elsewhere(&mut self) -> Option<Spot>
+    fn own_elsewhere(&mut self) -> Option<usize>
         ensures same { self.new ≡ self.old }
-        ensures spot { IfSome result (IsSpot self.old.area) }
-        ensures listed { IfSome result (λ spot. IsIn self.old.numbers spot.number) }
+        ensures within { IfSome result (λ n. n < cell_count self.old.area) }
+        ensures listed { IfSome result (IsIn self.old.numbers) }
     {
         let area = self.area;
         let number = self.share.elsewhere(&self.numbers, &area)?;
-        let spot = self.spot_of(number);
-        let (column, row) = column_and_row(&area, spot.site);
+        let (column, row) = column_and_row(&area, number);
         self.share.move_to(&area, column, row);
-        Some(spot)
+        Some(number)
     }
 
     // The same where it is looked for from the site with this number on.
-    fn own_from(&mut self, from: u32) -> Option<Spot>
+    fn own_from(&mut self, from: u32) -> Option<usize>
         requires { from < cell_count self.old.area }
         ensures same { self.new ≡ self.old }
-        ensures spot { IfSome result (IsSpot self.old.area) }
-        ensures listed { IfSome result (λ spot. IsIn self.old.numbers spot.number) }
+        ensures within { IfSome result (λ n. n < cell_count self.old.area) }
+        ensures listed { IfSome result (IsIn self.old.numbers) }
     {
         let area = self.area;
-        let number = self.share.from_number(&self.numbers, &area, from)?;
-        Some(self.spot_of(number))
+        self.share.from_number(&self.numbers, &area, from)
     }
 
-    // The next site to look at: where several work, one of the worker's own, if any is left. It is
-    // looked for from the site with this number on.
+    // The number of the next site to look at: where several work, one of the worker's own, if any
+    // is left. It is looked for from the site with this number on.
     #[inline(always)]
-    fn next(&mut self, from: u32) -> Option<Spot>
+    fn next(&mut self, from: u32) -> Option<usize>
         requires { from < cell_count self.old.area }
         ensures same { self.new ≡ self.old }
-        ensures spot { IfSome result (IsSpot self.old.area) }
-        ensures listed { IfSome result (λ spot. IsIn self.old.numbers spot.number) }
+        ensures within { IfSome result (λ n. n < cell_count self.old.area) }
+        ensures listed { IfSome result (IsIn self.old.numbers) }
         ensures none { IfNone result ((n : ℕ) → ¬ IsIn self.old.numbers n) }
     {
         if self.share.is_whole() {
-            let number = self.next_from(from as usize)?;
-            return Some(self.spot_of(number));
+            return self.next_from(from as usize);
         }
-        if let Some(spot) = self.next_own(from) {
-            return Some(spot);
+        if let Some(number) = self.next_own(from) {
+            return Some(number);
         }
         self.next_of_others(from)
     }
 
     // The same where none of the worker's own is left.
     #[inline(never)]
-    fn next_of_others(&mut self, from: u32) -> Option<Spot>
+    fn next_of_others(&mut self, from: u32) -> Option<usize>
         requires { from < cell_count self.old.area }
         ensures same { self.new ≡ self.old }
-        ensures spot { IfSome result (IsSpot self.old.area) }
-        ensures listed { IfSome result (λ spot. IsIn self.old.numbers spot.number) }
+        ensures within { IfSome result (λ n. n < cell_count self.old.area) }
+        ensures listed { IfSome result (IsIn self.old.numbers) }
         ensures none { IfNone result ((n : ℕ) → ¬ IsIn self.old.numbers n) }
     {
         let area = self.area;
         let number = self.next_from(from as usize)?;
-        let spot = self.spot_of(number);
-        let (_column, row) = column_and_row(&area, spot.site);
+        let (_column, row) = column_and_row(&area, number);
         self.share.visit(row);
-        Some(spot)
+        Some(number)
     }
 
     // The number of the least site that is listed at or after this one, else of the least one.
@@ -193,28 +170,30 @@ impl WorkList {
         self.numbers.least()
     }
 
-    // Takes the next site to look at, which is looked for from the site with this number on.
+    // Takes the number of the next site to look at, which is looked for from the site with this
+    // number on.
     #[inline(always)]
-    pub(crate) fn take(&mut self, from: u32) -> Option<Spot>
+    pub(crate) fn take(&mut self, from: u32) -> Option<usize>
         requires { from < cell_count self.old.area }
         ensures area { self.new.area ≡ self.old.area }
-        ensures takes { IfSome result
-            (TakesSpot self.old.area self.old.numbers self.new.numbers) }
+        ensures within { IfSome result (λ n. n < cell_count self.old.area) }
+        ensures listed { IfSome result (IsIn self.old.numbers) }
+        ensures removed { IfSome result (Removes self.old.numbers self.new.numbers) }
         ensures none { IfNone result ((n : ℕ) → ¬ IsIn self.old.numbers n) }
         ensures same { IfNone result (self.new ≡ self.old) }
     {
-        let spot = self.next(from)?;
-        self.drop_spot(spot);
-        Some(spot)
+        let number = self.next(from)?;
+        self.numbers.remove(number);
+        Some(number)
     }
 
     // Lists a site that was taken.
-    pub(crate) fn put_back(&mut self, spot: Spot)
-        requires { IsSpot self.old.area spot }
+    pub(crate) fn put_back(&mut self, number: usize)
+        requires { number < cell_count self.old.area }
         ensures area { self.new.area ≡ self.old.area }
-        ensures adds { Adds self.old.numbers self.new.numbers spot.number }
+        ensures adds { Adds self.old.numbers self.new.numbers number }
     {
-        self.numbers.insert(spot.number);
+        self.numbers.insert(number);
     }
 
     // A site that is to be looked at no longer.
@@ -419,11 +398,12 @@ fn is_closed_row(grid: &Grid, row: u32) -> bool
     grid.is_row_full(row + 1)
 }
 
-// The column and row of a site of the box.
-#[inline(always)]
-fn column_and_row(area: &BoxArea, site: Site) -> (u32, u32)
+// The column and row of the site of the box with this number.
+fn column_and_row(area: &BoxArea, number: usize) -> (u32, u32)
     requires limits { IsBox area.now }
-    requires inside { InBox area.now site }
+    requires within { number < cell_count area.now }
 {
-    ((site.x - area.x0) as u32, (site.y - area.y0) as u32)
+    let number = number as u32;
+    let width = area.width();
+    (number % width, number / width)
 }

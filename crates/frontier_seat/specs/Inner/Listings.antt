@@ -9,7 +9,7 @@ use Rattle.atam.specs.Sites.{neighbor, site_in, InBox, width_of}
 use Rattle.atam.specs.Placements.{tile_at}
 use Rattle.assembly.specs.Cells.{cell_count, site_at}
 use Rattle.assembly.specs.Grids.{TileGrid}
-use Rattle.number_set.specs.Numbers.{Numbers, IsIn, Removes, count_below}
+use Rattle.number_set.specs.Numbers.{Numbers, IsIn, count_below}
 use Rattle.frontier_seat.specs.declared.work_list.Spot.{Spot}
 
 -- the numbers of sites of a box
@@ -22,12 +22,6 @@ pub record IsSpot (area : BoxArea) (spot : Spot) : Type 0 where
   pub within : spot.number < cell_count area
   pub site : site_at area spot.number ≡ spot.site
   pub inside : InBox area spot.site
-
--- a site that was listed is listed no longer
-pub record TakesSpot (area : BoxArea) (old new : Numbers) (taken : Spot) : Type 0 where
-  pub spot : IsSpot area taken
-  pub listed : IsIn old taken.number
-  pub removed : Removes old new taken.number
 
 -- no tile is at a site that is listed
 abbrev pub AreEmptySites : BoxArea → List Place → Numbers → Type 0

@@ -1,11 +1,10 @@
-use Rattle.std.proofs.Common.{◌≡◌, Bool, MatchBool, length, ap, subst, arith}
+use Rattle.std.proofs.Common.{◌≡◌, ◌<◌, Bool, MatchBool, length, ap, subst, arith}
 use Rattle.atam.specs.declared.area.BoxArea.{BoxArea}
 use Rattle.assembly.specs.Cells.{cell_count}
 use Rattle.number_set.proofs.Counting.{count_below-removes}
 use Rattle.frontier_seat.specs.declared.growing.Growing.{Growing}
-use Rattle.frontier_seat.specs.Inner.Listings.{TakesSpot}
 use Rattle.frontier_seat.specs.Inner.Looks.{ClaimsPick}
-use Rattle.frontier_seat.proofs.Listing.{taken_spot}
+use Rattle.frontier_seat.proofs.Listing.{spot_here, taken_spot}
 use Rattle.frontier_seat.proofs.Looked.{few_tiles, goes_further, goes_nowhere, less_work}
 use Rattle.frontier_seat.proofs.bursting.spend.Goals as goal
 
@@ -14,6 +13,7 @@ loop-left-init g c = record {
   can = c.requires.can;
   picker = c.requires.picker;
   goes = goes_nowhere c.args.growing.now;
+  row = c.least-row.ensures;
   lists = c.requires.lists;
   made = omega arith;
   cost = omega arith;
@@ -24,20 +24,20 @@ look-seen-requires-clause-taken g c =
     let inv = c.loop-left.invariant in
     let old = c.loop-left.work.numbers in
     let new = c.take.new.self.numbers in
-    let spot = c.in-Some.spot in
-    let takes = subst (λ (a : BoxArea). TakesSpot a old new spot)
-    inv.can.area c.in-Some.ensures.takes in
-    taken_spot c.args.sys.now c.loop-left.growing.grid.tiles old new spot takes inv.lists
+    let site = c.site-site.result in
+    let number = c.in-Some.number in
+    let is = spot_here c.loop-left.work.area c.area-area.result c.args.sys.now.area site number inv.can.area c.area-area.ensures.area c.in-Some.ensures.within c.site-site.ensures.site c.site-site.ensures.inside in
+    taken_spot c.args.sys.now c.loop-left.growing.grid.tiles old new (record { site = site; number = number }) is c.in-Some.ensures.listed c.in-Some.ensures.removed inv.lists
 
 pub loop-left-smaller-then-seen : goal.loop-left-smaller-then-seen
 loop-left-smaller-then-seen g c =
     let sys = c.args.sys.now in
     let n = cell_count sys.area in
     let looks = c.look-seen.ensures.looks in
-    let takes = subst (λ (a : BoxArea). TakesSpot a c.loop-left.work.numbers c.take.new.self.numbers c.in-Some.spot) c.loop-left.invariant.can.area c.in-Some.ensures.takes in
+    let within = subst (λ (a : BoxArea). c.in-Some.number < cell_count a) c.loop-left.invariant.can.area c.in-Some.ensures.within in
     less_work n (length c.loop-left.growing.grid.tiles) (length c.look-seen.new.growing.grid.tiles) _ _ _
     (few_tiles sys c.look-seen.new.growing looks.growing)
-    (count_below-removes c.loop-left.work.numbers c.take.new.self.numbers c.in-Some.spot.number n takes.removed takes.listed takes.spot.within)
+    (count_below-removes c.loop-left.work.numbers c.take.new.self.numbers c.in-Some.number n c.in-Some.ensures.removed c.in-Some.ensures.listed within)
     (looks.work n)
 
 pub loop-left-smaller : goal.loop-left-smaller
@@ -45,10 +45,10 @@ loop-left-smaller g c =
     let sys = c.args.sys.now in
     let n = cell_count sys.area in
     let looks = c.look-seen.ensures.looks in
-    let takes = subst (λ (a : BoxArea). TakesSpot a c.loop-left.work.numbers c.take.new.self.numbers c.in-Some.spot) c.loop-left.invariant.can.area c.in-Some.ensures.takes in
+    let within = subst (λ (a : BoxArea). c.in-Some.number < cell_count a) c.loop-left.invariant.can.area c.in-Some.ensures.within in
     less_work n (length c.loop-left.growing.grid.tiles) (length c.look-seen.new.growing.grid.tiles) _ _ _
     (few_tiles sys c.look-seen.new.growing looks.growing)
-    (count_below-removes c.loop-left.work.numbers c.take.new.self.numbers c.in-Some.spot.number n takes.removed takes.listed takes.spot.within)
+    (count_below-removes c.loop-left.work.numbers c.take.new.self.numbers c.in-Some.number n c.in-Some.ensures.removed c.in-Some.ensures.listed within)
     (looks.work n)
 
 pub loop-left-preserved-then-seen : goal.loop-left-preserved-then-seen
@@ -59,12 +59,13 @@ loop-left-preserved-then-seen g c =
     let before = inv.cost in
     let made = inv.made in
     let some = c.loop-left-test.true in
-    let claim = subst (λ (b : Bool). MatchBool b (ClaimsPick c.args.sys.now c.in-Some.spot.site c.loop-left.growing c.look-seen.new.growing c.look-seen.result.picked) (c.look-seen.new.growing ≡ c.loop-left.growing)) c.if-seen.true c.look-seen.ensures.tells.claims in
+    let claim = subst (λ (b : Bool). MatchBool b (ClaimsPick c.args.sys.now c.site-site.result c.loop-left.growing c.look-seen.new.growing c.look-seen.result.picked) (c.look-seen.new.growing ≡ c.loop-left.growing)) c.if-seen.true c.look-seen.ensures.tells.claims in
     let count = claim.claim.count in
     record {
       can = c.look-seen.ensures.can;
       picker = c.look-seen.ensures.picker;
       goes = goes_further c.args.growing.now c.loop-left.growing c.look-seen.new.growing inv.goes looks.goes;
+      row = c.site-site.ensures.row;
       lists = record { empty = looks.listed; all = looks.closed };
       made = omega (arith, made, count, some);
       cost = omega (arith, cost, before);
@@ -77,12 +78,13 @@ loop-left-preserved g c =
     let cost = c.look-seen.ensures.cost in
     let before = inv.cost in
     let made = inv.made in
-    let same : c.look-seen.new.growing ≡ c.loop-left.growing = subst (λ (b : Bool). MatchBool b (ClaimsPick c.args.sys.now c.in-Some.spot.site c.loop-left.growing c.look-seen.new.growing c.look-seen.result.picked) (c.look-seen.new.growing ≡ c.loop-left.growing)) c.if-seen.false c.look-seen.ensures.tells.claims in
+    let same : c.look-seen.new.growing ≡ c.loop-left.growing = subst (λ (b : Bool). MatchBool b (ClaimsPick c.args.sys.now c.site-site.result c.loop-left.growing c.look-seen.new.growing c.look-seen.result.picked) (c.look-seen.new.growing ≡ c.loop-left.growing)) c.if-seen.false c.look-seen.ensures.tells.claims in
     let count = ap (λ (h : Growing). length h.grid.tiles) same in
     record {
       can = c.look-seen.ensures.can;
       picker = c.look-seen.ensures.picker;
       goes = goes_further c.args.growing.now c.loop-left.growing c.look-seen.new.growing inv.goes looks.goes;
+      row = c.site-site.ensures.row;
       lists = record { empty = looks.listed; all = looks.closed };
       made = omega (arith, made, count);
       cost = omega (arith, cost, before);

@@ -1,5 +1,6 @@
 use Rattle.std.proofs.Common.{◌≡◌, ◌+◌, ◌-◌, ◌*◌, length}
 use Rattle.assembly.specs.Cells.{cell_count}
+use Rattle.assembly.specs.Rows.{IsRow}
 use Rattle.number_set.specs.Numbers.{count_below}
 use Rattle.frontier_seat.specs.Growths.{GrowsOn}
 use Rattle.frontier_seat.specs.Inner.Looks.{CanLook, ListsOpen}
@@ -12,6 +13,7 @@ invariant-loop-left g l = record {
   can : CanLook l.sys l.table l.growing l.work;
   picker : IsPickerOf l.sys l.picker;
   goes : GrowsOn l.fn.growing l.growing;
+  row : IsRow l.area l.row;
   lists : ListsOpen l.sys l.growing.grid.tiles l.work.numbers;
   made : length l.growing.grid.tiles + l.left ≡ length l.fn.growing.grid.tiles + l.most;
   cost : l.steps + length l.fn.growing.grid.tiles ≡ l.fn.steps + length l.growing.grid.tiles;

@@ -1,4 +1,4 @@
-use Rattle.std.proofs.Common.{◌<◌, ◌∙◌, length, inl, inr, sym, subst, arith}
+use Rattle.std.proofs.Common.{◌<◌, ◌∙◌, length, inl, inr, subst, arith}
 use Rattle.atam.specs.declared.area.BoxArea.{BoxArea}
 use Rattle.atam.proofs.Count.{count_in_box}
 use Rattle.assembly.specs.Cells.{cell_count}
@@ -27,16 +27,9 @@ fill-requires-clause-taken g c =
     let site = c.site-site.result in
     let number = c.in-Some.number in
     let spot : Spot = record { site = site; number = number } in
-    let within = subst (λ (a : BoxArea). number < cell_count a)
-    (inv.area ∙ (c.requires.area ∙ sym c.area-area.ensures.area)) c.in-Some.ensures.within in
-    let is : IsSpot c.area-area.result spot = spot_here c.area-area.result site number within
-    c.site-site.ensures.site c.site-site.ensures.inside in
+    let is = spot_here c.loop-number.work.area c.area-area.result c.args.sys.now.area site number (inv.area ∙ c.requires.area) c.area-area.ensures.area c.in-Some.ensures.within c.site-site.ensures.site c.site-site.ensures.inside in
     taken_spot c.args.sys.now c.loop-number.grid.tiles c.loop-number.work.numbers
-    c.take_least.new.self.numbers spot (record {
-      spot = subst (λ (a : BoxArea). IsSpot a spot) c.area-area.ensures.area is;
-      listed = c.in-Some.ensures.least.member;
-      removed = c.in-Some.ensures.removed;
-    }) inv.lists
+    c.take_least.new.self.numbers spot is c.in-Some.ensures.least.member c.in-Some.ensures.removed inv.lists
 
 pub loop-number-smaller : goal.loop-number-smaller
 loop-number-smaller g c =
@@ -60,10 +53,8 @@ loop-number-preserved g c =
     let numbers = c.loop-number.work.numbers in
     let site = c.site-site.result in
     let number = c.in-Some.number in
-    let is : IsSpot c.area-area.result (record { site = site; number = number }) =
-    spot_here c.area-area.result site number (subst (λ (a : BoxArea). number < cell_count a) (inv.area ∙ (c.requires.area ∙ sym c.area-area.ensures.area)) c.in-Some.ensures.within) c.site-site.ensures.site c.site-site.ensures.inside in
     let spot : Spot = record { site = site; number = number } in
-    let is_own : IsSpot sys.area spot = subst (λ (a : BoxArea). IsSpot a spot) c.area-area.ensures.area is in
+    let is : IsSpot sys.area spot = spot_here c.loop-number.work.area c.area-area.result sys.area site number (inv.area ∙ c.requires.area) c.area-area.ensures.area c.in-Some.ensures.within c.site-site.ensures.site c.site-site.ensures.inside in
     record {
       filling = c.fill.ensures.filling;
       picker = c.fill.ensures.picker;
@@ -72,7 +63,7 @@ loop-number-preserved g c =
       lists = c.fill.ensures.lists.lists;
       order = elim c.fill.ensures.fills [
         | inl fills ↦ seen_more sys before after spot.site old.places new.places old.clean new.clean inv.filling.distinct
-            (least_listed sys before numbers spot c.area-area.ensures.valid.box is_own inv.lists.all c.in-Some.ensures.least) fills.fills fills.clean inv.order
+            (least_listed sys before numbers spot c.area-area.ensures.valid.box is inv.lists.all c.in-Some.ensures.least) fills.fills fills.clean inv.order
         | inr same ↦ seen_stays sys before after old new same.0 same.1 inv.order
       ];
       room = c.fill.ensures.room ∙ inv.room;

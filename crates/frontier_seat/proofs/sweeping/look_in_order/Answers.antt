@@ -43,16 +43,9 @@ look_logged-requires-clause-taken g c =
     let site = c.site-site.result in
     let number = c.in-Some.number in
     let spot : Spot = record { site = site; number = number } in
-    let within = subst (λ (a : BoxArea). number < cell_count a)
-    (inv.can.area ∙ sym c.area-area.ensures.area) c.in-Some.ensures.within in
-    let is : IsSpot c.area-area.result spot = spot_here c.area-area.result site number within
-    c.site-site.ensures.site c.site-site.ensures.inside in
+    let is = spot_here c.loop-number.work.area c.area-area.result c.args.sys.now.area site number inv.can.area c.area-area.ensures.area c.in-Some.ensures.within c.site-site.ensures.site c.site-site.ensures.inside in
     taken_spot c.args.sys.now c.loop-number.growing.grid.tiles c.loop-number.work.numbers
-    c.take_least.new.self.numbers spot (record {
-      spot = subst (λ (a : BoxArea). IsSpot a spot) c.area-area.ensures.area is;
-      listed = c.in-Some.ensures.least.member;
-      removed = c.in-Some.ensures.removed;
-    }) inv.lists
+    c.take_least.new.self.numbers spot is c.in-Some.ensures.least.member c.in-Some.ensures.removed inv.lists
 
 pub loop-number-smaller : goal.loop-number-smaller
 loop-number-smaller g c =
@@ -77,10 +70,8 @@ loop-number-preserved g c =
     let looks = c.look_logged.ensures.looks in
     let site = c.site-site.result in
     let number = c.in-Some.number in
-    let is : IsSpot c.area-area.result (record { site = site; number = number }) =
-    spot_here c.area-area.result site number (subst (λ (a : BoxArea). number < cell_count a) (inv.can.area ∙ sym c.area-area.ensures.area) c.in-Some.ensures.within) c.site-site.ensures.site c.site-site.ensures.inside in
     let spot : Spot = record { site = site; number = number } in
-    let is_own : IsSpot sys.area spot = subst (λ (a : BoxArea). IsSpot a spot) c.area-area.ensures.area is in
+    let is : IsSpot sys.area spot = spot_here c.loop-number.work.area c.area-area.result sys.area site number inv.can.area c.area-area.ensures.area c.in-Some.ensures.within c.site-site.ensures.site c.site-site.ensures.inside in
     let cost = c.look_logged.ensures.cost in
     let was = inv.cost in
     record {
@@ -90,8 +81,8 @@ loop-number-preserved g c =
       row = c.site-site.ensures.row;
       lists = record { empty = looks.listed; all = looks.closed };
       order = λ said. elim c.look_logged.ensures.logs [
-        | inl logged ↦ claims_more sys before after spot old new inv.can.growing is_own
-            (least_listed sys before.grid.tiles numbers spot c.area-area.ensures.valid.box is_own inv.lists.all c.in-Some.ensures.least) logged (logged.in_order said).1 (inv.order (logged.in_order said).0)
+        | inl logged ↦ claims_more sys before after spot old new inv.can.growing is
+            (least_listed sys before.grid.tiles numbers spot c.area-area.ensures.valid.box is inv.lists.all c.in-Some.ensures.least) logged (logged.in_order said).1 (inv.order (logged.in_order said).0)
         | inr same ↦ claims_stay sys before after old new same.0 same.1 (inv.order (sym (ap (λ (l : LoggedClaims). l.in_order) same.1) ∙ said))
       ];
       sole = λ all was. elim c.look_logged.ensures.logs [

@@ -5,4 +5,4 @@ pub invariant_of-result : goal.invariant_of-result
 invariant_of-result c =
     let wide = c.width.ensures in
     let high = c.height.ensures in
-    (c.requires, c.in_ok-make.ensures.bound ∙ (λ k. wide k * high k), c.least.ensures)
+    (c.requires, c.in_ok-make.ensures.bound ∙ (λ k. wide k * high k))
