@@ -4,12 +4,9 @@ ghost use Rattle.std.specs.Option.{option_map_or};
 ghost use Rattle.atam.specs.declared.limits.TheConstants.{MOST_STRENGTH};
 ghost use Rattle.atam.specs.Sites.{InBox, neighbor};
 ghost use Rattle.atam.specs.Placements.{tile_at};
-ghost use Rattle.atam.specs.TileSystem.{IsValid};
-ghost use Rattle.atam.specs.Assembly.{Fits};
 ghost use Rattle.atam.specs.Growth.{IsLeastOpenAmong};
 ghost use Rattle.attach_rule.specs.Bonds.{AreStrengths};
 ghost use Rattle.attach_rule.specs.Searches.{IsFirstType};
-ghost use Rattle.type_index.specs.Indexes.{IsIndexOf};
 ghost use Rattle.cert_check.specs.Certificates.{places_of, entry_at, IsSeed, StatesNone};
 ghost use Rattle.cert_check.specs.Judgement.{IsBeside};
 ghost use Rattle.cert_check.specs.Inner.Listings.{AreBeside};
@@ -24,70 +21,190 @@ use attach_rule::{FacingGlues, Strengths, TypeFinder, glues_beside};
 use tile_system::{GlueId, Place, Side, Site, System, TypeId};
 use type_index::TypeIndex;
 
-// The first check that an entry fails. Each site beside it is looked at once, and its rivals are
-// looked up by the glues that face it.
-pub(crate) fn check_entry(
-    sys: &System,
-    listing: &Listing<'_>,
-    seeds: &Grid,
-    types: &TypeIndex,
-    looks: &mut Looks,
-    entry: Entry,
-) -> CertVerdict
-    requires can { CanCheck sys.now listing.now seeds.now types.now }
-    requires listed { Contains listing.now.entries entry }
-    requires known { AreLooks sys.now looks.old }
-    ensures verdict { IsEntryVerdict sys.now listing.now.entries entry result }
-    ensures known { AreLooks sys.now looks.new }
-{
-    let site = entry.place.site;
-    let beside = listing.entries_beside(site);
-    match check_own(sys, listing, seeds, types, looks, &entry, &beside) {
-        CertVerdict::Yes => match open_beside(sys, listing, types, site, &beside) {
-            Some((open, tile)) => CertVerdict::NotTerminal(open, tile),
+// What checks read: a system, the entries of a certificate, the system's seeds in a grid, and an
+// index of its types.
+#[derive(Clone, Copy)]
+pub(crate) struct Checker<'a> {
+    pub(crate) sys: &'a System,
+    pub(crate) listing: &'a Listing<'a>,
+    pub(crate) seeds: &'a Grid,
+    pub(crate) types: &'a TypeIndex,
+}
+
+impl<'a> Checker<'a> {
+    // The first check that an entry fails. Each site beside it is looked at once, and its rivals
+    // are looked up by the glues that face it.
+    pub(crate) fn check_entry(&self, looks: &mut Looks, entry: Entry) -> CertVerdict
+        requires can { CanCheck self.now }
+        requires listed { Contains self.now.listing.now.entries entry }
+        requires known { AreLooks self.now.sys.now looks.old }
+        ensures verdict { IsEntryVerdict self.now.sys.now self.now.listing.now.entries
+            entry result }
+        ensures known { AreLooks self.now.sys.now looks.new }
+    {
+        let site = entry.place.site;
+        let beside = self.listing.entries_beside(site);
+        match self.check_own(looks, &entry, &beside) {
+            CertVerdict::Yes => match self.open_beside(site, &beside) {
+                Some((open, tile)) => CertVerdict::NotTerminal(open, tile),
+                None => CertVerdict::Yes,
+            },
+            fault => fault,
+        }
+    }
+
+    // The first of the checks of its own sides and site that an entry fails.
+    #[inline(always)]
+    fn check_own(&self, looks: &mut Looks, entry: &Entry, beside: &EntriesBeside) -> CertVerdict
+        requires can { CanCheck self.now }
+        requires listed { Contains self.now.listing.now.entries entry.now }
+        requires beside { AreBeside self.now.listing.now.entries entry.now.place.site beside.now }
+        requires known { AreLooks self.now.sys.now looks.old }
+        ensures verdict { IsOwnVerdict self.now.sys.now self.now.listing.now.entries
+            entry.now result }
+        ensures known { AreLooks self.now.sys.now looks.new }
+    {
+        if !self.is_seed(entry) {
+            return self.check_attached(looks, entry, beside);
+        }
+        if states_none(entry) {
+            CertVerdict::Yes
+        } else {
+            CertVerdict::SeedSides(entry.place.site)
+        }
+    }
+
+    // Whether its place is a seed's.
+    #[inline(always)]
+    fn is_seed(&self, entry: &Entry) -> bool
+        requires area { self.now.seeds.now.area ≡ self.now.listing.now.area }
+        requires inside { InBox self.now.listing.now.area entry.now.place.site }
+        ensures { IsTrue result ↔
+            (tile_at self.now.seeds.now.tiles entry.now.place.site ≡ Some entry.now.place.tile) }
+    {
+        self.seeds.tile(self.listing.number(entry.place.site)) == Some(entry.place.tile)
+    }
+
+    // The first of the checks of an entry that isn't a seed's, but that of the sites beside it.
+    // Where one of its type that passed looked the same, only the ranks are compared.
+    #[inline(always)]
+    fn check_attached(
+        &self,
+        looks: &mut Looks,
+        entry: &Entry,
+        beside: &EntriesBeside,
+    ) -> CertVerdict
+        requires can { CanCheck self.now }
+        requires listed { Contains self.now.listing.now.entries entry.now }
+        requires beside { AreBeside self.now.listing.now.entries entry.now.place.site beside.now }
+        requires known { AreLooks self.now.sys.now looks.old }
+        requires attached { ¬ IsSeed self.now.sys.now entry.now }
+        ensures verdict { IsAttachedVerdict self.now.sys.now self.now.listing.now.entries
+            entry.now result }
+        ensures known { AreLooks self.now.sys.now looks.new }
+    {
+        let look = Look::of(self.sys, self.types, self.listing, entry, beside);
+        if looks.has(self.sys, entry.place.tile, &look) && is_ranked(entry, beside) {
+            return CertVerdict::Yes;
+        }
+        self.check_anew(looks, *entry, look)
+    }
+
+    // Makes each of these checks, and keeps the look of an entry that passes. It looks anew at what
+    // stands beside the entry, so that the caller can let go of it.
+    #[inline(never)]
+    fn check_anew(&self, looks: &mut Looks, entry: Entry, look: Look) -> CertVerdict
+        requires can { CanCheck self.now }
+        requires listed { Contains self.now.listing.now.entries entry }
+        requires known { AreLooks self.now.sys.now looks.old }
+        requires attached { ¬ IsSeed self.now.sys.now entry }
+        requires looks { LooksLike self.now.sys.now self.now.listing.now.entries entry look }
+        ensures verdict { IsAttachedVerdict self.now.sys.now self.now.listing.now.entries
+            entry result }
+        ensures known { AreLooks self.now.sys.now looks.new }
+    {
+        let beside = self.listing.entries_beside(entry.place.site);
+        match self.check_in_turn(looks, &entry, &beside) {
+            CertVerdict::Yes => {
+                looks.keep(self.sys, entry.place.tile, look);
+                CertVerdict::Yes
+            }
+            fault => fault,
+        }
+    }
+
+    // The first of these checks that it fails.
+    fn check_in_turn(&self, looks: &mut Looks, entry: &Entry, beside: &EntriesBeside) -> CertVerdict
+        requires can { CanCheck self.now }
+        requires listed { Contains self.now.listing.now.entries entry.now }
+        requires beside { AreBeside self.now.listing.now.entries entry.now.place.site beside.now }
+        requires known { AreLooks self.now.sys.now looks.old }
+        requires attached { ¬ IsSeed self.now.sys.now entry.now }
+        ensures verdict { IsAttachedVerdict self.now.sys.now self.now.listing.now.entries
+            entry.now result }
+        ensures known { AreLooks self.now.sys.now looks.new }
+    {
+        // no two entries have one site
+        self.listing.recall_sites();
+        let Place { site, tile } = entry.place;
+        let glues = glues_beside(self.sys, self.listing, site, &beside.tiles());
+        let bonds = self.types.bonds(self.sys, &glues, tile);
+        if !is_held(entry, beside, &bonds) {
+            return CertVerdict::BadInput(site);
+        }
+        let sum = stated_sum(entry, &bonds);
+        if sum != self.sys.tau() {
+            return CertVerdict::NotExact(site, sum);
+        }
+        if let Some(side) = first_loose(entry, beside, &bonds) {
+            return CertVerdict::LooseBond(site, side);
+        }
+        let kept = kept_glues(&glues, beside);
+        match looks.other_held(self.sys, self.types, &kept, tile) {
+            Some(rival) => CertVerdict::Rival(site, rival),
             None => CertVerdict::Yes,
-        },
-        fault => fault,
+        }
     }
-}
 
-// The first of the checks of its own sides and site that an entry fails.
-#[inline(always)]
-fn check_own(
-    sys: &System,
-    listing: &Listing<'_>,
-    seeds: &Grid,
-    types: &TypeIndex,
-    looks: &mut Looks,
-    entry: &Entry,
-    beside: &EntriesBeside,
-) -> CertVerdict
-    requires can { CanCheck sys.now listing.now seeds.now types.now }
-    requires listed { Contains listing.now.entries entry.now }
-    requires beside { AreBeside listing.now.entries entry.now.place.site beside.now }
-    requires known { AreLooks sys.now looks.old }
-    ensures verdict { IsOwnVerdict sys.now listing.now.entries entry.now result }
-    ensures known { AreLooks sys.now looks.new }
-{
-    if !is_seed(listing, seeds, entry) {
-        return check_attached(sys, listing, types, looks, entry, beside);
+    // The least site beside an entry where a type attaches, with the first such type.
+    #[inline(always)]
+    fn open_beside(&self, site: Site, beside: &EntriesBeside) -> Option<(Site, TypeId)>
+        requires can { CanCheck self.now }
+        requires inside { InBox self.now.sys.now.area site }
+        requires beside { AreBeside self.now.listing.now.entries site beside.now }
+        ensures { IsLeastOpenAmong self.now.sys.now (places_of self.now.listing.now.entries)
+            (IsBeside site) result }
+    {
+        if let Some(tile) = self.type_beside(site, Side::South, &beside.south) {
+            return Some((site.step(Side::South), tile));
+        }
+        if let Some(tile) = self.type_beside(site, Side::West, &beside.west) {
+            return Some((site.step(Side::West), tile));
+        }
+        if let Some(tile) = self.type_beside(site, Side::East, &beside.east) {
+            return Some((site.step(Side::East), tile));
+        }
+        if let Some(tile) = self.type_beside(site, Side::North, &beside.north) {
+            return Some((site.step(Side::North), tile));
+        }
+        None
     }
-    if states_none(entry) {
-        CertVerdict::Yes
-    } else {
-        CertVerdict::SeedSides(entry.place.site)
-    }
-}
 
-// Whether its place is a seed's.
-#[inline(always)]
-fn is_seed(listing: &Listing<'_>, seeds: &Grid, entry: &Entry) -> bool
-    requires area { seeds.now.area ≡ listing.now.area }
-    requires inside { InBox listing.now.area entry.now.place.site }
-    ensures { IsTrue result ↔
-        (tile_at seeds.now.tiles entry.now.place.site ≡ Some entry.now.place.tile) }
-{
-    seeds.tile(listing.number(entry.place.site)) == Some(entry.place.tile)
+    // The first type that attaches on this side of the site: none where an entry is there.
+    #[inline(always)]
+    fn type_beside(&self, site: Site, side: Side, beside: &Option<Entry>) -> Option<TypeId>
+        requires can { CanCheck self.now }
+        requires inside { InBox self.now.sys.now.area site }
+        requires beside { beside.now ≡ entry_at self.now.listing.now.entries (neighbor site side) }
+        ensures { IsFirstType self.now.sys.now (places_of self.now.listing.now.entries)
+            (neighbor site side) result }
+    {
+        if beside.is_some() {
+            return None;
+        }
+        self.types
+            .first_type(self.sys, self.listing, site.step(side))
+    }
 }
 
 // Whether it states no side.
@@ -98,108 +215,6 @@ fn states_none(entry: &Entry) -> bool
         && !entry.states(Side::East)
         && !entry.states(Side::South)
         && !entry.states(Side::West)
-}
-
-// The first of the checks of an entry that isn't a seed's, but that of the sites beside it. Where
-// one of its type that passed looked the same, only the ranks are compared.
-#[inline(always)]
-fn check_attached(
-    sys: &System,
-    listing: &Listing<'_>,
-    types: &TypeIndex,
-    looks: &mut Looks,
-    entry: &Entry,
-    beside: &EntriesBeside,
-) -> CertVerdict
-    requires valid { IsValid sys.now }
-    requires fits { Fits sys.now (places_of listing.now.entries) }
-    requires index { IsIndexOf sys.now types.now }
-    requires listed { Contains listing.now.entries entry.now }
-    requires beside { AreBeside listing.now.entries entry.now.place.site beside.now }
-    requires known { AreLooks sys.now looks.old }
-    requires area { listing.now.area ≡ sys.now.area }
-    requires attached { ¬ IsSeed sys.now entry.now }
-    ensures verdict { IsAttachedVerdict sys.now listing.now.entries entry.now result }
-    ensures known { AreLooks sys.now looks.new }
-{
-    let look = Look::of(sys, types, listing, entry, beside);
-    if looks.has(sys, entry.place.tile, &look) && is_ranked(entry, beside) {
-        return CertVerdict::Yes;
-    }
-    check_anew(sys, listing, types, looks, *entry, look)
-}
-
-// Makes each of these checks, and keeps the look of an entry that passes. It looks anew at what
-// stands beside the entry, so that the caller can let go of it.
-#[inline(never)]
-fn check_anew(
-    sys: &System,
-    listing: &Listing<'_>,
-    types: &TypeIndex,
-    looks: &mut Looks,
-    entry: Entry,
-    look: Look,
-) -> CertVerdict
-    requires valid { IsValid sys.now }
-    requires fits { Fits sys.now (places_of listing.now.entries) }
-    requires index { IsIndexOf sys.now types.now }
-    requires listed { Contains listing.now.entries entry }
-    requires known { AreLooks sys.now looks.old }
-    requires area { listing.now.area ≡ sys.now.area }
-    requires attached { ¬ IsSeed sys.now entry }
-    requires looks { LooksLike sys.now listing.now.entries entry look }
-    ensures verdict { IsAttachedVerdict sys.now listing.now.entries entry result }
-    ensures known { AreLooks sys.now looks.new }
-{
-    let beside = listing.entries_beside(entry.place.site);
-    match check_in_turn(sys, listing, types, looks, &entry, &beside) {
-        CertVerdict::Yes => {
-            looks.keep(sys, entry.place.tile, look);
-            CertVerdict::Yes
-        }
-        fault => fault,
-    }
-}
-
-// The first of these checks that it fails.
-fn check_in_turn(
-    sys: &System,
-    listing: &Listing<'_>,
-    types: &TypeIndex,
-    looks: &mut Looks,
-    entry: &Entry,
-    beside: &EntriesBeside,
-) -> CertVerdict
-    requires valid { IsValid sys.now }
-    requires fits { Fits sys.now (places_of listing.now.entries) }
-    requires index { IsIndexOf sys.now types.now }
-    requires listed { Contains listing.now.entries entry.now }
-    requires beside { AreBeside listing.now.entries entry.now.place.site beside.now }
-    requires known { AreLooks sys.now looks.old }
-    requires attached { ¬ IsSeed sys.now entry.now }
-    ensures verdict { IsAttachedVerdict sys.now listing.now.entries entry.now result }
-    ensures known { AreLooks sys.now looks.new }
-{
-    // no two entries have one site
-    listing.recall_sites();
-    let Place { site, tile } = entry.place;
-    let glues = glues_beside(sys, listing, site, &beside.tiles());
-    let bonds = types.bonds(sys, &glues, tile);
-    if !is_held(entry, beside, &bonds) {
-        return CertVerdict::BadInput(site);
-    }
-    let sum = stated_sum(entry, &bonds);
-    if sum != sys.tau() {
-        return CertVerdict::NotExact(site, sum);
-    }
-    if let Some(side) = first_loose(entry, beside, &bonds) {
-        return CertVerdict::LooseBond(site, side);
-    }
-    let kept = kept_glues(&glues, beside);
-    match looks.other_held(sys, types, &kept, tile) {
-        Some(rival) => CertVerdict::Rival(site, rival),
-        None => CertVerdict::Yes,
-    }
 }
 
 // Whether each stated side is held by an entry of lesser rank.
@@ -320,58 +335,4 @@ fn kept_glue(glue: Option<GlueId>, beside: &Option<Entry>, side: Side) -> Option
     ensures { result ≡ kept_glue glue beside.now side }
 {
     if !waits(beside, side) { glue } else { None }
-}
-
-// The least site beside an entry where a type attaches, with the first such type.
-#[inline(always)]
-fn open_beside(
-    sys: &System,
-    listing: &Listing<'_>,
-    types: &TypeIndex,
-    site: Site,
-    beside: &EntriesBeside,
-) -> Option<(Site, TypeId)>
-    requires valid { IsValid sys.now }
-    requires fits { Fits sys.now (places_of listing.now.entries) }
-    requires index { IsIndexOf sys.now types.now }
-    requires inside { InBox sys.now.area site }
-    requires beside { AreBeside listing.now.entries site beside.now }
-    ensures { IsLeastOpenAmong sys.now (places_of listing.now.entries) (IsBeside site) result }
-{
-    if let Some(tile) = type_beside(sys, listing, types, site, Side::South, &beside.south) {
-        return Some((site.step(Side::South), tile));
-    }
-    if let Some(tile) = type_beside(sys, listing, types, site, Side::West, &beside.west) {
-        return Some((site.step(Side::West), tile));
-    }
-    if let Some(tile) = type_beside(sys, listing, types, site, Side::East, &beside.east) {
-        return Some((site.step(Side::East), tile));
-    }
-    if let Some(tile) = type_beside(sys, listing, types, site, Side::North, &beside.north) {
-        return Some((site.step(Side::North), tile));
-    }
-    None
-}
-
-// The first type that attaches on this side of the site: none where an entry is there.
-#[inline(always)]
-fn type_beside(
-    sys: &System,
-    listing: &Listing<'_>,
-    types: &TypeIndex,
-    site: Site,
-    side: Side,
-    beside: &Option<Entry>,
-) -> Option<TypeId>
-    requires valid { IsValid sys.now }
-    requires fits { Fits sys.now (places_of listing.now.entries) }
-    requires index { IsIndexOf sys.now types.now }
-    requires inside { InBox sys.now.area site }
-    requires beside { beside.now ≡ entry_at listing.now.entries (neighbor site side) }
-    ensures { IsFirstType sys.now (places_of listing.now.entries) (neighbor site side) result }
-{
-    if beside.is_some() {
-        return None;
-    }
-    types.first_type(sys, listing, site.step(side))
 }

@@ -9,11 +9,11 @@ ghost use Rattle.cert_check.specs.Certificates.{places_of};
 ghost use Rattle.cert_check.specs.Judgement.{IsFirstUnlisted, IsVerdict};
 ghost use Rattle.cert_check.specs.Inner.Checks.{CanCheck, ChecksPortion, IsChecked};
 
-use crate::checks::check_entry;
+use crate::checks::Checker;
 use crate::listing::Listing;
 use crate::looks::Looks;
 use crate::{CertVerdict, Certificate};
-use assembly::{Grid, grid_of_seeds};
+use assembly::grid_of_seeds;
 use fan_out::{Portion, WorkerCount, share_numbers};
 use std::alloc::Global;
 use std::thread::Threads;
@@ -66,7 +66,13 @@ fn check_listing<R: Threads + Sync, G: Gate>(
     sys.recall_valid();
     let seeds = grid_of_seeds(alloc, sys)?;
     let types = TypeIndex::build(alloc, sys)?;
-    check_all(rt, alloc, sys, listing, &seeds, &types, workers, gate)
+    let checker = Checker {
+        sys,
+        listing,
+        seeds: &seeds,
+        types: &types,
+    };
+    check_all(rt, alloc, &checker, workers, gate)
 }
 
 // The site of the first seed that is no entry's place.
@@ -93,38 +99,28 @@ fn is_listed(listing: &Listing<'_>, seed: &Place) -> bool
 fn check_all<R: Threads + Sync, G: Gate>(
     rt: &R,
     alloc: Global,
-    sys: &System,
-    listing: &Listing<'_>,
-    seeds: &Grid,
-    types: &TypeIndex,
+    checker: &Checker<'_>,
     workers: WorkerCount,
     gate: &G,
 ) -> Result<CertVerdict, NoMemory>
-    requires can { CanCheck sys.now listing.now seeds.now types.now }
-    ensures { IfOk result (IsChecked sys.now listing.now.entries 0
-        (length listing.now.entries)) }
+    requires can { CanCheck checker.now }
+    ensures { IfOk result (IsChecked checker.now.sys.now checker.now.listing.now.entries 0
+        (length checker.now.listing.now.entries)) }
 {
     let verdicts = share_numbers(
         rt,
         alloc,
-        listing.len(),
+        checker.listing.len(),
         workers,
         &move |entries: Portion| -> Result<CertVerdict, NoMemory>
-            requires { CanCheck sys.now listing.now seeds.now types.now
-                × (entries.start ≤ entries.end) × (entries.end ≤ length listing.now.entries) }
-            ensures { IfOk result (IsChecked sys.entry.now listing.entry.now.entries
-                entries.start entries.end) }
+            requires { CanCheck checker.now
+                × (entries.start ≤ entries.end)
+                × (entries.end ≤ length checker.now.listing.now.entries) }
+            ensures { IfOk result (IsChecked checker.entry.now.sys.now
+                checker.entry.now.listing.now.entries entries.start entries.end) }
         {
             gate.arrive(entries.worker);
-            check_range(
-                alloc,
-                sys,
-                listing,
-                seeds,
-                types,
-                entries.start,
-                entries.end,
-            )
+            check_portion(alloc, checker, entries)
         },
     )?;
     first_fault(verdicts)
@@ -142,25 +138,23 @@ fn first_fault(verdicts: Vec<Result<CertVerdict, NoMemory>>) -> Result<CertVerdi
     Ok(first)
 }
 
-// The first fault of the entries from one index to before another.
+// The first fault of the entries of a portion.
 #[inline(never)]
-fn check_range(
+fn check_portion(
     alloc: Global,
-    sys: &System,
-    listing: &Listing<'_>,
-    seeds: &Grid,
-    types: &TypeIndex,
-    start: usize,
-    end: usize,
+    checker: &Checker<'_>,
+    entries: Portion,
 ) -> Result<CertVerdict, NoMemory>
-    requires can { CanCheck sys.now listing.now seeds.now types.now }
-    requires range { (start ≤ end) × (end ≤ length listing.now.entries) }
-    ensures { IfOk result (IsChecked sys.now listing.now.entries start end) }
+    requires can { CanCheck checker.now }
+    requires start { entries.start ≤ entries.end }
+    requires end { entries.end ≤ length checker.now.listing.now.entries }
+    ensures { IfOk result (IsChecked checker.now.sys.now checker.now.listing.now.entries
+        entries.start entries.end) }
 {
-    let mut looks = Looks::make(alloc, sys)?;
-    for index in start..end {
-        let entry = listing.get(index);
-        let verdict = check_entry(sys, listing, seeds, types, &mut looks, entry);
+    let mut looks = Looks::make(alloc, checker.sys)?;
+    for index in entries.start..entries.end {
+        let entry = checker.listing.get(index);
+        let verdict = checker.check_entry(&mut looks, entry);
         if verdict != CertVerdict::Yes {
             return Ok(verdict);
         }

@@ -9,27 +9,26 @@ use Rattle.atam.specs.Placements.{SamePlacements}
 use Rattle.atam.specs.TileSystem.{TileSystem, IsValid}
 use Rattle.atam.specs.Assembly.{Fits}
 use Rattle.tile_system.specs.declared.memory.NoMemory.{NoMemory}
-use Rattle.assembly.specs.Grids.{TileGrid}
 use Rattle.attach_rule.specs.declared.bonding.Strengths.{Strengths}
 use Rattle.attach_rule.specs.declared.facing.FacingGlues.{FacingGlues}
-use Rattle.type_index.specs.Indexes.{TypeLists, IsIndexOf}
+use Rattle.type_index.specs.Indexes.{IsIndexOf}
 use Rattle.type_index.specs.SideSets.{SideSet}
+use Rattle.cert_check.specs.declared.checks.Checker.{Checker}
 use Rattle.cert_check.specs.declared.entry.Entry.{Entry}
 use Rattle.cert_check.specs.declared.verdict.CertVerdict.{CertVerdict}
 use Rattle.cert_check.specs.declared.verdict.CertVerdict.TheVariants.{Yes}
 use Rattle.cert_check.specs.declared.listing.EntriesBeside.{EntriesBeside}
 use Rattle.cert_check.specs.Certificates.{states, places_of, IsSeed, StatesNone, IsHeldThroughout, IsHeldExactly, HasNoLooseBond, HasNoRival, IsSound}
 use Rattle.cert_check.specs.Judgement.{IsFault, IsChunkVerdict}
-use Rattle.cert_check.specs.Inner.Listings.{EntryTable}
 
 -- entries that fit a valid system, listed over its box, with its seeds in a grid and an index of its types
-pub record CanCheck (sys : TileSystem) (listing : EntryTable) (seeds : TileGrid) (types : TypeLists) : Type 0 where
-  pub valid : IsValid sys
-  pub area : listing.area ≡ sys.area
-  pub fits : Fits sys (places_of listing.entries)
-  pub grid : seeds.area ≡ sys.area
-  pub seeded : SamePlacements sys.seeds seeds.tiles
-  pub index : IsIndexOf sys types
+pub record CanCheck (checker : Checker) : Type 0 where
+  pub valid : IsValid checker.sys.now
+  pub area : checker.listing.now.area ≡ checker.sys.now.area
+  pub fits : Fits checker.sys.now (places_of checker.listing.now.entries)
+  pub grid : checker.seeds.now.area ≡ checker.sys.now.area
+  pub seeded : SamePlacements checker.sys.now.seeds checker.seeds.now.tiles
+  pub index : IsIndexOf checker.sys.now checker.types.now
 
 -- whether the entry beside another in direction d, if there is one, states the side towards it
 abbrev pub waits : Option Entry → Side → Bool

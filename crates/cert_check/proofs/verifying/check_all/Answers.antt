@@ -7,8 +7,8 @@ use Rattle.cert_check.proofs.verifying.check_all.Goals as goal
 
 pub returns : goal.returns
 returns g c =
-    let sys = c.args.sys.now in
-    let entries = c.args.listing.now.entries in
+    let sys = c.args.checker.now.sys.now in
+    let entries = c.args.checker.now.listing.now.entries in
     let verdicts = c.in_ok-verdicts.verdicts.items in
     let row : InARow (ChecksPortion sys entries) 0 0 c.len.result verdicts =
     row_map _ (ChecksPortion sys entries) (λ worker start end found below said. search rules) 0 0 c.len.result verdicts c.in_ok-verdicts.ensures.each

@@ -4,29 +4,29 @@ use Rattle.type_index.specs.HeldTypes.{FirstHeldBut}
 use Rattle.cert_check.specs.Certificates.{IsHeldExactly, places_of}
 use Rattle.cert_check.proofs.Beside.{entry_near, entry_kind, stand_beside}
 use Rattle.cert_check.proofs.EntryChecks.{held_throughout, not_held, sum_is, first_loose_is, none_loose, least_rival_is, no_rival_is}
-use Rattle.cert_check.proofs.checks.check_in_turn.Goals as goal
+use Rattle.cert_check.proofs.checks.Checker.check_in_turn.Goals as goal
 
 pub glues_beside-glues-requires-clause-near : goal.glues_beside-glues-requires-clause-near
-glues_beside-glues-requires-clause-near c = entry_near c.args.sys.now c.args.listing.now.entries c.args.entry.now c.requires.fits c.requires.listed c.requires.valid
+glues_beside-glues-requires-clause-near c = entry_near c.args.self.now.sys.now c.args.self.now.listing.now.entries c.args.entry.now c.requires.can.fits c.requires.listed c.requires.can.valid
 
 pub glues_beside-glues-requires-clause-fits : goal.glues_beside-glues-requires-clause-fits
-glues_beside-glues-requires-clause-fits c = c.requires.fits
+glues_beside-glues-requires-clause-fits c = c.requires.can.fits
 
 pub glues_beside-glues-requires-clause-beside : goal.glues_beside-glues-requires-clause-beside
 glues_beside-glues-requires-clause-beside c =
-    stand_beside c.args.listing.now.entries c.args.entry.now.place.site c.args.beside.now c.tiles.result c.requires.beside
+    stand_beside c.args.self.now.listing.now.entries c.args.entry.now.place.site c.args.beside.now c.tiles.result c.requires.beside
     c.tiles.ensures.north c.tiles.ensures.east c.tiles.ensures.south c.tiles.ensures.west
 
 pub bonds-bonds-requires-clause-index : goal.bonds-bonds-requires-clause-index
-bonds-bonds-requires-clause-index c = c.requires.index
+bonds-bonds-requires-clause-index c = c.requires.can.index
 
 pub bonds-bonds-requires-clause-kind : goal.bonds-bonds-requires-clause-kind
-bonds-bonds-requires-clause-kind c = entry_kind c.args.sys.now c.args.listing.now.entries c.args.entry.now c.requires.fits c.requires.listed
+bonds-bonds-requires-clause-kind c = entry_kind c.args.self.now.sys.now c.args.self.now.listing.now.entries c.args.entry.now c.requires.can.fits c.requires.listed
 
 pub returns-then-not-is_held-clause-verdict : goal.returns-then-not-is_held-clause-verdict
 returns-then-not-is_held-clause-verdict c =
-    let sys = c.args.sys.now in
-    let entries = c.args.listing.now.entries in
+    let sys = c.args.self.now.sys.now in
+    let entries = c.args.self.now.listing.now.entries in
     let entry = c.args.entry.now in
     let beside = c.args.beside.now in
     let bonds = c.bonds-bonds.result in
@@ -41,8 +41,8 @@ stated_sum-sum-requires c = c.bonds-bonds.ensures.bound
 
 pub returns-then-sum-tau-clause-verdict : goal.returns-then-sum-tau-clause-verdict
 returns-then-sum-tau-clause-verdict c =
-    let sys = c.args.sys.now in
-    let entries = c.args.listing.now.entries in
+    let sys = c.args.self.now.sys.now in
+    let entries = c.args.self.now.listing.now.entries in
     let entry = c.args.entry.now in
     let beside = c.args.beside.now in
     let bonds = c.bonds-bonds.result in
@@ -57,8 +57,8 @@ returns-then-sum-tau-clause-known c = c.requires.known
 
 pub returns-in-Some-clause-verdict : goal.returns-in-Some-clause-verdict
 returns-in-Some-clause-verdict c =
-    let sys = c.args.sys.now in
-    let entries = c.args.listing.now.entries in
+    let sys = c.args.self.now.sys.now in
+    let entries = c.args.self.now.listing.now.entries in
     let entry = c.args.entry.now in
     let beside = c.args.beside.now in
     let bonds = c.bonds-bonds.result in
@@ -75,8 +75,8 @@ returns-in-Some-clause-known c = c.requires.known
 
 pub returns-in-Some-other_held-clause-verdict : goal.returns-in-Some-other_held-clause-verdict
 returns-in-Some-other_held-clause-verdict c =
-    let sys = c.args.sys.now in
-    let entries = c.args.listing.now.entries in
+    let sys = c.args.self.now.sys.now in
+    let entries = c.args.self.now.listing.now.entries in
     let entry = c.args.entry.now in
     let beside = c.args.beside.now in
     let bonds = c.bonds-bonds.result in
@@ -96,8 +96,8 @@ returns-in-Some-other_held-clause-known c = c.other_held.ensures.known
 
 pub returns-in-None-clause-verdict : goal.returns-in-None-clause-verdict
 returns-in-None-clause-verdict c =
-    let sys = c.args.sys.now in
-    let entries = c.args.listing.now.entries in
+    let sys = c.args.self.now.sys.now in
+    let entries = c.args.self.now.listing.now.entries in
     let entry = c.args.entry.now in
     let beside = c.args.beside.now in
     let bonds = c.bonds-bonds.result in

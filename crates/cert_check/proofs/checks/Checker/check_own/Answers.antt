@@ -5,7 +5,7 @@ use Rattle.cert_check.specs.Certificates.{IsSeed}
 use Rattle.cert_check.proofs.Beside.{entry_in_box}
 use Rattle.cert_check.proofs.EntryChecks.{seed_is, seed_at}
 use Rattle.cert_check.proofs.EntryVerdicts.{own_attached, own_bare, own_stated}
-use Rattle.cert_check.proofs.checks.check_own.Goals as goal
+use Rattle.cert_check.proofs.checks.Checker.check_own.Goals as goal
 
 pub is_seed-requires-clause-area : goal.is_seed-requires-clause-area
 is_seed-requires-clause-area c = c.requires.can.grid ∙ sym c.requires.can.area
@@ -13,16 +13,10 @@ is_seed-requires-clause-area c = c.requires.can.grid ∙ sym c.requires.can.area
 pub is_seed-requires-clause-inside : goal.is_seed-requires-clause-inside
 is_seed-requires-clause-inside c =
     let In : BoxArea → Type 0 = λ area. InBox area c.args.entry.now.place.site in
-    subst In (sym c.requires.can.area) (entry_in_box c.args.sys.now c.args.listing.now.entries c.args.entry.now c.requires.can.fits c.requires.listed)
+    subst In (sym c.requires.can.area) (entry_in_box c.args.self.now.sys.now c.args.self.now.listing.now.entries c.args.entry.now c.requires.can.fits c.requires.listed)
 
-pub check_attached-requires-clause-valid : goal.check_attached-requires-clause-valid
-check_attached-requires-clause-valid c = c.requires.can.valid
-
-pub check_attached-requires-clause-fits : goal.check_attached-requires-clause-fits
-check_attached-requires-clause-fits c = c.requires.can.fits
-
-pub check_attached-requires-clause-index : goal.check_attached-requires-clause-index
-check_attached-requires-clause-index c = c.requires.can.index
+pub check_attached-requires-clause-can : goal.check_attached-requires-clause-can
+check_attached-requires-clause-can c = c.requires.can
 
 pub check_attached-requires-clause-listed : goal.check_attached-requires-clause-listed
 check_attached-requires-clause-listed c = c.requires.listed
@@ -33,24 +27,21 @@ check_attached-requires-clause-beside c = c.requires.beside
 pub check_attached-requires-clause-known : goal.check_attached-requires-clause-known
 check_attached-requires-clause-known c = c.requires.known
 
-pub check_attached-requires-clause-area : goal.check_attached-requires-clause-area
-check_attached-requires-clause-area c = c.requires.can.area
-
 pub check_attached-requires-clause-attached : goal.check_attached-requires-clause-attached
 check_attached-requires-clause-attached c =
     let can = c.requires.can in
-    let no_seed : ¬ IsSeed c.args.sys.now c.args.entry.now = λ seed.
-    true≢false (sym (c.is_seed.ensures.1 (seed_at c.args.sys.now c.args.seeds.now.tiles c.args.entry.now.place can.valid.distinct_seeds can.seeded seed)) ∙ c.if-not-is_seed.true)
+    let no_seed : ¬ IsSeed c.args.self.now.sys.now c.args.entry.now = λ seed.
+    true≢false (sym (c.is_seed.ensures.1 (seed_at c.args.self.now.sys.now c.args.self.now.seeds.now.tiles c.args.entry.now.place can.valid.distinct_seeds can.seeded seed)) ∙ c.if-not-is_seed.true)
     in
     no_seed
 
 pub returns-then-not-is_seed-clause-verdict : goal.returns-then-not-is_seed-clause-verdict
 returns-then-not-is_seed-clause-verdict c =
     let can = c.requires.can in
-    let no_seed : ¬ IsSeed c.args.sys.now c.args.entry.now = λ seed.
-    true≢false (sym (c.is_seed.ensures.1 (seed_at c.args.sys.now c.args.seeds.now.tiles c.args.entry.now.place can.valid.distinct_seeds can.seeded seed)) ∙ c.if-not-is_seed.true)
+    let no_seed : ¬ IsSeed c.args.self.now.sys.now c.args.entry.now = λ seed.
+    true≢false (sym (c.is_seed.ensures.1 (seed_at c.args.self.now.sys.now c.args.self.now.seeds.now.tiles c.args.entry.now.place can.valid.distinct_seeds can.seeded seed)) ∙ c.if-not-is_seed.true)
     in
-    own_attached c.args.sys.now c.args.listing.now.entries c.args.entry.now c.check_attached.result no_seed c.check_attached.ensures.verdict
+    own_attached c.args.self.now.sys.now c.args.self.now.listing.now.entries c.args.entry.now c.check_attached.result no_seed c.check_attached.ensures.verdict
 
 pub returns-then-not-is_seed-clause-known : goal.returns-then-not-is_seed-clause-known
 returns-then-not-is_seed-clause-known c = c.check_attached.ensures.known
@@ -58,8 +49,8 @@ returns-then-not-is_seed-clause-known c = c.check_attached.ensures.known
 pub returns-then-states_none-clause-verdict : goal.returns-then-states_none-clause-verdict
 returns-then-states_none-clause-verdict c =
     let can = c.requires.can in
-    let seed = seed_is c.args.sys.now c.args.seeds.now.tiles c.args.entry.now.place can.valid.distinct_seeds can.seeded (c.is_seed.ensures.0 c.if-not-is_seed.false) in
-    own_bare c.args.sys.now c.args.listing.now.entries c.args.entry.now seed (c.states_none.ensures.0 c.if-states_none.true)
+    let seed = seed_is c.args.self.now.sys.now c.args.self.now.seeds.now.tiles c.args.entry.now.place can.valid.distinct_seeds can.seeded (c.is_seed.ensures.0 c.if-not-is_seed.false) in
+    own_bare c.args.self.now.sys.now c.args.self.now.listing.now.entries c.args.entry.now seed (c.states_none.ensures.0 c.if-states_none.true)
 
 pub returns-then-states_none-clause-known : goal.returns-then-states_none-clause-known
 returns-then-states_none-clause-known c = c.requires.known
@@ -67,8 +58,8 @@ returns-then-states_none-clause-known c = c.requires.known
 pub returns-else-states_none-clause-verdict : goal.returns-else-states_none-clause-verdict
 returns-else-states_none-clause-verdict c =
     let can = c.requires.can in
-    let seed = seed_is c.args.sys.now c.args.seeds.now.tiles c.args.entry.now.place can.valid.distinct_seeds can.seeded (c.is_seed.ensures.0 c.if-not-is_seed.false) in
-    own_stated c.args.sys.now c.args.listing.now.entries c.args.entry.now seed (λ none. true≢false (sym (c.states_none.ensures.1 none) ∙ c.if-states_none.false))
+    let seed = seed_is c.args.self.now.sys.now c.args.self.now.seeds.now.tiles c.args.entry.now.place can.valid.distinct_seeds can.seeded (c.is_seed.ensures.0 c.if-not-is_seed.false) in
+    own_stated c.args.self.now.sys.now c.args.self.now.listing.now.entries c.args.entry.now seed (λ none. true≢false (sym (c.states_none.ensures.1 none) ∙ c.if-states_none.false))
 
 pub returns-else-states_none-clause-known : goal.returns-else-states_none-clause-known
 returns-else-states_none-clause-known c = c.requires.known

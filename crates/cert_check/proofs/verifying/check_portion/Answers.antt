@@ -2,18 +2,18 @@ use Rattle.std.proofs.Common.{rules, ◌≡◌, refl, inl, arith}
 use Rattle.cert_check.specs.declared.verdict.CertVerdict.TheVariants.{Yes}
 use Rattle.cert_check.proofs.Chunks.{sound_more}
 use Rattle.cert_check.proofs.EntryVerdicts.{sound_by_yes}
-use Rattle.cert_check.proofs.verifying.check_range.Goals as goal
+use Rattle.cert_check.proofs.verifying.check_portion.Goals as goal
 
 pub loop-index-preserved : goal.loop-index-preserved
 loop-index-preserved c =
-    let sys = c.args.sys.now in
-    let entries = c.args.listing.now.entries in
+    let sys = c.args.checker.now.sys.now in
+    let entries = c.args.checker.now.listing.now.entries in
     let verdict = c.check_entry-verdict.result in
     let yes : verdict ≡ Yes = search rules in
     record {
       within = omega (arith, c.loop-index-test.true);
       sound =
-          sound_more sys entries c.args.start c.loop-index.index c.get-entry.result c.get-entry.ensures c.loop-index.invariant.sound
+          sound_more sys entries c.args.entries.start c.loop-index.index c.get-entry.result c.get-entry.ensures c.loop-index.invariant.sound
           (sound_by_yes sys entries c.get-entry.result verdict yes c.check_entry-verdict.ensures.verdict);
       known = c.check_entry-verdict.ensures.known;
     }

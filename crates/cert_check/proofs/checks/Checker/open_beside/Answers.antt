@@ -10,16 +10,10 @@ use Rattle.attach_rule.specs.Searches.{IsFirstType}
 use Rattle.cert_check.specs.Certificates.{places_of}
 use Rattle.cert_check.specs.Judgement.{IsBeside}
 use Rattle.cert_check.proofs.EntryChecks.{south_open, west_open, east_open, north_open, none_open}
-use Rattle.cert_check.proofs.checks.open_beside.Goals as goal
+use Rattle.cert_check.proofs.checks.Checker.open_beside.Goals as goal
 
-pub type_beside-requires-clause-valid : goal.type_beside-requires-clause-valid
-type_beside-requires-clause-valid c = c.requires.valid
-
-pub type_beside-requires-clause-fits : goal.type_beside-requires-clause-fits
-type_beside-requires-clause-fits c = c.requires.fits
-
-pub type_beside-requires-clause-index : goal.type_beside-requires-clause-index
-type_beside-requires-clause-index c = c.requires.index
+pub type_beside-requires-clause-can : goal.type_beside-requires-clause-can
+type_beside-requires-clause-can c = c.requires.can
 
 pub type_beside-requires-clause-inside : goal.type_beside-requires-clause-inside
 type_beside-requires-clause-inside c = c.requires.inside
@@ -28,26 +22,20 @@ pub type_beside-requires-clause-beside : goal.type_beside-requires-clause-beside
 type_beside-requires-clause-beside c = c.requires.beside.south
 
 pub step-requires : goal.step-requires
-step-requires c = near_inside c.args.sys.now.area c.args.site c.requires.valid.box c.requires.inside
+step-requires c = near_inside c.args.self.now.sys.now.area c.args.site c.requires.can.valid.box c.requires.inside
 
 pub returns-in-Some : goal.returns-in-Some
 returns-in-Some c =
-    let sys = c.args.sys.now in
-    let tiles = places_of c.args.listing.now.entries in
+    let sys = c.args.self.now.sys.now in
+    let tiles = places_of c.args.self.now.listing.now.entries in
     let site = c.args.site in
     let First : Side → Option TypeId → Type 0 = λ d found. IsFirstType sys tiles (neighbor site d) found in
     let first = subst (First South) c.in-Some.is c.type_beside.ensures in
     let Open : Site → Type 0 = λ m. IsLeastOpenAmong sys tiles (IsBeside site) (Some (m, c.in-Some.tile)) in
     subst Open (sym c.step.ensures) (south_open sys tiles site c.in-Some.tile first)
 
-pub type_beside-requires-2-clause-valid : goal.type_beside-requires-2-clause-valid
-type_beside-requires-2-clause-valid c = c.requires.valid
-
-pub type_beside-requires-2-clause-fits : goal.type_beside-requires-2-clause-fits
-type_beside-requires-2-clause-fits c = c.requires.fits
-
-pub type_beside-requires-2-clause-index : goal.type_beside-requires-2-clause-index
-type_beside-requires-2-clause-index c = c.requires.index
+pub type_beside-requires-2-clause-can : goal.type_beside-requires-2-clause-can
+type_beside-requires-2-clause-can c = c.requires.can
 
 pub type_beside-requires-2-clause-inside : goal.type_beside-requires-2-clause-inside
 type_beside-requires-2-clause-inside c = c.requires.inside
@@ -56,12 +44,12 @@ pub type_beside-requires-2-clause-beside : goal.type_beside-requires-2-clause-be
 type_beside-requires-2-clause-beside c = c.requires.beside.west
 
 pub step-requires-in-Some-type_beside : goal.step-requires-in-Some-type_beside
-step-requires-in-Some-type_beside c = near_inside c.args.sys.now.area c.args.site c.requires.valid.box c.requires.inside
+step-requires-in-Some-type_beside c = near_inside c.args.self.now.sys.now.area c.args.site c.requires.can.valid.box c.requires.inside
 
 pub returns-in-Some-type_beside : goal.returns-in-Some-type_beside
 returns-in-Some-type_beside c =
-    let sys = c.args.sys.now in
-    let tiles = places_of c.args.listing.now.entries in
+    let sys = c.args.self.now.sys.now in
+    let tiles = places_of c.args.self.now.listing.now.entries in
     let site = c.args.site in
     let First : Side → Option TypeId → Type 0 = λ d found. IsFirstType sys tiles (neighbor site d) found in
     let south = subst (First South) c.in_default.is c.type_beside.ensures in
@@ -69,14 +57,8 @@ returns-in-Some-type_beside c =
     let Open : Site → Type 0 = λ m. IsLeastOpenAmong sys tiles (IsBeside site) (Some (m, c.in-Some-type_beside.tile)) in
     subst Open (sym c.step-in-Some-type_beside.ensures) (west_open sys tiles site south c.in-Some-type_beside.tile first)
 
-pub type_beside-requires-3-clause-valid : goal.type_beside-requires-3-clause-valid
-type_beside-requires-3-clause-valid c = c.requires.valid
-
-pub type_beside-requires-3-clause-fits : goal.type_beside-requires-3-clause-fits
-type_beside-requires-3-clause-fits c = c.requires.fits
-
-pub type_beside-requires-3-clause-index : goal.type_beside-requires-3-clause-index
-type_beside-requires-3-clause-index c = c.requires.index
+pub type_beside-requires-3-clause-can : goal.type_beside-requires-3-clause-can
+type_beside-requires-3-clause-can c = c.requires.can
 
 pub type_beside-requires-3-clause-inside : goal.type_beside-requires-3-clause-inside
 type_beside-requires-3-clause-inside c = c.requires.inside
@@ -85,12 +67,12 @@ pub type_beside-requires-3-clause-beside : goal.type_beside-requires-3-clause-be
 type_beside-requires-3-clause-beside c = c.requires.beside.east
 
 pub step-requires-in-Some-type_beside-2 : goal.step-requires-in-Some-type_beside-2
-step-requires-in-Some-type_beside-2 c = near_inside c.args.sys.now.area c.args.site c.requires.valid.box c.requires.inside
+step-requires-in-Some-type_beside-2 c = near_inside c.args.self.now.sys.now.area c.args.site c.requires.can.valid.box c.requires.inside
 
 pub returns-in-Some-type_beside-2 : goal.returns-in-Some-type_beside-2
 returns-in-Some-type_beside-2 c =
-    let sys = c.args.sys.now in
-    let tiles = places_of c.args.listing.now.entries in
+    let sys = c.args.self.now.sys.now in
+    let tiles = places_of c.args.self.now.listing.now.entries in
     let site = c.args.site in
     let First : Side → Option TypeId → Type 0 = λ d found. IsFirstType sys tiles (neighbor site d) found in
     let south = subst (First South) c.in_default.is c.type_beside.ensures in
@@ -99,14 +81,8 @@ returns-in-Some-type_beside-2 c =
     let Open : Site → Type 0 = λ m. IsLeastOpenAmong sys tiles (IsBeside site) (Some (m, c.in-Some-type_beside-2.tile)) in
     subst Open (sym c.step-in-Some-type_beside-2.ensures) (east_open sys tiles site south west c.in-Some-type_beside-2.tile first)
 
-pub type_beside-requires-4-clause-valid : goal.type_beside-requires-4-clause-valid
-type_beside-requires-4-clause-valid c = c.requires.valid
-
-pub type_beside-requires-4-clause-fits : goal.type_beside-requires-4-clause-fits
-type_beside-requires-4-clause-fits c = c.requires.fits
-
-pub type_beside-requires-4-clause-index : goal.type_beside-requires-4-clause-index
-type_beside-requires-4-clause-index c = c.requires.index
+pub type_beside-requires-4-clause-can : goal.type_beside-requires-4-clause-can
+type_beside-requires-4-clause-can c = c.requires.can
 
 pub type_beside-requires-4-clause-inside : goal.type_beside-requires-4-clause-inside
 type_beside-requires-4-clause-inside c = c.requires.inside
@@ -115,12 +91,12 @@ pub type_beside-requires-4-clause-beside : goal.type_beside-requires-4-clause-be
 type_beside-requires-4-clause-beside c = c.requires.beside.north
 
 pub step-requires-in-Some-type_beside-3 : goal.step-requires-in-Some-type_beside-3
-step-requires-in-Some-type_beside-3 c = near_inside c.args.sys.now.area c.args.site c.requires.valid.box c.requires.inside
+step-requires-in-Some-type_beside-3 c = near_inside c.args.self.now.sys.now.area c.args.site c.requires.can.valid.box c.requires.inside
 
 pub returns-in-Some-type_beside-3 : goal.returns-in-Some-type_beside-3
 returns-in-Some-type_beside-3 c =
-    let sys = c.args.sys.now in
-    let tiles = places_of c.args.listing.now.entries in
+    let sys = c.args.self.now.sys.now in
+    let tiles = places_of c.args.self.now.listing.now.entries in
     let site = c.args.site in
     let First : Side → Option TypeId → Type 0 = λ d found. IsFirstType sys tiles (neighbor site d) found in
     let south = subst (First South) c.in_default.is c.type_beside.ensures in
@@ -132,8 +108,8 @@ returns-in-Some-type_beside-3 c =
 
 pub returns : goal.returns
 returns c =
-    let sys = c.args.sys.now in
-    let tiles = places_of c.args.listing.now.entries in
+    let sys = c.args.self.now.sys.now in
+    let tiles = places_of c.args.self.now.listing.now.entries in
     let site = c.args.site in
     let First : Side → Option TypeId → Type 0 = λ d found. IsFirstType sys tiles (neighbor site d) found in
     let south = subst (First South) c.in_default.is c.type_beside.ensures in
