@@ -14,6 +14,13 @@ use atam::{BoxArea, Side};
 use itoa::Buffer;
 use tile_io::{Chunk, Failed, Sink};
 
+// The labels and the kinds of a table, in their order.
+#[derive(Drop)]
+struct Lists<'a, K, G> {
+    labels: &'a [G],
+    kinds: &'a [K],
+}
+
 /// Prints the text of a table's system, which is not made. It takes no memory, and time that grows
 /// with the number of kinds and of labels.
 pub fn print_table<K: Copy, G: Copy, T: Table<K, G>, S: Sink>(
@@ -33,7 +40,8 @@ pub fn print_table<K: Copy, G: Copy, T: Table<K, G>, S: Sink>(
         (spelling (system_of (T.tiles table.now) seed area)) }
 {
     let mut chunk = Chunk::new();
-    put_table(&mut chunk, sink, table, labels, kinds, seed, area)?;
+    let lists = Lists { labels, kinds };
+    put_table(&mut chunk, sink, table, &lists, seed, area)?;
     chunk.flush(sink)
 }
 
@@ -41,23 +49,22 @@ fn put_table<K: Copy, G: Copy, T: Table<K, G>, S: Sink>(
     chunk: &mut Chunk,
     sink: &mut S,
     table: &T,
-    labels: &[G],
-    kinds: &[K],
+    lists: &Lists<'_, K, G>,
     seed: K,
     area: BoxArea,
 ) -> Result<(), Failed>
-    requires labels { labels.now ≡ (T.tiles table.now).labels }
-    requires kinds { kinds.now ≡ (T.tiles table.now).kinds }
+    requires labels { lists.now.labels.now ≡ (T.tiles table.now).labels }
+    requires kinds { lists.now.kinds.now ≡ (T.tiles table.now).kinds }
     requires numbered { IsTileSet (T.tiles table.now) }
     requires limits { IsWithinLimits (T.tiles table.now) }
-    requires seed { Contains kinds.now seed }
+    requires seed { Contains lists.now.kinds.now seed }
     ensures { PassesOn S.written S.faults sink.old sink.new chunk.old chunk.new result
         (spelling (system_of (T.tiles table.now) seed area)) }
 {
     let mut text = ShortText::new();
     put_head(chunk, sink)?;
-    put_labels(chunk, sink, table, labels, &mut text)?;
-    put_kinds(chunk, sink, table, kinds, &mut text)?;
+    put_labels(chunk, sink, table, lists.labels, &mut text)?;
+    put_kinds(chunk, sink, table, lists.kinds, &mut text)?;
     put_box(chunk, sink, area)?;
     set_seed_line(&mut text, table, seed);
     chunk.put(sink, text.as_slice())?;
