@@ -19,6 +19,7 @@ use Rattle.tile_system.specs.Seeds.{is_seeded}
 use Rattle.tile_text.specs.declared.version.Version.{Version}
 use Rattle.tile_text.specs.declared.version.Version.TheVariants.{One, Two}
 use Rattle.tile_text.specs.Fields.{box_field, place_field}
+use Rattle.tile_text.specs.Rows.{row}
 
 -- what a kept line of a system text is
 pub data SystemItem : Type 0 where
@@ -102,113 +103,59 @@ abbrev pub if_two : {X : Type 0} → Version → X → List X
 if_two One x = []
 if_two Two x = x ∷ []
 
--- The rows of the table of keywords: the word, how many words its line has, behind which lines it may stand, the limit of its
--- kind, and its fields from left to right with the checks of the whole line.
-abbrev pub tiles_row : Version → Keyword (List SystemItem) SystemItem
-tiles_row version = record {
-  word = codes "tiles";
-  has_words = λ n. n == 2;
-  may_follow = is_none;
-  has_room = λ earlier words. true;
-  fields = λ earlier words. do
-    _ ← require (bytes_eq (field words 1) (version_word version)) NoHeader
-    Ok Header;
-}
+-- The table of keywords of a version. A row has the word, how many words its line has, behind which
+-- lines it may stand, the limit of its kind, and its fields with the checks of the whole line.
+abbrev pub system_rows : Version → List (Keyword (List SystemItem) SystemItem)
+system_rows version =
+    row (codes "tiles") (λ n. n == 2) is_none (λ earlier. true) (λ earlier words. do
+      _ ← require (bytes_eq (field words 1) (version_word version)) NoHeader
+      Ok Header)
+    ∷ row (codes "tau") (λ n. n == 2) (behind word_of (codes "tiles" ∷ [])) (λ earlier. true)
+      (λ earlier words. do
+      n ← count_in 1 MOST_TAU (field words 1)
+      Ok (TauLine n))
+    ∷ row (codes "glue") (λ n. n == 3) (behind word_of (codes "tau" ∷ codes "glue" ∷ []))
+      (λ earlier. nat_lt (length (glue_names earlier)) MOST_GLUES) (λ earlier words. do
+      name ← declared is_name (glue_names earlier) (field words 1)
+      n ← count_in 0 MOST_STRENGTH (field words 2)
+      Ok (GlueLine (record { name = name; strength = n })))
+    ∷ row (codes "tile") (λ n. n == 6)
+      (behind word_of (codes "tau" ∷ codes "glue" ∷ codes "pair" ∷ codes "tile" ∷ []))
+      (λ earlier. nat_lt (length (type_names earlier)) MOST_TYPES) (λ earlier words. do
+      name ← declared is_name (type_names earlier) (field words 1)
+      n ← side earlier (field words 2)
+      e ← side earlier (field words 3)
+      s ← side earlier (field words 4)
+      w ← side earlier (field words 5)
+      Ok (TileLine (record { name = name; north = n; east = e; south = s; west = w })))
+    ∷ row (codes "box") (λ n. n == 5) (behind word_of (codes "tile" ∷ [])) (λ earlier. true)
+      (λ earlier words. do
+      area ← box_field (field words 1) (field words 2) (field words 3) (field words 4)
+      _ ← require (is_box area) OutOfRange
+      Ok (BoxLine area))
+    ∷ row (codes "seed") (λ n. n == 4) (behind word_of (codes "box" ∷ if_two version (codes "seed")))
+      (λ earlier. nat_lt (length (filter_map seed_of earlier)) MOST_SEEDS) (λ earlier words. do
+      seed ← place_field (type_names earlier) (field words 1) (field words 2) (field words 3)
+      _ ← require (is_inside (last_of (filter_map area_of earlier)) seed.site) SeedOutside
+      _ ← require (not (is_seeded (filter_map seed_of earlier) seed.site)) DoubleSite
+      Ok (SeedLine seed))
+    ∷ row (codes "end") (λ n. n == 1) (behind word_of (codes "seed" ∷ [])) (λ earlier. true)
+      (λ earlier words. Ok EndLine)
+    -- a pair is of two glues that differ and aren't paired yet
+    ∷ if_two version (row (codes "pair") (λ n. n == 4)
+      (behind word_of (codes "glue" ∷ codes "pair" ∷ []))
+      (λ earlier. nat_lt (length (filter_map pair_of earlier)) MOST_PAIRS) (λ earlier words. do
+      g ← referred is_name (glue_names earlier) (field words 1)
+      h ← referred is_name (glue_names earlier) (field words 2)
+      n ← count_in 0 MOST_STRENGTH (field words 3)
+      _ ← require (not (g == h) && not (is_some (paired_strength (filter_map pair_of earlier)
+        (record { 0 = g }) (record { 0 = h })))) DoubleName
+      Ok (PairLine (record { first = record { 0 = g }; second = record { 0 = h }; strength = n }))))
 
-abbrev pub tau_row : Keyword (List SystemItem) SystemItem
-tau_row = record {
-  word = codes "tau";
-  has_words = λ n. n == 2;
-  may_follow = behind word_of (codes "tiles" ∷ []);
-  has_room = λ earlier words. true;
-  fields = λ earlier words. do
-    n ← count_in 1 MOST_TAU (field words 1)
-    Ok (TauLine n);
-}
-
-abbrev pub glue_row : Keyword (List SystemItem) SystemItem
-glue_row = record {
-  word = codes "glue";
-  has_words = λ n. n == 3;
-  may_follow = behind word_of (codes "tau" ∷ codes "glue" ∷ []);
-  has_room = λ earlier words. nat_lt (length (glue_names earlier)) MOST_GLUES;
-  fields = λ earlier words. do
-    name ← declared is_name (glue_names earlier) (field words 1)
-    n ← count_in 0 MOST_STRENGTH (field words 2)
-    Ok (GlueLine (record { name = name; strength = n }));
-}
-
--- two glues that differ and aren't paired yet
-abbrev pub pair_row : Keyword (List SystemItem) SystemItem
-pair_row = record {
-  word = codes "pair";
-  has_words = λ n. n == 4;
-  may_follow = behind word_of (codes "glue" ∷ codes "pair" ∷ []);
-  has_room = λ earlier words. nat_lt (length (filter_map pair_of earlier)) MOST_PAIRS;
-  fields = λ earlier words. do
-    g ← referred is_name (glue_names earlier) (field words 1)
-    h ← referred is_name (glue_names earlier) (field words 2)
-    n ← count_in 0 MOST_STRENGTH (field words 3)
-    _ ← require (not (g == h)
-        && not (is_some (paired_strength (filter_map pair_of earlier) (record { 0 = g }) (record { 0 = h })))) DoubleName
-    Ok (PairLine (record { first = record { 0 = g }; second = record { 0 = h }; strength = n }));
-}
-
-abbrev pub tile_row : Keyword (List SystemItem) SystemItem
-tile_row = record {
-  word = codes "tile";
-  has_words = λ n. n == 6;
-  may_follow = behind word_of (codes "tau" ∷ codes "glue" ∷ codes "pair" ∷ codes "tile" ∷ []);
-  has_room = λ earlier words. nat_lt (length (type_names earlier)) MOST_TYPES;
-  fields = λ earlier words. do
-    name ← declared is_name (type_names earlier) (field words 1)
-    n ← side earlier (field words 2)
-    e ← side earlier (field words 3)
-    s ← side earlier (field words 4)
-    w ← side earlier (field words 5)
-    Ok (TileLine (record { name = name; north = n; east = e; south = s; west = w }));
-}
-
-abbrev pub box_row : Keyword (List SystemItem) SystemItem
-box_row = record {
-  word = codes "box";
-  has_words = λ n. n == 5;
-  may_follow = behind word_of (codes "tile" ∷ []);
-  has_room = λ earlier words. true;
-  fields = λ earlier words. do
-    area ← box_field (field words 1) (field words 2) (field words 3) (field words 4)
-    _ ← require (is_box area) OutOfRange
-    Ok (BoxLine area);
-}
-
--- under version 1 there is one seed
-abbrev pub seed_row : Version → Keyword (List SystemItem) SystemItem
-seed_row version = record {
-  word = codes "seed";
-  has_words = λ n. n == 4;
-  may_follow = behind word_of (codes "box" ∷ if_two version (codes "seed"));
-  has_room = λ earlier words. nat_lt (length (filter_map seed_of earlier)) MOST_SEEDS;
-  fields = λ earlier words. do
-    seed ← place_field (type_names earlier) (field words 1) (field words 2) (field words 3)
-    _ ← require (is_inside (last_of (filter_map area_of earlier)) seed.site) SeedOutside
-    _ ← require (not (is_seeded (filter_map seed_of earlier) seed.site)) DoubleSite
-    Ok (SeedLine seed);
-}
-
-abbrev pub end_row : Keyword (List SystemItem) SystemItem
-end_row = record {
-  word = codes "end";
-  has_words = λ n. n == 1;
-  may_follow = behind word_of (codes "seed" ∷ []);
-  has_room = λ earlier words. true;
-  fields = λ earlier words. Ok EndLine;
-}
-
--- the table of keywords of a version; only the end line completes a text
+-- only the end line completes a text
 unfoldable pub system_table : Version → Table SystemItem
 system_table version = record {
-  keywords = tiles_row version ∷ tau_row ∷ glue_row ∷ if_two version pair_row
-      ++ (tile_row ∷ box_row ∷ seed_row version ∷ end_row ∷ []);
+  keywords = system_rows version;
   has_header = true;
   is_end = λ item. bytes_eq (word_of item) (codes "end");
   is_complete = λ items. false;

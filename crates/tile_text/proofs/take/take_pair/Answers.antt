@@ -3,7 +3,8 @@ use Rattle.std.specs.Prelude.{filter_map, ◌==◌, is_some}
 use Rattle.atam.specs.TileSystem.{is_name}
 use Rattle.tile_io.specs.Checks.{count_in, field, referred}
 use Rattle.tile_system.specs.Pairs.{paired_strength}
-use Rattle.tile_text.specs.SystemText.{glue_names, pair_row, pair_of}
+use Rattle.tile_text.specs.SystemText.{glue_names, pair_of}
+use Rattle.tile_text.specs.Inner.Kinds.{pair_row}
 use Rattle.tile_text.specs.SystemText.SystemItem.{PairLine}
 use Rattle.tile_text.proofs.Built.{pairs-built}
 use Rattle.tile_text.proofs.take.take_pair.Goals as goal
