@@ -12,9 +12,9 @@ use Rattle.machine_text.specs.declared.rule.Transition.{Transition}
 use Rattle.machine_text.specs.declared.kind.LineKind.{LineKind}
 use Rattle.machine_text.specs.declared.kind.LineKind.TheVariants as kinds
 use Rattle.machine_text.specs.Machines.{TuringMachine, IsTransition, is_short_name, rule_among}
-use Rattle.machine_text.specs.MachineText.{MachineItem, machine_of, state_row, symbol_row, tape_row, machine_row, transition_in, rule_row, cells_row, rows_row, head_row, turn_field, references}
+use Rattle.machine_text.specs.MachineText.{MachineItem, machine_of, transition_in, turn_field, references}
 use Rattle.machine_text.specs.MachineText.MachineItem.{Header, StateLine, SymbolLine, RuleLine, CellsLine, RowsLine, HeadLine, TapeLine, EndLine}
-use Rattle.machine_text.specs.Inner.Kinds.{kind_of, row_of, may_stand_after}
+use Rattle.machine_text.specs.Inner.Kinds.{kind_of, row_of, may_stand_after, state_row, symbol_row, tape_row, machine_row, rule_row, cells_row, rows_row, head_row}
 use Rattle.machine_text.specs.Inner.SoFar.{IsFit}
 use Rattle.machine_text.proofs.References.{references_ok}
 

@@ -10,6 +10,7 @@ use Rattle.machine_text.specs.declared.rule.Turn.{Turn}
 use Rattle.machine_text.specs.declared.rule.Turn.TheVariants.{Left, Right, Stay}
 use Rattle.machine_text.specs.declared.rule.Transition.{Transition}
 use Rattle.machine_text.specs.Machines.{TuringMachine, is_short_name, rule_among}
+use Rattle.machine_text.specs.Rows.{row}
 
 -- what a kept line of a machine text is
 pub data MachineItem : Type 0 where
@@ -102,111 +103,50 @@ transition_in M words = do
   turn ← turn_field (field words 5)
   Ok (record { state = state; symbol = symbol; rule = record { state = next_state; symbol = next_symbol; turn = turn } })
 
--- The rows of the table of keywords: the word, how many words its line has, behind which lines it may stand, the limit of its
--- kind, and its fields from left to right. The limit and the fields are told by the machine that the earlier lines describe.
-abbrev pub machine_row : Keyword TuringMachine MachineItem
-machine_row = record {
-  word = codes "machine";
-  has_words = λ n. n == 2;
-  may_follow = is_none;
-  has_room = λ M words. true;
-  fields = λ M words. do
-    _ ← require (bytes_eq (field words 1) (codes "1")) NoHeader
-    Ok Header;
-}
+-- The table of keywords. A row has the word, how many words its line has, behind which lines it may
+-- stand, the limit of its kind and its fields, both told by the machine of the lines before.
+abbrev pub machine_rows : List (Keyword TuringMachine MachineItem)
+machine_rows =
+    row (codes "machine") (λ n. n == 2) is_none (λ M words. true) (λ M words. do
+      _ ← require (bytes_eq (field words 1) (codes "1")) NoHeader
+      Ok Header)
+    ∷ row (codes "state") (λ n. n == 2) (behind word_of (codes "machine" ∷ codes "state" ∷ []))
+      (λ M words. nat_lt (length M.states) MOST_STATES) (λ M words. do
+      name ← declared is_short_name M.states (field words 1)
+      Ok (StateLine name))
+    ∷ row (codes "symbol") (λ n. n == 2) (behind word_of (codes "state" ∷ codes "symbol" ∷ []))
+      (λ M words. nat_lt (length M.symbols) MOST_SYMBOLS) (λ M words. do
+      name ← declared is_short_name M.symbols (field words 1)
+      Ok (SymbolLine name))
+    ∷ row (codes "rule") (λ n. n == 6) (behind word_of (codes "symbol" ∷ codes "rule" ∷ []))
+      (λ M words. true) (λ M words. do
+      t ← transition_in M words
+      Ok (RuleLine t))
+    ∷ row (codes "cells") (λ n. n == 2) (behind word_of (codes "symbol" ∷ codes "rule" ∷ []))
+      (λ M words. true) (λ M words. do
+      n ← count_in 1 MOST_CELLS (field words 1)
+      Ok (CellsLine n))
+    ∷ row (codes "rows") (λ n. n == 2) (behind word_of (codes "cells" ∷ []))
+      (λ M words. true) (λ M words. do
+      n ← count_in 1 MOST_ROWS (field words 1)
+      Ok (RowsLine n))
+    ∷ row (codes "head") (λ n. n == 2) (behind word_of (codes "rows" ∷ []))
+      (λ M words. true) (λ M words. do
+      n ← count_in 0 (M.cells - 1) (field words 1)
+      Ok (HeadLine n))
+    -- all tape lines together have no more symbols than there are cells
+    ∷ row (codes "tape") (nat_le 2) (behind word_of (codes "head" ∷ codes "tape" ∷ []))
+      (λ M words. nat_le (length M.tape + (length words - 1)) M.cells) (λ M words. do
+      symbols ← references M.symbols (drop 1 words)
+      Ok (TapeLine symbols))
+    ∷ row (codes "end") (λ n. n == 1) (behind word_of (codes "head" ∷ codes "tape" ∷ []))
+      (λ M words. true) (λ M words. Ok EndLine)
+    ∷ []
 
-abbrev pub state_row : Keyword TuringMachine MachineItem
-state_row = record {
-  word = codes "state";
-  has_words = λ n. n == 2;
-  may_follow = behind word_of (codes "machine" ∷ codes "state" ∷ []);
-  has_room = λ M words. nat_lt (length M.states) MOST_STATES;
-  fields = λ M words. do
-    name ← declared is_short_name M.states (field words 1)
-    Ok (StateLine name);
-}
-
-abbrev pub symbol_row : Keyword TuringMachine MachineItem
-symbol_row = record {
-  word = codes "symbol";
-  has_words = λ n. n == 2;
-  may_follow = behind word_of (codes "state" ∷ codes "symbol" ∷ []);
-  has_room = λ M words. nat_lt (length M.symbols) MOST_SYMBOLS;
-  fields = λ M words. do
-    name ← declared is_short_name M.symbols (field words 1)
-    Ok (SymbolLine name);
-}
-
-abbrev pub rule_row : Keyword TuringMachine MachineItem
-rule_row = record {
-  word = codes "rule";
-  has_words = λ n. n == 6;
-  may_follow = behind word_of (codes "symbol" ∷ codes "rule" ∷ []);
-  has_room = λ M words. true;
-  fields = λ M words. do
-    t ← transition_in M words
-    Ok (RuleLine t);
-}
-
-abbrev pub cells_row : Keyword TuringMachine MachineItem
-cells_row = record {
-  word = codes "cells";
-  has_words = λ n. n == 2;
-  may_follow = behind word_of (codes "symbol" ∷ codes "rule" ∷ []);
-  has_room = λ M words. true;
-  fields = λ M words. do
-    n ← count_in 1 MOST_CELLS (field words 1)
-    Ok (CellsLine n);
-}
-
-abbrev pub rows_row : Keyword TuringMachine MachineItem
-rows_row = record {
-  word = codes "rows";
-  has_words = λ n. n == 2;
-  may_follow = behind word_of (codes "cells" ∷ []);
-  has_room = λ M words. true;
-  fields = λ M words. do
-    n ← count_in 1 MOST_ROWS (field words 1)
-    Ok (RowsLine n);
-}
-
-abbrev pub head_row : Keyword TuringMachine MachineItem
-head_row = record {
-  word = codes "head";
-  has_words = λ n. n == 2;
-  may_follow = behind word_of (codes "rows" ∷ []);
-  has_room = λ M words. true;
-  fields = λ M words. do
-    n ← count_in 0 (M.cells - 1) (field words 1)
-    Ok (HeadLine n);
-}
-
--- all tape lines together have no more symbols than there are cells
-abbrev pub tape_row : Keyword TuringMachine MachineItem
-tape_row = record {
-  word = codes "tape";
-  has_words = λ n. nat_le 2 n;
-  may_follow = behind word_of (codes "head" ∷ codes "tape" ∷ []);
-  has_room = λ M words. nat_le (length M.tape + (length words - 1)) M.cells;
-  fields = λ M words. do
-    symbols ← references M.symbols (drop 1 words)
-    Ok (TapeLine symbols);
-}
-
-abbrev pub end_row : Keyword TuringMachine MachineItem
-end_row = record {
-  word = codes "end";
-  has_words = λ n. n == 1;
-  may_follow = behind word_of (codes "head" ∷ codes "tape" ∷ []);
-  has_room = λ M words. true;
-  fields = λ M words. Ok EndLine;
-}
-
--- the table of keywords; only the end line completes a text
+-- only the end line completes a text
 unfoldable pub machine_table : Table MachineItem
 machine_table = record {
-  keywords = map (told_by machine_of)
-      (machine_row ∷ state_row ∷ symbol_row ∷ rule_row ∷ cells_row ∷ rows_row ∷ head_row ∷ tape_row ∷ end_row ∷ []);
+  keywords = map (told_by machine_of) machine_rows;
   has_header = true;
   is_end = λ item. bytes_eq (word_of item) (codes "end");
   is_complete = λ items. false;

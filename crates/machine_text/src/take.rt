@@ -1,8 +1,8 @@
 // What the fields of a line make of a machine in the making.
 ghost use Rattle.std.specs.Prelude.{◌≡◌, ◌≤◌, ◌<◌, List, true, None, length, IfOk};
 ghost use Rattle.machine_text.specs.Machines.{TuringMachine, rule_among};
-ghost use Rattle.machine_text.specs.MachineText.{MachineItem, machine_row, state_row, symbol_row, transition_in, rule_row, cells_row, rows_row, head_row, tape_row, turn_field, machine_of};
-ghost use Rattle.machine_text.specs.Inner.Kinds.{row_of};
+ghost use Rattle.machine_text.specs.MachineText.{MachineItem, transition_in, turn_field, machine_of};
+ghost use Rattle.machine_text.specs.Inner.Kinds.{row_of, machine_row, state_row, symbol_row, rule_row, cells_row, rows_row, head_row, tape_row};
 ghost use Rattle.machine_text.specs.Inner.SoFar.{machine_in, HasFewNames, Gets};
 
 use crate::kind::LineKind;

@@ -1,10 +1,46 @@
 -- The keywords of a machine text, as the code has them.
-use Rattle.std.specs.Prelude.{Bool, true, false, List, Option, Some, None}
+use Rattle.std.specs.Prelude.{Bool, true, false, List, [], Option, Some, None, Err}
+use Rattle.std.specs.List.{slice_index_or}
+use Rattle.tile_io.specs.declared.fault.Cause.TheVariants.{BadLine}
 use Rattle.tile_io.specs.Checks.{Keyword, told_by}
 use Rattle.machine_text.specs.declared.kind.LineKind.{LineKind}
 use Rattle.machine_text.specs.declared.kind.LineKind.TheVariants as kinds
-use Rattle.machine_text.specs.MachineText.{MachineItem, machine_of, machine_row, state_row, symbol_row, rule_row, cells_row, rows_row, head_row, tape_row, end_row}
+use Rattle.machine_text.specs.Machines.{TuringMachine}
+use Rattle.machine_text.specs.Rows.{row}
+use Rattle.machine_text.specs.MachineText.{MachineItem, machine_of, machine_rows}
 use Rattle.machine_text.specs.MachineText.MachineItem.{Header, StateLine, SymbolLine, RuleLine, CellsLine, RowsLine, HeadLine, TapeLine, EndLine}
+
+-- in place of a row, where there is none
+abbrev no_row : Keyword TuringMachine MachineItem
+no_row = row [] (λ n. false) (λ before. false) (λ M words. false) (λ M words. Err BadLine)
+
+-- the rows by their words
+abbrev pub machine_row : Keyword TuringMachine MachineItem
+machine_row = slice_index_or machine_rows 0 no_row
+
+abbrev pub state_row : Keyword TuringMachine MachineItem
+state_row = slice_index_or machine_rows 1 no_row
+
+abbrev pub symbol_row : Keyword TuringMachine MachineItem
+symbol_row = slice_index_or machine_rows 2 no_row
+
+abbrev pub rule_row : Keyword TuringMachine MachineItem
+rule_row = slice_index_or machine_rows 3 no_row
+
+abbrev pub cells_row : Keyword TuringMachine MachineItem
+cells_row = slice_index_or machine_rows 4 no_row
+
+abbrev pub rows_row : Keyword TuringMachine MachineItem
+rows_row = slice_index_or machine_rows 5 no_row
+
+abbrev pub head_row : Keyword TuringMachine MachineItem
+head_row = slice_index_or machine_rows 6 no_row
+
+abbrev pub tape_row : Keyword TuringMachine MachineItem
+tape_row = slice_index_or machine_rows 7 no_row
+
+abbrev pub end_row : Keyword TuringMachine MachineItem
+end_row = slice_index_or machine_rows 8 no_row
 
 -- the row of a keyword in the table
 abbrev pub row_of : LineKind → Keyword (List MachineItem) MachineItem

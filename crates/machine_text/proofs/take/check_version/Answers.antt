@@ -1,6 +1,6 @@
 use Rattle.std.proofs.Common.{sym, ap, refl, ◌∙◌, ◌∷◌, []}
 use Rattle.std.specs.Prelude.{bytes_eq}
-use Rattle.machine_text.specs.MachineText.{machine_row}
+use Rattle.machine_text.specs.Inner.Kinds.{machine_row}
 use Rattle.machine_text.specs.MachineText.MachineItem.{Header}
 use Rattle.machine_text.proofs.take.check_version.Goals as goal
 

@@ -1,6 +1,6 @@
 use Rattle.std.proofs.Common.{ap, refl, sym, ◌∙◌}
 use Rattle.tile_io.specs.Checks.{count_in}
-use Rattle.machine_text.specs.MachineText.{cells_row}
+use Rattle.machine_text.specs.Inner.Kinds.{cells_row}
 use Rattle.machine_text.specs.MachineText.MachineItem.{CellsLine}
 use Rattle.machine_text.proofs.take.take_cells.Goals as goal
 

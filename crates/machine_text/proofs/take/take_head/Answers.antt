@@ -1,6 +1,6 @@
 use Rattle.std.proofs.Common.{ap, refl, sym, ◌∙◌}
 use Rattle.tile_io.specs.Checks.{count_in, field}
-use Rattle.machine_text.specs.MachineText.{head_row}
+use Rattle.machine_text.specs.Inner.Kinds.{head_row}
 use Rattle.machine_text.specs.MachineText.MachineItem.{HeadLine}
 use Rattle.machine_text.proofs.take.take_head.Goals as goal
 

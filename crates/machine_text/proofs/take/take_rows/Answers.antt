@@ -1,6 +1,6 @@
 use Rattle.std.proofs.Common.{ap, refl, sym, ◌∙◌}
 use Rattle.tile_io.specs.Checks.{count_in}
-use Rattle.machine_text.specs.MachineText.{rows_row}
+use Rattle.machine_text.specs.Inner.Kinds.{rows_row}
 use Rattle.machine_text.specs.MachineText.MachineItem.{RowsLine}
 use Rattle.machine_text.proofs.take.take_rows.Goals as goal
 

@@ -1,6 +1,6 @@
 use Rattle.std.proofs.Common.{List, ap, refl, sym}
 use Rattle.machine_text.specs.declared.rule.Transition.{Transition}
-use Rattle.machine_text.specs.MachineText.{rule_row}
+use Rattle.machine_text.specs.Inner.Kinds.{rule_row}
 use Rattle.machine_text.specs.MachineText.MachineItem.{RuleLine}
 use Rattle.machine_text.specs.Inner.SoFar.{machine_in}
 use Rattle.machine_text.proofs.take.take_rule.Goals as goal

@@ -1,7 +1,7 @@
 use Rattle.std.proofs.Common.{◌≡◌, List, ℕ, Ok, ap, refl, sym, ◌∙◌}
 use Rattle.tile_io.specs.Checks.{declared, field}
 use Rattle.machine_text.specs.Machines.{is_short_name}
-use Rattle.machine_text.specs.MachineText.{state_row}
+use Rattle.machine_text.specs.Inner.Kinds.{state_row}
 use Rattle.machine_text.specs.MachineText.MachineItem.{StateLine}
 use Rattle.machine_text.specs.Inner.SoFar.{machine_in}
 use Rattle.machine_text.proofs.take.take_state.Goals as goal

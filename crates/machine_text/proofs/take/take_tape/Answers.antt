@@ -1,5 +1,5 @@
 use Rattle.std.proofs.Common.{List, ℕ, ap, refl, ◌∙◌, ◌++◌}
-use Rattle.machine_text.specs.MachineText.{tape_row}
+use Rattle.machine_text.specs.Inner.Kinds.{tape_row}
 use Rattle.machine_text.specs.MachineText.MachineItem.{TapeLine}
 use Rattle.machine_text.specs.Machines.{TuringMachine}
 use Rattle.machine_text.specs.Inner.SoFar.{machine_in}
