@@ -19,7 +19,9 @@ use Rattle.atam.proofs.Sequences.{Fits-push}
 use Rattle.assembly.specs.Grids.{TileGrid}
 use Rattle.atam.proofs.Opening.{Fits-part}
 use Rattle.tile_text.proofs.Boxes.{inside_is}
-use Rattle.seq_text.specs.GrowthText.{GrowthItem, growth_format, growth_table, place_of, places_of, may_stand, place_row, closed_row, unique_row, ReadsPlaces}
+use Rattle.seq_text.specs.GrowthText.{GrowthItem, growth_format, growth_table, place_of, places_of, may_stand, ReadsPlaces}
+use Rattle.seq_text.specs.Inner.Kinds.{row_of}
+use Rattle.seq_text.specs.declared.kind.LineKind.TheVariants as kinds
 use Rattle.seq_text.specs.GrowthText.GrowthItem.{PlaceLine, ClosedLine, UniqueLine}
 use Rattle.seq_text.specs.GrowthText.{ReadsGrid}
 use Rattle.seq_text.proofs.Fields.{MayStand, place_item}
@@ -49,15 +51,15 @@ IsPassed distinct sys places UniqueLine = Unit {0}
 
 module _ (distinct : Bool) (sys : TileSystem) where
   passed_by : (a b d : Bool) (earlier : List GrowthItem) (words : List (List ℕ)) (item : GrowthItem) →
-      check_keyword (cond a (Some (place_row distinct sys)) (cond b (Some closed_row) (cond d (Some unique_row) None))) earlier words ≡ Ok item → IsPassed distinct sys (places_of earlier) item
+      check_keyword (cond a (Some (row_of distinct sys kinds.Place)) (cond b (Some (row_of distinct sys kinds.Closed)) (cond d (Some (row_of distinct sys kinds.Unique)) None))) earlier words ≡ Ok item → IsPassed distinct sys (places_of earlier) item
   passed_by true b d earlier words item e =
-      let found = place_item distinct sys earlier words item (row_ok (place_row distinct sys) earlier words item e).3 in
+      let found = place_item distinct sys earlier words item (row_ok (row_of distinct sys kinds.Place) earlier words item e).3 in
       subst (IsPassed distinct sys (places_of earlier)) found.1 found.2
   passed_by false true d earlier words item e =
-      let same : ClosedLine ≡ item = cc ((row_ok closed_row earlier words item e).3) in
+      let same : ClosedLine ≡ item = cc ((row_ok (row_of distinct sys kinds.Closed) earlier words item e).3) in
       subst (IsPassed distinct sys (places_of earlier)) same tt
   passed_by false false true earlier words item e =
-      let same : UniqueLine ≡ item = cc ((row_ok unique_row earlier words item e).3) in
+      let same : UniqueLine ≡ item = cc ((row_ok (row_of distinct sys kinds.Unique) earlier words item e).3) in
       subst (IsPassed distinct sys (places_of earlier)) same tt
   passed_by false false false earlier words item e = absurd (cc e)
 

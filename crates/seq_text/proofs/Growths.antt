@@ -13,7 +13,7 @@ use Rattle.atam.specs.TileSystem.{TileSystem}
 use Rattle.assembly.specs.Grids.{TileGrid}
 use Rattle.seq_text.specs.declared.kind.LineKind.{LineKind}
 use Rattle.seq_text.specs.declared.kind.LineKind.TheVariants as kinds
-use Rattle.seq_text.specs.GrowthText.{GrowthItem, growth_table, growth_format, place_row, closed_row, unique_row, grid_format, ReadsPlaces, ReadsGrid, place_of, places_of}
+use Rattle.seq_text.specs.GrowthText.{GrowthItem, growth_table, growth_format, grid_format, ReadsPlaces, ReadsGrid, place_of, places_of}
 use Rattle.seq_text.specs.GrowthText.GrowthItem.{PlaceLine, ClosedLine, UniqueLine}
 use Rattle.seq_text.specs.Inner.Kinds.{row_of, kind_of, kind_named}
 use Rattle.seq_text.specs.Inner.SoFar.{HoldsLines, HoldsPlaces, IsOverBox}
@@ -53,28 +53,29 @@ module _ (sys : TileSystem) where
   sequence_is sequence None places none h = h
   sequence_is sequence (Some grid) places none h = absurd (cc none)
 
-follows_some : (p : Option Place) → closed_row.may_follow (option_map PlaceLine p) ≡ true
-follows_some None = refl
-follows_some (Some p) = refl
+module _ (distinct : Bool) (sys : TileSystem) where
+  follows_some : (p : Option Place) → (row_of distinct sys kinds.Closed).may_follow (option_map PlaceLine p) ≡ true
+  follows_some None = refl
+  follows_some (Some p) = refl
 
--- a place follows the start and each place
-pub follows_places : (places : List Place) → closed_row.may_follow (last_of (map PlaceLine places)) ≡ true
-follows_places places =
-    let n = length (map PlaceLine places) - 1 in
-    ap closed_row.may_follow (slice_get-map PlaceLine places n) ∙ follows_some (slice_get places n)
+  -- a place follows the start and each place
+  pub follows_places : (places : List Place) → (row_of distinct sys kinds.Closed).may_follow (last_of (map PlaceLine places)) ≡ true
+  follows_places places =
+      let n = length (map PlaceLine places) - 1 in
+      ap (row_of distinct sys kinds.Closed).may_follow (slice_get-map PlaceLine places n) ∙ follows_some (slice_get places n)
 
-follows_more : (last : Option GrowthItem) → closed_row.may_follow last ≡ true → unique_row.may_follow last ≡ true
-follows_more None e = refl
-follows_more (Some (PlaceLine p)) e = refl
-follows_more (Some ClosedLine) e = absurd (cc e)
-follows_more (Some UniqueLine) e = absurd (cc e)
+  follows_more : (last : Option GrowthItem) → (row_of distinct sys kinds.Closed).may_follow last ≡ true → (row_of distinct sys kinds.Unique).may_follow last ≡ true
+  follows_more None e = refl
+  follows_more (Some (PlaceLine p)) e = refl
+  follows_more (Some ClosedLine) e = absurd (cc e)
+  follows_more (Some UniqueLine) e = absurd (cc e)
 
--- so does the line on local determinism, which may also follow a `closed` line
-pub unique_follows : (places : List Place) → unique_row.may_follow (last_of (map PlaceLine places)) ≡ true
-unique_follows places = follows_more (last_of (map PlaceLine places)) (follows_places places)
+  -- so does the line on local determinism, which may also follow a `closed` line
+  pub unique_follows : (places : List Place) → (row_of distinct sys kinds.Unique).may_follow (last_of (map PlaceLine places)) ≡ true
+  unique_follows places = follows_more (last_of (map PlaceLine places)) (follows_places places)
 
-pub unique_follows_closed : (places : List Place) → unique_row.may_follow (last_of (map PlaceLine places ++ ClosedLine ∷ [])) ≡ true
-unique_follows_closed places = rw (last_push (map PlaceLine places) ClosedLine) refl
+  pub unique_follows_closed : (places : List Place) → (row_of distinct sys kinds.Unique).may_follow (last_of (map PlaceLine places ++ ClosedLine ∷ [])) ≡ true
+  unique_follows_closed places = rw (last_push (map PlaceLine places) ClosedLine) refl
 
 pub places_back : (places : List Place) → places_of (map PlaceLine places) ≡ places
 unfolding places_of
@@ -89,7 +90,7 @@ ending_line distinct sys kind is items words =
     elim is [ inl e ↦ (ClosedLine, refl, sym e, subst (Fields ClosedLine) (sym e) refl) | inr e ↦ (UniqueLine, refl, sym e, subst (Fields UniqueLine) (sym e) refl) ]
 
 row_by : (distinct : Bool) (sys : TileSystem) (a b d : Bool) →
-    option_map (row_of distinct sys) (cond a (Some kinds.Place) (cond b (Some kinds.Closed) (cond d (Some kinds.Unique) None))) ≡ cond a (Some (place_row distinct sys)) (cond b (Some closed_row) (cond d (Some unique_row) None))
+    option_map (row_of distinct sys) (cond a (Some kinds.Place) (cond b (Some kinds.Closed) (cond d (Some kinds.Unique) None))) ≡ cond a (Some (row_of distinct sys kinds.Place)) (cond b (Some (row_of distinct sys kinds.Closed)) (cond d (Some (row_of distinct sys kinds.Unique)) None))
 row_by distinct sys true b d = refl
 row_by distinct sys false true d = refl
 row_by distinct sys false false true = refl

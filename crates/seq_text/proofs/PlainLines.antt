@@ -24,9 +24,9 @@ use Rattle.tile_text.specs.Fields.{site_field, place_field}
 use Rattle.tile_text.specs.SystemText.{is_in_box}
 use Rattle.seq_text.specs.declared.kind.LineKind.{LineKind}
 use Rattle.seq_text.specs.declared.kind.LineKind.TheVariants as kinds
-use Rattle.seq_text.specs.GrowthText.{GrowthItem, growth_table, place_row, place_in, places_of, names_of, may_stand, closed_row}
+use Rattle.seq_text.specs.GrowthText.{GrowthItem, growth_table, place_in, places_of, names_of, may_stand}
 use Rattle.seq_text.specs.GrowthText.GrowthItem.{PlaceLine, ClosedLine, UniqueLine}
-use Rattle.seq_text.specs.Inner.Kinds.{kind_of, may_stand_after}
+use Rattle.seq_text.specs.Inner.Kinds.{kind_of, may_stand_after, row_of}
 use Rattle.seq_text.proofs.Fields.{place_of_found}
 use Rattle.seq_text.proofs.Growths.{row_named}
 use Rattle.tile_text.proofs.PlainWords.{keyword_word, name_word, name_short}
@@ -216,11 +216,11 @@ module _ (text : List ℕ) (m : Site) (fields name behind : List ℕ) (plain : I
   pub front_within : length behind ≤ length text
   front_within = let size : length text ≡ length front_line + 1 + length behind = front_size in omega (arith, size)
 
-place_follows : (last : Option GrowthItem) → may_stand_after kinds.Place (option_map kind_of last) ≡ true → closed_row.may_follow last ≡ true
-place_follows None e = refl
-place_follows (Some (PlaceLine p)) e = refl
-place_follows (Some ClosedLine) e = absurd (cc e)
-place_follows (Some UniqueLine) e = absurd (cc e)
+place_follows : (distinct : Bool) (sys : TileSystem) (last : Option GrowthItem) → may_stand_after kinds.Place (option_map kind_of last) ≡ true → (row_of distinct sys kinds.Closed).may_follow last ≡ true
+place_follows distinct sys None e = refl
+place_follows distinct sys (Some (PlaceLine p)) e = refl
+place_follows distinct sys (Some ClosedLine) e = absurd (cc e)
+place_follows distinct sys (Some UniqueLine) e = absurd (cc e)
 
 module _ (distinct : Bool) (sys : TileSystem) (last : Option LineKind) (items : List GrowthItem) (kind : last ≡ option_map kind_of (last_of items)) where
   -- a `place` line that passes its checks is taken as its place
@@ -229,10 +229,10 @@ module _ (distinct : Bool) (sys : TileSystem) (last : Option LineKind) (items : 
   place_taken words p line stands =
       let Stands : Option LineKind → Type 0 = λ l. may_stand_after kinds.Place l ≡ true in
       let keywords = (growth_table distinct sys).keywords in
-      let row = place_row distinct sys in
+      let row = row_of distinct sys kinds.Place in
       let Found : List ℕ → Type 0 = λ word. Some row ≡ find (λ r. bytes_eq word r.word) keywords in
       let found : Some row ≡ find (λ r. bytes_eq (field words 0) r.word) keywords = subst Found (sym line.keyword) (row_named distinct sys (codes "place")) in
       let some : 0 < length words = omega (arith, line.count) in
       let count : (length words == 4) ≡ true = rw line.count refl in
       let read : place_in distinct sys (places_of items) words ≡ Ok p = line.reads in
-      check_line_by keywords row items words some found count (place_follows (last_of items) (subst Stands kind stands)) refl ∙ rw read refl
+      check_line_by keywords row items words some found count (place_follows distinct sys (last_of items) (subst Stands kind stands)) refl ∙ rw read refl

@@ -32,7 +32,9 @@ use Rattle.seq_text.specs.VerdictLines.{verdict_line}
 use Rattle.seq_text.specs.PrintedGrowths.{growth_lines, line_or_none, MayBeOpen, MayBeTold, MayBePrinted}
 use Rattle.tile_text.specs.declared.version.Version.{Version}
 use Rattle.tile_text.specs.Spelling.{spelling, spelling_by, version_of}
-use Rattle.seq_text.specs.GrowthText.{GrowthItem, unique_row, growth_table, growth_format, place_row, place_in, places_of, may_stand, ReadsPlaces}
+use Rattle.seq_text.specs.GrowthText.{GrowthItem, growth_table, growth_format, place_in, places_of, may_stand, ReadsPlaces}
+use Rattle.seq_text.specs.Inner.Kinds.{row_of}
+use Rattle.seq_text.specs.declared.kind.LineKind.TheVariants as kinds
 use Rattle.seq_text.specs.GrowthText.GrowthItem.{PlaceLine, ClosedLine, UniqueLine}
 use Rattle.seq_text.proofs.Growths.{follows_places, unique_follows, unique_follows_closed, places_back, places-same}
 
@@ -201,14 +203,14 @@ module _ (sys : TileSystem) (valid : IsValid sys) where
   place_checks distinct done p typed inside free =
       let plain = plain_seed sys.area p valid.box inside in
       let named = named_seed sys p valid.type_names valid.distinct_types typed in
-      rw (follows_places done, plain.x.reads, plain.y.reads, named.named, named.placed, inside_passes sys.area p.site inside, free) refl
+      rw (follows_places distinct sys done, plain.x.reads, plain.y.reads, named.named, named.placed, inside_passes sys.area p.site inside, free) refl
 
   closed_checks : (distinct : Bool) (done : List Place) (found : Option (Site × TypeId)) → (growth_format distinct sys).check (map PlaceLine done) (closed_words sys found) ≡ Ok ClosedLine
   unfolding growth_table
-  closed_checks distinct done None = rw (follows_places done) refl
-  closed_checks distinct done (Some found) = rw (follows_places done) refl
+  closed_checks distinct done None = rw (follows_places distinct sys done) refl
+  closed_checks distinct done (Some found) = rw (follows_places distinct sys done) refl
 
-  verdict_checks : (distinct : Bool) (before : List GrowthItem) (verdict : Verdict) → unique_row.may_follow (last_of before) ≡ true → (growth_format distinct sys).check before (verdict_words sys verdict) ≡ Ok UniqueLine
+  verdict_checks : (distinct : Bool) (before : List GrowthItem) (verdict : Verdict) → (row_of distinct sys kinds.Unique).may_follow (last_of before) ≡ true → (growth_format distinct sys).check before (verdict_words sys verdict) ≡ Ok UniqueLine
   unfolding growth_table
   verdict_checks distinct before Yes follows = rw follows refl
   verdict_checks distinct before (NotExact m sum) follows = rw follows refl
@@ -221,9 +223,9 @@ module _ (sys : TileSystem) (valid : IsValid sys) where
   end_check : (distinct : Bool) (done : List Place) (closed : Option (Option (Site × TypeId))) (verdict : Option Verdict) → ChecksAs (growth_format distinct sys) (map PlaceLine done) (end_words closed verdict) (end_items closed verdict)
   unfolding growth_table
   end_check distinct done None None = tt
-  end_check distinct done None (Some verdict) = (verdict_checks distinct (map PlaceLine done) verdict (unique_follows done), refl, tt)
+  end_check distinct done None (Some verdict) = (verdict_checks distinct (map PlaceLine done) verdict (unique_follows distinct sys done), refl, tt)
   end_check distinct done (Some found) None = (closed_checks distinct done found, refl, tt)
-  end_check distinct done (Some found) (Some verdict) = (closed_checks distinct done found, refl, (verdict_checks distinct (map PlaceLine done ++ ClosedLine ∷ []) verdict (unique_follows_closed done), refl, tt))
+  end_check distinct done (Some found) (Some verdict) = (closed_checks distinct done found, refl, (verdict_checks distinct (map PlaceLine done ++ ClosedLine ∷ []) verdict (unique_follows_closed distinct sys done), refl, tt))
 
   all_check : (distinct : Bool) (todo done : List Place) (closed : Option (Option (Site × TypeId))) (verdict : Option Verdict) → All (λ p. IsType sys p.tile) (done ++ todo) → All (λ p. InBox sys.area p.site) (done ++ todo) → (distinct ≡ true → HasDistinctSites (done ++ todo)) →
       ChecksAs (growth_format distinct sys) (map PlaceLine done) (words_for todo closed verdict) (map PlaceLine todo ++ end_items closed verdict)

@@ -11,6 +11,7 @@ use Rattle.atam.specs.Placements.{tile_at, SamePlacements}
 use Rattle.atam.specs.TileSystem.{TileSystem}
 use Rattle.assembly.specs.Grids.{TileGrid}
 use Rattle.tile_text.specs.Fields.{place_field}
+use Rattle.tile_text.specs.Rows.{row}
 use Rattle.tile_text.specs.SystemText.{is_in_box}
 
 -- what a kept line of a growth text is
@@ -50,41 +51,27 @@ place_in distinct sys earlier words = do
   _ ← require (may_stand distinct earlier p.site) DoubleSite
   Ok p
 
--- The rows of the table of keywords: the word, how many words its line has, behind which lines it may stand, the limit of its
--- kind, and its fields from left to right with the checks of the whole line.
-abbrev pub place_row : Bool → TileSystem → Keyword (List GrowthItem) GrowthItem
-place_row distinct sys = record {
-  word = codes "place";
-  has_words = λ n. n == 4;
-  may_follow = λ before. is_none before || behind word_of (codes "place" ∷ []) before;
-  has_room = λ earlier words. true;
-  fields = λ earlier words. do
-    p ← place_in distinct sys (places_of earlier) words
-    Ok (PlaceLine p);
-}
+-- The table of keywords. A row has the word, how many words its line has, behind which lines it may
+-- stand, the limit of its kind, and its fields with the checks of the whole line.
+abbrev pub growth_rows : Bool → TileSystem → List (Keyword (List GrowthItem) GrowthItem)
+growth_rows distinct sys =
+    row (codes "place") (λ n. n == 4)
+      (λ before. is_none before || behind word_of (codes "place" ∷ []) before)
+      (λ earlier. true) (λ earlier words. do
+      p ← place_in distinct sys (places_of earlier) words
+      Ok (PlaceLine p))
+    ∷ row (codes "closed") (nat_le 2)
+      (λ before. is_none before || behind word_of (codes "place" ∷ []) before)
+      (λ earlier. true) (λ earlier words. Ok ClosedLine)
+    ∷ row (codes "unique") (nat_le 2)
+      (λ before. is_none before || behind word_of (codes "place" ∷ codes "closed" ∷ []) before)
+      (λ earlier. true) (λ earlier words. Ok UniqueLine)
+    ∷ []
 
-abbrev pub closed_row : Keyword (List GrowthItem) GrowthItem
-closed_row = record {
-  word = codes "closed";
-  has_words = λ n. nat_le 2 n;
-  may_follow = λ before. is_none before || behind word_of (codes "place" ∷ []) before;
-  has_room = λ earlier words. true;
-  fields = λ earlier words. Ok ClosedLine;
-}
-
-abbrev pub unique_row : Keyword (List GrowthItem) GrowthItem
-unique_row = record {
-  word = codes "unique";
-  has_words = λ n. nat_le 2 n;
-  may_follow = λ before. is_none before || behind word_of (codes "place" ∷ codes "closed" ∷ []) before;
-  has_room = λ earlier words. true;
-  fields = λ earlier words. Ok UniqueLine;
-}
-
--- the table of the growth texts of a system: there is no header and no end line, and the input may end after any line
+-- there is no header and no end line, and the input may end after any line
 unfoldable pub growth_table : Bool → TileSystem → Table GrowthItem
 growth_table distinct sys = record {
-  keywords = place_row distinct sys ∷ closed_row ∷ unique_row ∷ [];
+  keywords = growth_rows distinct sys;
   has_header = false;
   is_end = λ item. false;
   is_complete = λ items. true;
@@ -109,10 +96,10 @@ pub record ReadsPlaces (format : Format GrowthItem) (text : List ℕ) (from : Ma
   pub places_are : places ≡ places_of items
 
 abbrev pub ReadsSequence : TileSystem → List ℕ → Mark → List Place → Type 0
-ReadsSequence sys text from places = ReadsPlaces (sequence_format sys) text from places
+ReadsSequence sys text from places = ReadsPlaces (growth_format false sys) text from places
 
 abbrev pub ReadsPlacements : TileSystem → List ℕ → Mark → List Place → Type 0
-ReadsPlacements sys text from places = ReadsPlaces (grid_format sys) text from places
+ReadsPlacements sys text from places = ReadsPlaces (growth_format true sys) text from places
 
 -- the grid has the system's box and exactly the placements that the text reads as
 pub record ReadsGrid (sys : TileSystem) (text : List ℕ) (from : Mark) (grid : TileGrid) : Type 0 where

@@ -1,6 +1,5 @@
 -- The text of a growth as it is printed: its places, and then maybe what is open outside the box and the line on local determinism.
 use Rattle.std.specs.Prelude.{◌^◌, ◌<◌, ℕ, List, [], ◌++◌, IfSome, Option, Some, None}
-use Rattle.tile_io.specs.declared.mark.Mark.{Mark}
 use Rattle.atam.specs.declared.site.Site.{Site}
 use Rattle.atam.specs.declared.place.TypeId.{TypeId}
 use Rattle.atam.specs.declared.place.Place.{Place}

@@ -11,8 +11,8 @@ ghost use Rattle.tile_io.specs.Formats.{ReadsOrStops};
 ghost use Rattle.tile_io.specs.LineReader.{TakesItem};
 ghost use Rattle.atam.specs.TileSystem.{IsType};
 ghost use Rattle.tile_text.specs.Fields.{place_field};
-ghost use Rattle.seq_text.specs.GrowthText.{GrowthItem, sequence_format, grid_format, ReadsSequence, ReadsGrid, names_of, place_row, place_in};
-ghost use Rattle.seq_text.specs.Inner.Kinds.{may_stand_after};
+ghost use Rattle.seq_text.specs.GrowthText.{GrowthItem, sequence_format, grid_format, ReadsSequence, ReadsGrid, names_of, place_in};
+ghost use Rattle.seq_text.specs.Inner.Kinds.{row_of, may_stand_after};
 ghost use Rattle.seq_text.specs.Inner.Plain.{BeginsPlain};
 ghost use Rattle.seq_text.specs.Inner.SoFar.{HoldsPlaces, IsOverBox, is_free_in};
 
@@ -252,8 +252,8 @@ impl<'a> GrowthReader<'a> {
             TakesItem (λ item. false)
             (HoldsLines self.new.system.now self.new.sequence self.new.grid self.new.last)
             items
-            ((place_row (is_some self.old.grid) self.old.system.now).fields items words.now)
-            result }
+            ((row_of (is_some self.old.grid) self.old.system.now LineKind.Place).fields items
+            words.now) result }
         ensures distinct { is_some self.new.grid ≡ is_some self.old.grid }
         ensures system { self.new.system.now ≡ self.old.system.now }
     {

@@ -4,7 +4,7 @@ ghost use Rattle.atam.specs.TileSystem.{TileSystem};
 ghost use Rattle.tile_io.specs.NextLine.{IsMark};
 ghost use Rattle.tile_io.specs.Formats.{ReadsOrStops};
 ghost use Rattle.atam.specs.declared.event.Event.{Event};
-ghost use Rattle.seq_text.specs.ScheduleText.{schedule_format, ReadsEvents, scout, look_row, claim_row, split_row, join_row};
+ghost use Rattle.seq_text.specs.ScheduleText.{schedule_format, ReadsEvents, scout};
 ghost use Rattle.seq_text.specs.Inner.Kinds.{action_row};
 
 use crate::action::Action;
@@ -121,7 +121,8 @@ fn read_event(system: &System, action: Action, words: &LineWords) -> Result<Even
 
 fn read_look(words: &LineWords) -> Result<Event, Cause>
     requires { length words.now ≡ 4 }
-    ensures { result ≡ look_row.fields [] words.now }
+    ensures { (system : TileSystem) →
+        result ≡ (action_row system Action.Look).fields [] words.now }
 {
     let who = read_scout(words.word(1))?;
     let site = read_site(words.word(2), words.word(3))?;
@@ -130,7 +131,7 @@ fn read_look(words: &LineWords) -> Result<Event, Cause>
 
 fn read_claim(system: &System, words: &LineWords) -> Result<Event, Cause>
     requires { length words.now ≡ 5 }
-    ensures { result ≡ (claim_row system.now).fields [] words.now }
+    ensures { result ≡ (action_row system.now Action.Claim).fields [] words.now }
 {
     let who = read_scout(words.word(1))?;
     let name = words.word(4);
@@ -145,7 +146,8 @@ fn read_claim(system: &System, words: &LineWords) -> Result<Event, Cause>
 
 fn read_split(words: &LineWords) -> Result<Event, Cause>
     requires { length words.now ≡ 2 }
-    ensures { result ≡ split_row.fields [] words.now }
+    ensures { (system : TileSystem) →
+        result ≡ (action_row system Action.Split).fields [] words.now }
 {
     let who = read_scout(words.word(1))?;
     Ok(Event::Split { who })
@@ -153,7 +155,8 @@ fn read_split(words: &LineWords) -> Result<Event, Cause>
 
 fn read_join(words: &LineWords) -> Result<Event, Cause>
     requires { length words.now ≡ 3 }
-    ensures { result ≡ join_row.fields [] words.now }
+    ensures { (system : TileSystem) →
+        result ≡ (action_row system Action.Join).fields [] words.now }
 {
     let into = read_scout(words.word(1))?;
     let from = read_scout(words.word(2))?;

@@ -133,7 +133,8 @@ system_rows version =
       area ← box_field (field words 1) (field words 2) (field words 3) (field words 4)
       _ ← require (is_box area) OutOfRange
       Ok (BoxLine area))
-    ∷ row (codes "seed") (λ n. n == 4) (behind word_of (codes "box" ∷ if_two version (codes "seed")))
+    ∷ row (codes "seed") (λ n. n == 4)
+      (behind word_of (codes "box" ∷ if_two version (codes "seed")))
       (λ earlier. nat_lt (length (filter_map seed_of earlier)) MOST_SEEDS) (λ earlier words. do
       seed ← place_field (type_names earlier) (field words 1) (field words 2) (field words 3)
       _ ← require (is_inside (last_of (filter_map area_of earlier)) seed.site) SeedOutside
@@ -184,7 +185,8 @@ HasOtherHeader text from = (number : ℕ) × Fault (system_format One) text from
 -- The text is one of either version: of the first, or else, where it has another header, of the second.
 abbrev pub ReadsAny : List ℕ → Mark → TileSystem → Mark → Type 0
 ReadsAny text from sys to =
-    ReadsVersion One text from sys to ⊎ (HasOtherHeader text from × ReadsVersion Two text from sys to)
+    Reads (system_format One) text from (system_items sys) to
+    ⊎ (HasOtherHeader text from × Reads (system_format Two) text from (system_items sys) to)
 
 -- Its fault is that of version 1, and else, where it has another header, that of version 2.
 abbrev pub FaultAny : List ℕ → Mark → ℕ → Cause → Type 0

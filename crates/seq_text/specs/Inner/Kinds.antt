@@ -1,21 +1,28 @@
 -- The keywords of growth and schedule texts, as the code has them.
-use Rattle.std.specs.Prelude.{ℕ, Bool, true, false, if◌then◌else◌, List, codes, bytes_eq, Option, Some, None}
+use Rattle.std.specs.Prelude.{ℕ, Bool, true, false, if◌then◌else◌, List, [], codes, bytes_eq, Option, Some, None, Err}
+use Rattle.std.specs.List.{slice_index_or}
+use Rattle.tile_io.specs.declared.fault.Cause.TheVariants.{BadLine}
 use Rattle.tile_io.specs.Checks.{Keyword}
+use Rattle.tile_text.specs.Rows.{row}
 use Rattle.atam.specs.TileSystem.{TileSystem}
 use Rattle.atam.specs.declared.event.Event.{Event}
 use Rattle.seq_text.specs.declared.kind.LineKind.{LineKind}
 use Rattle.seq_text.specs.declared.kind.LineKind.TheVariants as kinds
 use Rattle.seq_text.specs.declared.action.Action.{Action}
 use Rattle.seq_text.specs.declared.action.Action.TheVariants as actions
-use Rattle.seq_text.specs.GrowthText.{GrowthItem, place_row, closed_row, unique_row}
+use Rattle.seq_text.specs.GrowthText.{GrowthItem, growth_rows}
 use Rattle.seq_text.specs.GrowthText.GrowthItem.{PlaceLine, ClosedLine, UniqueLine}
-use Rattle.seq_text.specs.ScheduleText.{look_row, claim_row, split_row, join_row}
+use Rattle.seq_text.specs.ScheduleText.{schedule_rows}
+
+-- in place of a row, where there is none
+abbrev no_row : {Item : Type 0} → Keyword (List Item) Item
+no_row = row [] (λ n. false) (λ before. false) (λ earlier. false) (λ earlier words. Err BadLine)
 
 -- the row of a keyword in the table of growth texts
 abbrev pub row_of : Bool → TileSystem → LineKind → Keyword (List GrowthItem) GrowthItem
-row_of distinct sys kinds.Place = place_row distinct sys
-row_of distinct sys kinds.Closed = closed_row
-row_of distinct sys kinds.Unique = unique_row
+row_of distinct sys kinds.Place = slice_index_or (growth_rows distinct sys) 0 no_row
+row_of distinct sys kinds.Closed = slice_index_or (growth_rows distinct sys) 1 no_row
+row_of distinct sys kinds.Unique = slice_index_or (growth_rows distinct sys) 2 no_row
 
 -- the keyword that a word is
 abbrev pub kind_named : List ℕ → Option LineKind
@@ -40,7 +47,7 @@ may_stand_after kind last = false
 
 -- the row of a keyword in the table of schedule texts
 abbrev pub action_row : TileSystem → Action → Keyword (List Event) Event
-action_row sys actions.Look = look_row
-action_row sys actions.Claim = claim_row sys
-action_row sys actions.Split = split_row
-action_row sys actions.Join = join_row
+action_row sys actions.Look = slice_index_or (schedule_rows sys) 0 no_row
+action_row sys actions.Claim = slice_index_or (schedule_rows sys) 1 no_row
+action_row sys actions.Split = slice_index_or (schedule_rows sys) 2 no_row
+action_row sys actions.Join = slice_index_or (schedule_rows sys) 3 no_row

@@ -2,7 +2,9 @@ use Rattle.std.proofs.Common.{◌≡◌, [], Ok, Err, refl, sym, ap, ◌∙◌, 
 use Rattle.tile_io.specs.Checks.{field}
 use Rattle.tile_text.specs.Fields.{place_field}
 use Rattle.seq_text.specs.GrowthText.{names_of}
-use Rattle.seq_text.specs.ScheduleText.{claim_row, scout}
+use Rattle.seq_text.specs.ScheduleText.{scout}
+use Rattle.seq_text.specs.declared.action.Action.TheVariants as actions
+use Rattle.seq_text.specs.Inner.Kinds.{action_row}
 use Rattle.seq_text.proofs.Fields.{type_found}
 use Rattle.seq_text.proofs.schedule.read_claim.Goals as goal
 
@@ -13,7 +15,7 @@ returns-in_err-place c =
     let who : scout (field words 1) ≡ Ok c.in_ok-who.who = ap scout (sym c.word.ensures) ∙ sym c.in_ok-who.ensures in
     let read : place_field (names_of sys) (field words 2) (field words 3) (field words 4) ≡ Err c.in_err-place.field-0.0 =
     rw (sym c.word-2.ensures, sym c.word-3.ensures, sym c.word-name.ensures) (sym (c.in_err-place.ensures.place (names_of sys) (c.find_type-found.ensures.index ∙ type_found sys c.word-name.result.now))) in
-    let bad : Err c.in_err-place.field-0.0 ≡ (claim_row sys).fields [] words = rw (who, read) refl in
+    let bad : Err c.in_err-place.field-0.0 ≡ (action_row sys actions.Claim).fields [] words = rw (who, read) refl in
     search (rules, bad)
 
 pub returns : goal.returns

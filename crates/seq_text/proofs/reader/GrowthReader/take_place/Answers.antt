@@ -1,6 +1,8 @@
 use Rattle.std.proofs.Common.{◌≡◌, Err, refl, sym, rules}
 use Rattle.std.specs.Prelude.{is_some}
-use Rattle.seq_text.specs.GrowthText.{place_row, places_of}
+use Rattle.seq_text.specs.GrowthText.{places_of}
+use Rattle.seq_text.specs.Inner.Kinds.{row_of}
+use Rattle.seq_text.specs.declared.kind.LineKind.TheVariants as kinds
 use Rattle.seq_text.specs.GrowthText.GrowthItem.{PlaceLine}
 use Rattle.seq_text.proofs.Growths.{holds_place}
 use Rattle.seq_text.proofs.reader.GrowthReader.take_place.Goals as goal
@@ -10,7 +12,7 @@ returns-in_err-place-clause-taken c = λ items held.
     let r = c.args.self.now in
     let words = c.args.words.now in
     let read = sym (c.in_err-place.ensures.place (places_of items) held.places) in
-    let bad : (place_row (is_some r.grid) r.system.now).fields items words ≡ Err c.in_err-place.field-0.0 = rw read refl in
+    let bad : (row_of (is_some r.grid) r.system.now kinds.Place).fields items words ≡ Err c.in_err-place.field-0.0 = rw read refl in
     search (rules, bad, held)
 
 pub returns-in-Ok-clause-taken : goal.returns-in-Ok-clause-taken
