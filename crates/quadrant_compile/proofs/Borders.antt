@@ -10,8 +10,8 @@ use Rattle.quadrant_compile.specs.declared.border.Border.{Border}
 use Rattle.quadrant_compile.specs.declared.border.Border.TheVariants as borders
 use Rattle.quadrant_compile.specs.declared.line_kind.LineKind.{LineKind}
 use Rattle.quadrant_compile.specs.Quadrants.{RuleQuadrant}
-use Rattle.quadrant_compile.specs.QuadrantText.{QuadrantItem, quadrant_of, bottom_row, left_row, word_of, quadrant_table}
-use Rattle.quadrant_compile.specs.Inner.Keywords.{kind_of, row_of, is_last, may_stand_after}
+use Rattle.quadrant_compile.specs.QuadrantText.{QuadrantItem, quadrant_of, word_of, quadrant_table}
+use Rattle.quadrant_compile.specs.Inner.Keywords.{kind_of, row_of, is_last, may_stand_after, bottom_row, left_row}
 use Rattle.quadrant_compile.specs.Inner.Borders.{HasPlace, border_kind, border_room}
 use Rattle.quadrant_compile.specs.Inner.SoFar.{Gets, HoldsLines, IsFit, with_item}
 use Rattle.quadrant_compile.proofs.Built.{holds-push, last_is}

@@ -14,9 +14,9 @@ use Rattle.quadrant_compile.specs.declared.rule.Rule.{Rule}
 use Rattle.quadrant_compile.specs.declared.line_kind.LineKind.{LineKind}
 use Rattle.quadrant_compile.specs.declared.line_kind.LineKind.TheVariants as kinds
 use Rattle.quadrant_compile.specs.Quadrants.{RuleQuadrant, IsRuleOver, answer_among}
-use Rattle.quadrant_compile.specs.QuadrantText.{QuadrantItem, quadrant_of, symbol_row, bottom_row, left_row, quadrant_row, rule_in, rule_row, size_row}
+use Rattle.quadrant_compile.specs.QuadrantText.{QuadrantItem, quadrant_of, rule_in}
 use Rattle.quadrant_compile.specs.QuadrantText.QuadrantItem.{Header, SymbolLine, RuleLine, SizeLine, BottomLine, LeftLine, EndLine}
-use Rattle.quadrant_compile.specs.Inner.Keywords.{kind_of, row_of, may_stand_after}
+use Rattle.quadrant_compile.specs.Inner.Keywords.{kind_of, row_of, may_stand_after, symbol_row, bottom_row, left_row, quadrant_row, rule_row, size_row}
 use Rattle.quadrant_compile.specs.Inner.SoFar.{IsFit}
 
 none_of : {X : Type 0} (o : Option X) → is_some o ≡ false → o ≡ None

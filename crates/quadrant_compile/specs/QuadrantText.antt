@@ -8,6 +8,7 @@ use Rattle.tile_io.specs.Formats.{Format, Reads}
 use Rattle.tile_io.specs.Checks.{◌>>=◌, require, field, count_in, declared, referred, behind, number_given, Keyword, told_by, Table, table_format}
 use Rattle.machine_text.specs.Machines.{is_short_name}
 use Rattle.machine_text.specs.MachineText.{references}
+use Rattle.machine_text.specs.Rows.{row}
 use Rattle.quadrant_compile.specs.declared.limits.TheConstants.{MOST_SYMBOLS, LONGEST_SIDE}
 use Rattle.quadrant_compile.specs.declared.rule.Rule.{Rule}
 use Rattle.quadrant_compile.specs.Quadrants.{RuleQuadrant, answer_among}
@@ -77,92 +78,46 @@ rule_in q words = do
   north ← referred is_short_name q.symbols (field words 4)
   Ok (record { west = west; south = south; answer = record { east = east; north = north } })
 
--- The rows of the table of keywords: the word, how many words its line has, behind which lines it
--- may stand, the limit of its kind, and its fields from left to right. The limit and the fields are
--- told by the quadrant that the earlier lines describe.
-abbrev pub quadrant_row : Keyword RuleQuadrant QuadrantItem
-quadrant_row = record {
-  word = codes "quadrant";
-  has_words = λ n. n == 2;
-  may_follow = is_none;
-  has_room = λ q words. true;
-  fields = λ q words. do
-    _ ← require (bytes_eq (field words 1) (codes "1")) NoHeader
-    Ok Header;
-}
+-- The table of keywords. A row has the word, how many words its line has, behind which lines it may
+-- stand, the limit of its kind and its fields, both told by the quadrant of the lines before.
+abbrev pub quadrant_rows : List (Keyword RuleQuadrant QuadrantItem)
+quadrant_rows =
+    row (codes "quadrant") (λ n. n == 2) is_none (λ q words. true) (λ q words. do
+      _ ← require (bytes_eq (field words 1) (codes "1")) NoHeader
+      Ok Header)
+    ∷ row (codes "symbol") (λ n. n == 2) (behind word_of (codes "quadrant" ∷ codes "symbol" ∷ []))
+      (λ q words. nat_lt (length q.symbols) MOST_SYMBOLS) (λ q words. do
+      name ← declared is_short_name q.symbols (field words 1)
+      Ok (SymbolLine name))
+    ∷ row (codes "rule") (λ n. n == 5) (behind word_of (codes "symbol" ∷ codes "rule" ∷ []))
+      (λ q words. true) (λ q words. do
+      rule ← rule_in q words
+      Ok (RuleLine rule))
+    ∷ row (codes "size") (λ n. n == 3) (behind word_of (codes "symbol" ∷ codes "rule" ∷ []))
+      (λ q words. true) (λ q words. do
+      width ← count_in 1 LONGEST_SIDE (field words 1)
+      height ← count_in 1 LONGEST_SIDE (field words 2)
+      Ok (SizeLine width height))
+    -- all bottom lines together have no more symbols than there are columns
+    ∷ row (codes "bottom") (nat_le 2) (behind word_of (codes "size" ∷ codes "bottom" ∷ []))
+      (λ q words. nat_le (length q.bottom + (length words - 1)) q.width) (λ q words. do
+      symbols ← references q.symbols (drop 1 words)
+      Ok (BottomLine symbols))
+    -- and all left lines no more than there are rows
+    ∷ row (codes "left") (nat_le 2)
+      (behind word_of (codes "size" ∷ codes "bottom" ∷ codes "left" ∷ []))
+      (λ q words. nat_le (length q.left + (length words - 1)) q.height) (λ q words. do
+      symbols ← references q.symbols (drop 1 words)
+      Ok (LeftLine symbols))
+    ∷ row (codes "end") (λ n. n == 1)
+      (behind word_of (codes "size" ∷ codes "bottom" ∷ codes "left" ∷ []))
+      (λ q words. true) (λ q words. Ok EndLine)
+    ∷ []
 
-abbrev pub symbol_row : Keyword RuleQuadrant QuadrantItem
-symbol_row = record {
-  word = codes "symbol";
-  has_words = λ n. n == 2;
-  may_follow = behind word_of (codes "quadrant" ∷ codes "symbol" ∷ []);
-  has_room = λ q words. nat_lt (length q.symbols) MOST_SYMBOLS;
-  fields = λ q words. do
-    name ← declared is_short_name q.symbols (field words 1)
-    Ok (SymbolLine name);
-}
-
-abbrev pub rule_row : Keyword RuleQuadrant QuadrantItem
-rule_row = record {
-  word = codes "rule";
-  has_words = λ n. n == 5;
-  may_follow = behind word_of (codes "symbol" ∷ codes "rule" ∷ []);
-  has_room = λ q words. true;
-  fields = λ q words. do
-    rule ← rule_in q words
-    Ok (RuleLine rule);
-}
-
-abbrev pub size_row : Keyword RuleQuadrant QuadrantItem
-size_row = record {
-  word = codes "size";
-  has_words = λ n. n == 3;
-  may_follow = behind word_of (codes "symbol" ∷ codes "rule" ∷ []);
-  has_room = λ q words. true;
-  fields = λ q words. do
-    width ← count_in 1 LONGEST_SIDE (field words 1)
-    height ← count_in 1 LONGEST_SIDE (field words 2)
-    Ok (SizeLine width height);
-}
-
--- all bottom lines together have no more symbols than there are columns
-abbrev pub bottom_row : Keyword RuleQuadrant QuadrantItem
-bottom_row = record {
-  word = codes "bottom";
-  has_words = λ n. nat_le 2 n;
-  may_follow = behind word_of (codes "size" ∷ codes "bottom" ∷ []);
-  has_room = λ q words. nat_le (length q.bottom + (length words - 1)) q.width;
-  fields = λ q words. do
-    symbols ← references q.symbols (drop 1 words)
-    Ok (BottomLine symbols);
-}
-
--- and all left lines no more than there are rows
-abbrev pub left_row : Keyword RuleQuadrant QuadrantItem
-left_row = record {
-  word = codes "left";
-  has_words = λ n. nat_le 2 n;
-  may_follow = behind word_of (codes "size" ∷ codes "bottom" ∷ codes "left" ∷ []);
-  has_room = λ q words. nat_le (length q.left + (length words - 1)) q.height;
-  fields = λ q words. do
-    symbols ← references q.symbols (drop 1 words)
-    Ok (LeftLine symbols);
-}
-
-abbrev pub end_row : Keyword RuleQuadrant QuadrantItem
-end_row = record {
-  word = codes "end";
-  has_words = λ n. n == 1;
-  may_follow = behind word_of (codes "size" ∷ codes "bottom" ∷ codes "left" ∷ []);
-  has_room = λ q words. true;
-  fields = λ q words. Ok EndLine;
-}
-
--- the table of keywords; only the end line completes a text
+-- only the end line completes a text
 unfoldable pub quadrant_table : Table QuadrantItem
 quadrant_table = record {
-  keywords = map (told_by quadrant_of)
-      (quadrant_row ∷ symbol_row ∷ rule_row ∷ size_row ∷ bottom_row ∷ left_row ∷ end_row ∷ []);
+  keywords = map (told_by quadrant_of) quadrant_rows;
   has_header = true;
   is_end = λ item. bytes_eq (word_of item) (codes "end");
   is_complete = λ items. false;

@@ -2,8 +2,8 @@
 ghost use Rattle.std.specs.Prelude.{◌≡◌, ◌≤◌, ◌<◌, ℕ, List, true, None, Ok, drop, length, IfOk};
 ghost use Rattle.quadrant_compile.specs.declared.limits.TheConstants.{MOST_SYMBOLS};
 ghost use Rattle.quadrant_compile.specs.Quadrants.{RuleQuadrant, answer_among};
-ghost use Rattle.quadrant_compile.specs.QuadrantText.{QuadrantItem, quadrant_row, symbol_row, rule_in, rule_row, size_row, bottom_row, left_row, quadrant_of};
-ghost use Rattle.quadrant_compile.specs.Inner.Keywords.{row_of};
+ghost use Rattle.quadrant_compile.specs.QuadrantText.{QuadrantItem, rule_in, quadrant_of};
+ghost use Rattle.quadrant_compile.specs.Inner.Keywords.{row_of, quadrant_row, symbol_row, rule_row, size_row, bottom_row, left_row};
 ghost use Rattle.quadrant_compile.specs.Inner.Borders.{border_kind};
 ghost use Rattle.quadrant_compile.specs.Inner.SoFar.{quadrant_in, Gets};
 ghost use Rattle.tile_io.specs.Lines.{words_of};

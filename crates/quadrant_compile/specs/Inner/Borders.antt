@@ -5,8 +5,7 @@ use Rattle.quadrant_compile.specs.declared.border.Border.TheVariants as borders
 use Rattle.quadrant_compile.specs.declared.line_kind.LineKind.{LineKind}
 use Rattle.quadrant_compile.specs.declared.line_kind.LineKind.TheVariants as kinds
 use Rattle.quadrant_compile.specs.Quadrants.{RuleQuadrant}
-use Rattle.quadrant_compile.specs.QuadrantText.{bottom_row, left_row}
-use Rattle.quadrant_compile.specs.Inner.Keywords.{may_stand_after}
+use Rattle.quadrant_compile.specs.Inner.Keywords.{may_stand_after, bottom_row, left_row}
 
 -- the keyword of a border's lines
 abbrev pub border_kind : Border → LineKind

@@ -1,10 +1,40 @@
 -- The keywords of a quadrant text, as the code has them.
-use Rattle.std.specs.Prelude.{Bool, true, false, List, Option, Some, None}
+use Rattle.std.specs.Prelude.{Bool, true, false, List, [], Option, Some, None, Err}
+use Rattle.std.specs.List.{slice_index_or}
+use Rattle.tile_io.specs.declared.fault.Cause.TheVariants.{BadLine}
 use Rattle.tile_io.specs.Checks.{Keyword, told_by}
 use Rattle.quadrant_compile.specs.declared.line_kind.LineKind.{LineKind}
 use Rattle.quadrant_compile.specs.declared.line_kind.LineKind.TheVariants as kinds
-use Rattle.quadrant_compile.specs.QuadrantText.{QuadrantItem, quadrant_of, quadrant_row, symbol_row, rule_row, size_row, bottom_row, left_row, end_row}
+use Rattle.machine_text.specs.Rows.{row}
+use Rattle.quadrant_compile.specs.Quadrants.{RuleQuadrant}
+use Rattle.quadrant_compile.specs.QuadrantText.{QuadrantItem, quadrant_of, quadrant_rows}
 use Rattle.quadrant_compile.specs.QuadrantText.QuadrantItem.{Header, SymbolLine, RuleLine, SizeLine, BottomLine, LeftLine, EndLine}
+
+-- in place of a row, where there is none
+abbrev no_row : Keyword RuleQuadrant QuadrantItem
+no_row = row [] (λ n. false) (λ before. false) (λ q words. false) (λ q words. Err BadLine)
+
+-- the rows by their words
+abbrev pub quadrant_row : Keyword RuleQuadrant QuadrantItem
+quadrant_row = slice_index_or quadrant_rows 0 no_row
+
+abbrev pub symbol_row : Keyword RuleQuadrant QuadrantItem
+symbol_row = slice_index_or quadrant_rows 1 no_row
+
+abbrev pub rule_row : Keyword RuleQuadrant QuadrantItem
+rule_row = slice_index_or quadrant_rows 2 no_row
+
+abbrev pub size_row : Keyword RuleQuadrant QuadrantItem
+size_row = slice_index_or quadrant_rows 3 no_row
+
+abbrev pub bottom_row : Keyword RuleQuadrant QuadrantItem
+bottom_row = slice_index_or quadrant_rows 4 no_row
+
+abbrev pub left_row : Keyword RuleQuadrant QuadrantItem
+left_row = slice_index_or quadrant_rows 5 no_row
+
+abbrev pub end_row : Keyword RuleQuadrant QuadrantItem
+end_row = slice_index_or quadrant_rows 6 no_row
 
 -- the row of a keyword in the table
 abbrev pub row_of : LineKind → Keyword (List QuadrantItem) QuadrantItem
