@@ -20,7 +20,8 @@ use Rattle.quadrant_compile.specs.declared.tile.Label.{Label}
 use Rattle.quadrant_compile.specs.declared.tile.Label.TheVariants.{Eastward, Northward, Column, Row}
 use Rattle.quadrant_compile.specs.Quadrants.{RuleQuadrant, IsQuadrant, answer_of, pairs_below, has_rule, ruled_pairs}
 use Rattle.quadrant_compile.specs.Tiles.{cell_side, label_on}
-use Rattle.quadrant_compile.specs.QuadrantSystems.{kinds, labels, pair_number, kind_number, label_number, tiles_of}
+use Rattle.quadrant_compile.specs.QuadrantSystems.{kinds, labels, pair_number, tiles_of}
+use Rattle.quadrant_compile.specs.Inner.Listed.{kind_number, label_number}
 use Rattle.quadrant_compile.specs.Inner.Members.{IsKind, IsLabel}
 use Rattle.quadrant_compile.proofs.Ruling.{answer_bounds, pair_bounds, bottom_known, left_known}
 

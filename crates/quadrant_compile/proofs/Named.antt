@@ -12,7 +12,8 @@ use Rattle.quadrant_compile.specs.declared.tile.Kind.TheVariants.{Corner, Bottom
 use Rattle.quadrant_compile.specs.declared.tile.Label.{Label}
 use Rattle.quadrant_compile.specs.declared.tile.Label.TheVariants.{Eastward, Northward, Column, Row}
 use Rattle.quadrant_compile.specs.Quadrants.{RuleQuadrant, IsQuadrant}
-use Rattle.quadrant_compile.specs.QuadrantSystems.{kinds, symbol_name, kind_name, label_name, tiles_of, area_of, quadrant_system}
+use Rattle.quadrant_compile.specs.QuadrantSystems.{kinds, symbol_name, tiles_of, area_of, quadrant_system}
+use Rattle.quadrant_compile.specs.Inner.Listed.{kind_name, label_name}
 use Rattle.quadrant_compile.specs.Inner.Members.{IsKind, IsLabel}
 use Rattle.quadrant_compile.proofs.Ruling.{pair_bounds}
 use Rattle.quadrant_compile.proofs.Listed.{kind_listed, listed_kind, listed_label, label_count, kind_count, is_tile_set}

@@ -1,4 +1,5 @@
 pub mod Keywords
+pub mod Listed
 pub mod Tables
 pub mod SoFar
 pub mod Held

@@ -33,33 +33,26 @@ pair_number q pair = pair.0 * length q.symbols + pair.1
 abbrev pub rules_before : RuleQuadrant → ℕ × ℕ → ℕ
 rules_before q pair = length (filter (has_rule q) (take (pair_number q pair) (pairs_below (length q.symbols))))
 
--- the places in the lists of kinds and of labels
-abbrev pub kind_number : RuleQuadrant → Kind → ℕ
-kind_number q Corner = 0
-kind_number q (Bottom i) = i
-kind_number q (Left j) = q.width + j
-kind_number q (Cell a b) = suc q.width + q.height + rules_before q (a, b)
-
-abbrev pub label_number : RuleQuadrant → Label → ℕ
-label_number q (Eastward a) = a
-label_number q (Northward a) = length q.symbols + a
-label_number q (Column i) = length q.symbols + length q.symbols + i - 1
-label_number q (Row j) = length q.symbols + length q.symbols + q.width + j - 1
-
 abbrev pub symbol_name : RuleQuadrant → ℕ → List ℕ
 symbol_name q a = slice_index_or q.symbols a []
 
-abbrev pub kind_name : RuleQuadrant → Kind → List ℕ
-kind_name q Corner = codes "o"
-kind_name q (Bottom i) = codes "b:" ++ decimal i
-kind_name q (Left j) = codes "a:" ++ decimal j
-kind_name q (Cell a b) = codes "q:" ++ (symbol_name q a ++ codes ":" ++ symbol_name q b)
+-- the table of kinds: the place of each in the list of kinds, and its name
+abbrev pub kind_row : RuleQuadrant → Kind → ℕ × List ℕ
+kind_row q Corner = (0, codes "o")
+kind_row q (Bottom i) = (i, codes "b:" ++ decimal i)
+kind_row q (Left j) = (q.width + j, codes "a:" ++ decimal j)
+kind_row q (Cell a b) = (
+    suc q.width + q.height + rules_before q (a, b),
+    codes "q:" ++ (symbol_name q a ++ codes ":" ++ symbol_name q b),
+)
 
-abbrev pub label_name : RuleQuadrant → Label → List ℕ
-label_name q (Eastward a) = codes "h:" ++ symbol_name q a
-label_name q (Northward a) = codes "v:" ++ symbol_name q a
-label_name q (Column i) = codes "b:" ++ decimal i
-label_name q (Row j) = codes "a:" ++ decimal j
+-- and of labels
+abbrev pub label_row : RuleQuadrant → Label → ℕ × List ℕ
+label_row q (Eastward a) = (a, codes "h:" ++ symbol_name q a)
+label_row q (Northward a) = (length q.symbols + a, codes "v:" ++ symbol_name q a)
+label_row q (Column i) = (length q.symbols + length q.symbols + i - 1, codes "b:" ++ decimal i)
+label_row q (Row j) =
+    (length q.symbols + length q.symbols + q.width + j - 1, codes "a:" ++ decimal j)
 
 abbrev pub tiles_of : RuleQuadrant → TileSet Kind Label
 tiles_of q = record {
@@ -67,10 +60,10 @@ tiles_of q = record {
   labels = labels q;
   side = label_on q;
   strength = strength;
-  kind_number = kind_number q;
-  label_number = label_number q;
-  kind_name = kind_name q;
-  label_name = label_name q;
+  kind_number = λ k. (kind_row q k).0;
+  label_number = λ g. (label_row q g).0;
+  kind_name = λ k. (kind_row q k).1;
+  label_name = λ g. (label_row q g).1;
 }
 
 -- the box of the borders and the cells

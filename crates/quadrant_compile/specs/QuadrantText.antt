@@ -1,6 +1,6 @@
 -- The text of a quadrant: what each kept line is, which checks it has to pass, and the quadrant
 -- that the lines describe.
-use Rattle.std.specs.Prelude.{◌≡◌, ℕ, ◌+◌, ◌-◌, ◌==◌, Bool, true, false, is_none, is_some, not, nat_le, nat_lt, List, [], ◌∷◌, length, drop, map, filter_map, flat_map, codes, bytes_eq, Option, Some, None, Result, Ok}
+use Rattle.std.specs.Prelude.{◌≡◌, ℕ, ◌+◌, ◌-◌, ◌==◌, true, false, is_none, is_some, not, nat_le, nat_lt, List, [], ◌∷◌, length, drop, map, filter_map, flat_map, codes, bytes_eq, Option, Some, None, Result, Ok}
 use Rattle.tile_io.specs.declared.fault.Cause.{Cause}
 use Rattle.tile_io.specs.declared.fault.Cause.TheVariants.{NoHeader, DoubleName}
 use Rattle.tile_io.specs.declared.mark.Mark.{Mark}

@@ -1,6 +1,7 @@
 // The names of kinds and labels.
 ghost use Rattle.std.specs.Prelude.{◌≡◌, ◌≤◌, ◌<◌, ◌+◌, ◌∷◌, ◌++◌, codes, decimal, length};
-ghost use Rattle.quadrant_compile.specs.QuadrantSystems.{kind_name, label_name, symbol_name};
+ghost use Rattle.quadrant_compile.specs.QuadrantSystems.{symbol_name};
+ghost use Rattle.quadrant_compile.specs.Inner.Listed.{kind_name, label_name};
 ghost use Rattle.quadrant_compile.specs.Inner.Members.{IsKind, IsLabel};
 ghost use Rattle.quadrant_compile.specs.Quadrants.{IsQuadrant};
 ghost use Rattle.tile_table.specs.declared.short_text.TheConstants.{SHORT_ROOM};

@@ -11,7 +11,7 @@ use Rattle.machine_text.specs.MachineText.{MachineItem, machine_of, machine_rows
 use Rattle.machine_text.specs.MachineText.MachineItem.{Header, StateLine, SymbolLine, RuleLine, CellsLine, RowsLine, HeadLine, TapeLine, EndLine}
 
 -- in place of a row, where there is none
-abbrev no_row : Keyword TuringMachine MachineItem
+abbrev pub no_row : {Before Item : Type 0} → Keyword Before Item
 no_row = row [] (λ n. false) (λ before. false) (λ M words. false) (λ M words. Err BadLine)
 
 -- the rows by their words

@@ -1,6 +1,5 @@
 use Rattle.std.proofs.Common.{sym, ap, refl, ◌∙◌, ◌∷◌, []}
 use Rattle.std.specs.Prelude.{bytes_eq}
-use Rattle.quadrant_compile.specs.Inner.Keywords.{quadrant_row}
 use Rattle.quadrant_compile.specs.QuadrantText.QuadrantItem.{Header}
 use Rattle.quadrant_compile.proofs.take.check_version.Goals as goal
 

@@ -1,5 +1,4 @@
 use Rattle.std.proofs.Common.{List, ℕ, ap, refl}
-use Rattle.quadrant_compile.specs.Inner.Keywords.{bottom_row}
 use Rattle.quadrant_compile.specs.QuadrantText.QuadrantItem.{BottomLine}
 use Rattle.quadrant_compile.specs.Quadrants.{RuleQuadrant}
 use Rattle.quadrant_compile.specs.Inner.SoFar.{quadrant_in}

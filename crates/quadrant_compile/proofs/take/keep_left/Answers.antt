@@ -1,5 +1,4 @@
 use Rattle.std.proofs.Common.{List, ℕ, ap, refl}
-use Rattle.quadrant_compile.specs.Inner.Keywords.{left_row}
 use Rattle.quadrant_compile.specs.QuadrantText.QuadrantItem.{LeftLine}
 use Rattle.quadrant_compile.specs.Quadrants.{RuleQuadrant}
 use Rattle.quadrant_compile.specs.Inner.SoFar.{quadrant_in}

@@ -1,6 +1,5 @@
 use Rattle.std.proofs.Common.{List, ap, refl, sym}
 use Rattle.quadrant_compile.specs.declared.rule.Rule.{Rule}
-use Rattle.quadrant_compile.specs.Inner.Keywords.{rule_row}
 use Rattle.quadrant_compile.specs.QuadrantText.QuadrantItem.{RuleLine}
 use Rattle.quadrant_compile.specs.Inner.SoFar.{quadrant_in}
 use Rattle.quadrant_compile.proofs.take.take_rule.Goals as goal

@@ -1,6 +1,5 @@
 use Rattle.std.proofs.Common.{ap, refl, sym, ◌∙◌}
 use Rattle.tile_io.specs.Checks.{count_in}
-use Rattle.quadrant_compile.specs.Inner.Keywords.{size_row}
 use Rattle.quadrant_compile.specs.QuadrantText.QuadrantItem.{SizeLine}
 use Rattle.quadrant_compile.proofs.take.take_size.Goals as goal
 

@@ -1,7 +1,6 @@
 use Rattle.std.proofs.Common.{◌≡◌, List, ℕ, Ok, ap, refl, sym, ◌∙◌}
 use Rattle.tile_io.specs.Checks.{declared, field}
 use Rattle.machine_text.specs.Machines.{is_short_name}
-use Rattle.quadrant_compile.specs.Inner.Keywords.{symbol_row}
 use Rattle.quadrant_compile.specs.QuadrantText.QuadrantItem.{SymbolLine}
 use Rattle.quadrant_compile.specs.Inner.SoFar.{quadrant_in}
 use Rattle.quadrant_compile.proofs.take.take_symbol.Goals as goal
