@@ -1,8 +1,6 @@
 """The package: systems made and read, each command as a call, results that are read, and refusals."""
 import os
 import subprocess
-import sys
-import time
 
 import pytest
 
@@ -273,7 +271,7 @@ def test_borders_of_a_rule_have_a_default_each():
         tb.bordered(rule, bottom="nothing")
 
 
-# ---- the list of commands, and time
+# ---- the list of commands
 
 
 def test_the_list_of_commands_is_current():
@@ -288,27 +286,3 @@ def test_any_command_by_its_words(command):
     with pytest.raises(tb.Refused) as why:
         tb.answer([command], "tiles 1\n")
     assert (why.value.line, why.value.cause, why.value.command) == (2, "NoEnd", command)
-
-
-def least_time(call):
-    """The least processor time of three calls, in seconds."""
-    found = []
-    for _ in range(3):
-        begun = time.process_time()
-        call()
-        found.append(time.process_time() - begun)
-    return min(found)
-
-
-def ten_million_turns():
-    for _ in range(10_000_000):
-        pass
-
-
-@pytest.mark.skipif(sys.platform != "linux", reason="times are those of Linux")
-def test_a_million_tiles_are_read_in_a_second():
-    """In a second, or on a slow machine in the time of five loops that take 0.2 s each on another."""
-    system = triangle(1024)
-    _, out = program.answer(["grow"], system.text)
-    assert len(tb.Growth.read(system, out)) == 1 << 20
-    assert least_time(lambda: tb.Growth.read(system, out)) < max(1, 5 * least_time(ten_million_turns))

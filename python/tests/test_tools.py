@@ -9,11 +9,10 @@ import zipfile
 import pytest
 
 import tilebench as tb
-from tilebench import console, explain, outcomes, program
+from tilebench import console, drawing, explain, outcomes, program
 
 TOP = os.path.dirname(os.path.dirname(os.path.dirname(os.path.realpath(__file__))))
 SIDE = 1024
-LOOP = "for at in range(10_000_000): pass"
 
 
 def example(name):
@@ -32,47 +31,76 @@ def many_rivals(side):
     return f"tiles 1\ntau 1\n{glues}{tiles}box 0 0 {side - 1} {side - 1}\nseed 3 3 T0\nend\n"
 
 
-def cost(*command):
-    """The processor time of a command in seconds, with what it starts, and its peak of memory in MB."""
+def peak(*command):
+    """The most memory that a command has at once, or one that it starts, in MB."""
     with subprocess.Popen(command, stdout=subprocess.DEVNULL, stderr=subprocess.DEVNULL) as ran:
         _, _, used = os.wait4(ran.pid, 0)
         ran.returncode = 0
-    return used.ru_utime + used.ru_stime, used.ru_maxrss / 1024
+    return used.ru_maxrss / 1024
+
+
+def calls_of(work):
+    """How many functions written in Python are called meanwhile."""
+    many = 0
+
+    def seen(_frame, event, _what):
+        nonlocal many
+        many += event == "call"
+
+    sys.setprofile(seen)
+    try:
+        work()
+    finally:
+        sys.setprofile(None)
+    return many
 
 
 # ---- at 1024 by 1024
 
-# the tool with its words, the system, the time in seconds where the loop takes 0.46 s, and the memory in MB
+# what a tool is asked, of which system, with how much memory in MB at most
+RIVALS = triangle(SIDE).replace("tile r11 0 0 1 1\n", "tile r11 0 0 1 1\ntile s11 1 0 1 1\n")
+STRONG = triangle(SIDE).replace("glue 1 1", "glue 1 2")
 LIMITS = {
-    "explain a no by its third condition": (["explain"], triangle(SIDE), 1.4, 250),
-    "explain two types for one input": (
-        ["explain"],
-        triangle(SIDE).replace("tile r11 0 0 1 1\n", "tile r11 0 0 1 1\ntile s11 1 0 1 1\n"),
-        2,
-        250,
-    ),
-    "explain a strong glue": (["explain"], triangle(SIDE).replace("glue 1 1", "glue 1 2"), 2, 250),
-    "lint two types for one input": (
-        ["lint"],
-        triangle(SIDE).replace("tile r11 0 0 1 1\n", "tile r11 0 0 1 1\ntile s11 1 0 1 1\n"),
-        5,
-        250,
-    ),
-    "show": (["show"], triangle(SIDE), 1.5, 150),
+    "explain a no by its third condition": ("explain", triangle(SIDE), 250),
+    "explain two types for one input": ("explain", RIVALS, 250),
+    "explain a strong glue": ("explain", STRONG, 250),
+    "lint two types for one input": ("lint", RIVALS, 250),
+    "show": ("show", triangle(SIDE), 150),
 }
 
 
-@pytest.mark.skipif(sys.platform != "linux", reason="times and peaks are those of Linux")
+@pytest.mark.skipif(sys.platform != "linux", reason="peaks are those of Linux")
 @pytest.mark.parametrize("what", LIMITS)
-def test_a_tool_takes_its_time_at_a_million_tiles(what, tmp_path):
-    words, system, seconds, most = LIMITS[what]
+def test_a_tool_has_enough_memory_for_a_million_tiles(what, tmp_path):
+    tool, system, most = LIMITS[what]
     (tmp_path / "system").write_text(system)
     program.require(program.path())
-    tool = [sys.executable, f"{TOP}/tools/{words[0]}", *words[1:], str(tmp_path / "system")]
-    tried = [(cost(*tool), cost(sys.executable, "-c", LOOP)) for _ in range(3)]
-    least, loop = min(it[0][0] for it in tried), min(it[1][0] for it in tried)
-    assert least <= seconds * max(1, loop / 0.46), (least, loop)
-    assert max(it[0][1] for it in tried) <= most
+    assert peak(sys.executable, f"{TOP}/tools/{tool}", str(tmp_path / "system")) <= most
+
+
+# what is done with the growth of which system; bench/tools has the times
+WORKS = {
+    "explain a no by its third condition": (triangle(SIDE), lambda it: it.explain()),
+    "explain two types for one input": (RIVALS, lambda it: it.explain()),
+    "explain a strong glue": (STRONG, lambda it: it.explain()),
+    "lint two types for one input": (RIVALS, lambda it: tb.slips([it, it])),
+    "show": (triangle(SIDE), lambda it: list(drawing.letters(it))),
+}
+
+
+@pytest.mark.parametrize("what", WORKS)
+def test_a_million_tiles_are_worked_on_together(what):
+    """A growth is read, and then told of, with fewer calls of functions than there are tiles by far."""
+    system, work = WORKS[what]
+    _, out = program.answer(["grow"], system)
+    growth = tb.Growth(tb.System.read(system))
+
+    def read():
+        nonlocal growth
+        growth = tb.Growth.read(growth.system, out)
+
+    assert calls_of(read) < SIDE * SIDE // 100 and len(growth) == SIDE * SIDE
+    assert calls_of(lambda: work(growth)) < SIDE * SIDE // 4
 
 
 def test_frames_are_taken_while_something_grows():
@@ -95,11 +123,37 @@ def test_ten_pairs_of_types_are_named_and_the_others_counted():
     assert all(len(it.sites) == it.count and it.sites[:3] == it.first_sites(3) for it in found)
 
 
+class Clock:
+    """Waits for a second as often as is said, and writes down for how long it was to wait."""
+
+    def __init__(self, often):
+        self.left, self.waits = often, []
+
+    def wait(self, seconds):
+        self.waits.append(seconds)
+        self.left -= 1
+        return self.left < 0
+
+
 def test_outcomes_tells_what_it_does_once_a_second(capsys):
-    with outcomes.Progress("outcomes") as progress:
-        progress.stage = "looks for sites"
-        progress.ended.wait(1.3)
-    assert capsys.readouterr().err == "outcomes: 1 s: looks for sites\n"
+    progress, clock = outcomes.Progress("outcomes"), Clock(2)
+    progress.ended, progress.stage, progress.seconds = clock, "looks for sites", lambda: len(clock.waits)
+    progress.tell()
+    assert capsys.readouterr().err == "outcomes: 1 s: looks for sites\noutcomes: 2 s: looks for sites\n"
+    assert clock.waits == [1, 1, 1]
+
+
+def test_what_outcomes_does_has_a_name_from_its_beginning(monkeypatch):
+    stages = []
+
+    class Told(outcomes.Progress):
+        def __setattr__(self, name, value):
+            stages.extend([value] if name == "stage" else [])
+            super().__setattr__(name, value)
+
+    monkeypatch.setattr(outcomes, "Progress", Told)
+    assert tb.search(tb.System.read(example("square.tiles"))).is_one
+    assert stages[:3] == ["begins", "grows by choice 0", "searches the site that the verdict names"]
 
 
 def test_rivals_that_the_input_sides_hold_come_first():

@@ -121,10 +121,10 @@ def breaks_of_tiles(growth: Growth) -> list[Break]:
     grid, system = growth.grid, growth.system
     found: dict[tuple[int, str, str | None], tuple[Sides, set[int]]] = {}
     alike = Alike(grid, growth.order, (grid.number(site) for site, _ in system.seeds))
-    for number, cell in enumerate(alike.firsts):
+    for group, cell in alike.firsts.items():
         kind = grid.cells[cell]
-        for condition, other, facing in broken_at(growth, cell) if kind >= 0 and alike.counts[number] else ():
-            found.setdefault((condition, system.names[kind], other), (facing, set()))[1].add(number)
+        for condition, other, facing in broken_at(growth, cell) if kind >= 0 and alike.counts[group] else ():
+            found.setdefault((condition, system.names[kind], other), (facing, set()))[1].add(group)
     told = []
     for (condition, name, other), (facing, groups) in found.items():
         held = other or name

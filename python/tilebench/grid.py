@@ -5,12 +5,14 @@ import sys
 from array import array
 from collections.abc import Iterator
 
-from tilebench.lanes import PIECE, Lanes
+from tilebench.lanes import PIECE, lanes_for, packed
 from tilebench.system import STEPS, Site, System
 
 # which of the two bytes of an index tells whether a tile stands, and what it is turned into
 HIGH = 1 if sys.byteorder == "little" else 0
 STANDS = bytes([ord("1")] * 128 + [ord("0")] * 128)
+# the bits that no row and no column of a grid has
+BEYOND = 0xFFFFF800
 
 
 class Grid:
@@ -22,14 +24,19 @@ class Grid:
         self.system, self.west, self.south = system, x0 - 1, y0 - 1
         self.wide, self.high = x1 - x0 + 3, y1 - y0 + 3
         self.steps = [a + b * self.wide for a, b in STEPS]
-        self.cells = array("h", [-1]) * (self.wide * self.high)
-        self.sequence, cells = array("q"), self.cells
-        for at in range(0, len(xs), PIECE):
-            lanes = Lanes(len(xs[at : at + PIECE]))
-            rows, columns = lanes.of(ys[at : at + PIECE], self.south), lanes.of(xs[at : at + PIECE], self.west)
-            self.sequence += lanes.items(rows * self.wide + columns)
+        self.sequence, cells = array("I"), [-1] * (self.wide * self.high)
+        for at in range(0, len(xs), PIECE // 4):
+            part = slice(at, at + PIECE // 4)
+            many = len(xs[part])
+            lanes = lanes_for(many)
+            rows, columns = lanes.of(ys[part], self.south), lanes.of(xs[part], self.west)
+            if (rows | columns) & lanes.ones * BEYOND:
+                raise IndexError("a place outside the box")
+            self.sequence += lanes.items(rows * self.wide + columns, 0, many)
+        # (an item of a list is put in less time than one of an array)
         for number, kind in zip(self.sequence, kinds):
             cells[number] = kind
+        self.cells = packed("h", len(cells), cells)
 
     def number(self, site: Site) -> int:
         """The number of a site's cell, or -1 for a site that has none."""

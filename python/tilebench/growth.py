@@ -1,6 +1,8 @@
 """What grew: the places of an assembly in their order, what was said of it, and certificates."""
 from __future__ import annotations
 
+import re
+import struct
 from array import array
 from collections.abc import Iterable, Iterator
 from dataclasses import dataclass
@@ -10,10 +12,12 @@ from typing import Any
 from tilebench import lines
 from tilebench.faults import Refused
 from tilebench.grid import Grid
+from tilebench.lanes import packed
 from tilebench.system import Site, System
 
 # how many bytes of a growth are read at a time
 PIECE = 1 << 14
+NUMBER = re.compile("-?[0-9]+")
 
 
 @dataclass(frozen=True)
@@ -74,10 +78,12 @@ class Verdict:
         return cls(" ".join(words), condition, site, words[5])
 
 
-class Numbers(dict[bytes, int]):
+class Numbers(dict[str, int]):
     """The numbers that words are, each worked out once."""
 
-    def __missing__(self, word: bytes) -> int:
+    def __missing__(self, word: str) -> int:
+        if not NUMBER.fullmatch(word):
+            raise ValueError(word)
         self[word] = number = int(word)
         return number
 
@@ -121,8 +127,8 @@ class Growth:
 
     def add(self, x: int, y: int, kind: int) -> None:
         """Puts a tile behind the sequence."""
-        self.__dict__.pop("grid", None)
-        self.__dict__.pop("order", None)
+        for it in ("grid", "order", "_present"):
+            self.__dict__.pop(it, None)
         self.xs.append(x)
         self.ys.append(y)
         self.kinds.append(kind)
@@ -166,17 +172,20 @@ class Growth:
         """The name of the type at each site. (Of a million tiles this takes a second, and 200 MB.)"""
         return dict(self)
 
+    @cached_property
+    def _present(self) -> set[int]:
+        """The indices of the types of which a tile stands."""
+        return {*self.kinds}
+
     @property
     def placed(self) -> list[str]:
         """The types of which a tile stands, in the system's order."""
-        names = self.system.names
-        return [names[it] for it in sorted({*self.kinds})]
+        return [name for at, name in enumerate(self.system.names) if at in self._present]
 
     @property
     def unplaced(self) -> list[str]:
         """The types of which no tile stands, in the system's order."""
-        placed = {*self.placed}
-        return [it for it in self.system.names if it not in placed]
+        return [name for at, name in enumerate(self.system.names) if at not in self._present]
 
     @property
     def text(self) -> str:
@@ -255,9 +264,9 @@ class Reader:
 
     def __init__(self, system: System, first: int):
         self.system, self.number, self.growth = system, first, Growth(system)
-        # the columns and the rows that were met, by their words, and the types by their names
+        # the columns and the rows that were met, by their words, and the types by their names and what stands behind
         self.columns, self.rows = Numbers(), Numbers()
-        self.kinds = {name.encode(): at for at, name in enumerate(system.names)}
+        self.kinds = {f"{name}\nplace": at for at, name in enumerate(system.names)}
 
     def read(self, text: bytes) -> Growth:
         at, size = 0, len(text)
@@ -273,17 +282,19 @@ class Reader:
         return self.growth
 
     def take_places(self, piece: bytes) -> bool:
-        """Takes a piece of the text if each of its lines is a place, and answers whether it did."""
-        words, growth = piece.split(), self.growth
-        many = piece.count(b"\n")
-        if len(words) != 4 * many or words[::4].count(b"place") != many or isinstance(growth, Certificate):
+        """Takes a piece of the text if each of its lines is a place in its plainest spelling, and answers whether it
+        did."""
+        growth = self.growth
+        if isinstance(growth, Certificate) or not piece.startswith(b"place "):
             return False
         try:
-            # (a list first: an array takes one at once, and any other iterable item by item)
-            xs = array("i", [*map(self.columns.__getitem__, words[1::4])])
-            ys = array("i", [*map(self.rows.__getitem__, words[2::4])])
-            kinds = array("i", [*map(self.kinds.__getitem__, words[3::4])])
-        except (KeyError, ValueError, OverflowError):
+            # (a name with the end of its line and the next line's keyword is one word, which is looked up at once)
+            words = f"{piece.decode()}place".split(" ")
+            many = len(words) // 3
+            kinds = packed("i", many, map(self.kinds.__getitem__, words[3::3]))
+            xs = packed("i", many, map(self.columns.__getitem__, words[1::3]))
+            ys = packed("i", many, map(self.rows.__getitem__, words[2::3]))
+        except (KeyError, ValueError, struct.error):
             return False
         growth.xs += xs
         growth.ys += ys
@@ -325,7 +336,7 @@ class Reader:
 
     def site(self, words: list[str]) -> Site:
         """The site of a line."""
-        return self.columns[words[1].encode()], self.rows[words[2].encode()]
+        return self.columns[words[1]], self.rows[words[2]]
 
     def look_at_sites(self) -> None:
         """Refuses a place outside the box: the grid has no room for it."""

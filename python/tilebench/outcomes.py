@@ -113,13 +113,13 @@ class Search:
     def rivals(self) -> list[tuple[Site, list[int]]]:
         """Each site, but for the seeds', at which all its neighbours would hold another type too, with these types.
         First come those at which the input sides alone hold one."""
-        grid, others = self.grid, []
+        grid, others = self.grid, dict[int, list[int]]()
         alike = Alike(grid, apart=self.seeds)
-        for cell in alike.firsts:
+        for group, cell in alike.firsts.items():
             kinds = self.system.attaching(grid.around(grid.site(cell))) if grid.cells[cell] >= 0 else []
-            others.append([it for it in kinds if it != grid.cells[cell]])
-        held = Cells(alike, {number for number, kinds in enumerate(others) if kinds})
-        found = [(grid.site(at), others[alike.groups[at]]) for at in held]
+            others[group] = [it for it in kinds if it != grid.cells[cell]]
+        held = Cells(alike, {group for group, kinds in others.items() if kinds})
+        found = [(grid.site(at), others[alike.keys[at]]) for at in held]
         # (of very many the order is not worth its time)
         far = {site: not self.is_held_by_inputs(site, kinds) for site, kinds in found} if len(found) < 20000 else {}
         return sorted(found, key=lambda it: far.get(it[0], False))

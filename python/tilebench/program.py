@@ -12,8 +12,8 @@ from typing import IO
 from tilebench.faults import NoProgram, ProgramFailed, Refused
 
 SINGLE = b"tiles 1\ntau 1\ntile S - - - -\nbox 0 0 0 0\nseed 0 0 S\nend\n"
-# how many bytes of an answer are taken at a time
-PIECE = 1 << 16
+# where a checkout has the program that its command builds
+BUILT = "crates/program/out/program"
 
 
 def path() -> str:
@@ -32,9 +32,10 @@ def path() -> str:
 
 
 @functools.lru_cache(None)
-def require(program: str) -> None:
+def require(program: str) -> str:
     """Sees that the program grows a system, and raises NoProgram where it does not. One that is to be built first is
-    built here, and says so in the terminal; where a signal ends this process, the build ends too."""
+    built here, and says so in the terminal; where a signal ends this process, the build ends too. Answers what is to be
+    run from then on: behind the command of a checkout the program that it has built."""
     try:
         # (an answer of the unproved program, by a trial, would not do)
         way = dict(os.environ, TILEBENCH_TRIAL="0")
@@ -49,14 +50,14 @@ def require(program: str) -> None:
             ran.wait()
     if ran.returncode:
         raise NoProgram(f"{program} doesn't grow a tile set")
+    built = f"{os.path.dirname(program)}/{BUILT}"
+    return built if os.access(built, os.X_OK) else program
 
 
 def asked(words: Iterable[object], given: str | bytes = b"") -> subprocess.CompletedProcess[bytes]:
     """What the program answers: its status and both outputs, whatever they are."""
-    program = path()
-    require(program)
     return subprocess.run(
-        [program, *map(str, words)],
+        [require(path()), *map(str, words)],
         input=given.encode() if isinstance(given, str) else given,
         capture_output=True,
         check=False,
@@ -86,8 +87,7 @@ def answer(words: Iterable[object], given: str | bytes = b"") -> tuple[bool, byt
 
 def answered_lines(words: Iterable[object], given: str) -> Iterator[bytes]:
     """The lines of an answer as they come, each with its end; where the program fails, what is to be raised."""
-    program, told, pipe = path(), [*map(str, words)], subprocess.PIPE
-    require(program)
+    program, told, pipe = require(path()), [*map(str, words)], subprocess.PIPE
     with subprocess.Popen([program, *told], stdin=pipe, stdout=pipe, stderr=pipe) as ran:
         assert ran.stdin is not None and ran.stdout is not None and ran.stderr is not None
         writer = Thread(target=hand_in, args=(ran.stdin, given.encode()), daemon=True)
