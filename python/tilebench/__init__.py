@@ -7,7 +7,18 @@
     system.tile("B", west="a")
     system.seed(0, 0, "S")
     growth = tb.grow(system)
-    growth.verdict
+    growth.verdict.words, growth[1, 0]
+
+    made        System, System.read, System.open, turing, quadrant, counter, bordered
+    grown       grow, watch, race, report, and many at once batch: each answers a Growth, or what is read of it
+    judged      growth.verdict, check, certify, verify, replay, schedule
+    looked into growth.explain(), slips, breaks, untaken, and search for a second outcome
+    shown       growth.svg(), growth.plot(), growth.to_numpy(), picture
+    kept        system.text, growth.text, certificate.text: texts as files have them
+    all else    answer, which runs any command of the program by its words; COMMANDS lists these
+
+A site is (x, y), and north is up; a type has its sides in the order north, east, south, west. What is refused is
+raised as Refused, with line and cause.
 
 The program is found beside this checkout, where it is installed, or by the environment variable TILEBENCH.
 docs/PYTHON.md goes through a session. numpy, matplotlib and a notebook are used where they are there, and not needed.

@@ -89,7 +89,8 @@ class Numbers(dict[str, int]):
 
 
 class Growth:
-    """An assembly as a sequence of places.
+    """An assembly as a sequence of places. `growth[x, y]` is the name of the type at a site, None at an empty one; a
+    loop over a growth has ((x, y), name) of each tile, in the order of attachment.
 
     `xs`, `ys` and `kinds` are arrays of whole numbers, one entry for each tile in the order of its attachment: the
     site, and the index of its type in `system.names`. `closed` and `verdict` are what the program said, None where it
