@@ -100,7 +100,7 @@ def test_a_million_tiles_are_worked_on_together(what):
         growth = tb.Growth.read(growth.system, out)
 
     assert calls_of(read) < SIDE * SIDE // 100 and len(growth) == SIDE * SIDE
-    assert calls_of(lambda: work(growth)) < SIDE * SIDE // 4
+    assert calls_of(lambda: work(growth)) < SIDE * SIDE // 2
 
 
 def test_frames_are_taken_while_something_grows():

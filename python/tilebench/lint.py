@@ -158,25 +158,20 @@ class Missing:
     def without_room(self) -> Iterator[str]:
         """The types that are held nowhere since another tile stands where a link of theirs was to hold them."""
         where: dict[tuple[int, str | None], Site] = {}
-        for (x, y), name in self.growth:
-            for side, glue in enumerate(self.system.types[name]):
-                where.setdefault((side, glue), (x, y))
+        growth, system = self.growth, self.system
+        for first in sorted(growth.kinds.index(system.index[name]) for name in growth.placed):
+            for side, glue in enumerate(system.types[system.names[growth.kinds[first]]]):
+                where.setdefault((side, glue), (growth.xs[first], growth.ys[first]))
         for name in self.names[:SHOWN]:
-            for side, glue in enumerate(self.system.types[name]):
+            for side, glue in enumerate(system.types[name]):
                 beside = where.get((opposite(side), glue))
-                if (
-                    glue is None
-                    or beside is None
-                    or not is_link(self.system, name, side)
-                    or not self.system.bond(glue, glue)
-                ):
+                if glue is None or beside is None or not is_link(system, name, side) or not system.bond(glue, glue):
                     continue
                 x, y = neighbour(beside, opposite(side))
-                if (x, y) in self.growth:
+                if (x, y) in growth:
                     yield (
                         f"{name} finds no room: at {x} {y}, where its {SIDES[side]} side would bond with "
-                        f"{self.growth[beside]}, stands "
-                        f"{self.growth[x, y]}"
+                        f"{growth[beside]}, stands {growth[x, y]}"
                     )
                 break
 
