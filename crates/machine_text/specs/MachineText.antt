@@ -1,16 +1,15 @@
 -- The text of a machine: what each kept line is, which checks it has to pass, and the machine that the lines describe.
-use Rattle.std.specs.Prelude.{◌≡◌, ℕ, ◌+◌, ◌-◌, ◌==◌, Bool, true, false, is_none, is_some, not, nat_le, nat_lt, if◌then◌else◌, List, [], ◌∷◌, length, drop, map, filter_map, flat_map, codes, bytes_eq, Option, Some, None, Result, Ok, Err}
+use Rattle.std.specs.Prelude.{◌≡◌, ℕ, ◌+◌, ◌-◌, ◌==◌, true, false, is_none, is_some, not, nat_le, nat_lt, if◌then◌else◌, List, [], ◌∷◌, length, drop, map, filter_map, flat_map, codes, bytes_eq, Option, Some, None, Result, Ok, Err}
 use Rattle.tile_io.specs.declared.fault.Cause.{Cause}
 use Rattle.tile_io.specs.declared.fault.Cause.TheVariants.{NoHeader, BadName, DoubleName}
 use Rattle.tile_io.specs.declared.mark.Mark.{Mark}
 use Rattle.tile_io.specs.Formats.{Format, Reads}
-use Rattle.tile_io.specs.Checks.{◌>>=◌, require, field, count_in, declared, referred, behind, number_given, Keyword, told_by, Table, table_format}
+use Rattle.tile_io.specs.Checks.{◌>>=◌, require, field, count_in, declared, referred, behind, number_given, Keyword, told_by, Table, table_format, row}
 use Rattle.machine_text.specs.declared.limits.TheConstants.{MOST_STATES, MOST_SYMBOLS, MOST_CELLS, MOST_ROWS}
 use Rattle.machine_text.specs.declared.rule.Turn.{Turn}
 use Rattle.machine_text.specs.declared.rule.Turn.TheVariants.{Left, Right, Stay}
 use Rattle.machine_text.specs.declared.rule.Transition.{Transition}
 use Rattle.machine_text.specs.Machines.{TuringMachine, is_short_name, rule_among}
-use Rattle.machine_text.specs.Rows.{row}
 
 -- what a kept line of a machine text is
 pub data MachineItem : Type 0 where

@@ -5,10 +5,9 @@ use Rattle.tile_io.specs.declared.fault.Cause.{Cause}
 use Rattle.tile_io.specs.declared.fault.Cause.TheVariants.{NoHeader, DoubleName}
 use Rattle.tile_io.specs.declared.mark.Mark.{Mark}
 use Rattle.tile_io.specs.Formats.{Format, Reads}
-use Rattle.tile_io.specs.Checks.{◌>>=◌, require, field, count_in, declared, referred, behind, number_given, Keyword, told_by, Table, table_format}
+use Rattle.tile_io.specs.Checks.{◌>>=◌, require, field, count_in, declared, referred, behind, number_given, Keyword, told_by, Table, table_format, row}
 use Rattle.machine_text.specs.Machines.{is_short_name}
 use Rattle.machine_text.specs.MachineText.{references}
-use Rattle.machine_text.specs.Rows.{row}
 use Rattle.quadrant_compile.specs.declared.limits.TheConstants.{MOST_SYMBOLS, LONGEST_SIDE}
 use Rattle.quadrant_compile.specs.declared.rule.Rule.{Rule}
 use Rattle.quadrant_compile.specs.Quadrants.{RuleQuadrant, answer_among}

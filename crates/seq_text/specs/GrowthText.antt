@@ -4,14 +4,13 @@ use Rattle.tile_io.specs.declared.fault.Cause.{Cause}
 use Rattle.tile_io.specs.declared.fault.Cause.TheVariants.{OutsideBox, DoubleSite}
 use Rattle.tile_io.specs.declared.mark.Mark.{Mark}
 use Rattle.tile_io.specs.Formats.{Format, Reads}
-use Rattle.tile_io.specs.Checks.{◌>>=◌, require, field, behind, Keyword, Table, table_format}
+use Rattle.tile_io.specs.Checks.{◌>>=◌, require, field, behind, Keyword, Table, table_format, row}
 use Rattle.atam.specs.declared.site.Site.{Site}
 use Rattle.atam.specs.declared.place.Place.{Place}
 use Rattle.atam.specs.Placements.{tile_at, SamePlacements}
 use Rattle.atam.specs.TileSystem.{TileSystem}
 use Rattle.assembly.specs.Grids.{TileGrid}
 use Rattle.tile_text.specs.Fields.{place_field}
-use Rattle.tile_text.specs.Rows.{row}
 use Rattle.tile_text.specs.SystemText.{is_in_box}
 
 -- what a kept line of a growth text is
@@ -57,15 +56,15 @@ abbrev pub growth_rows : Bool → TileSystem → List (Keyword (List GrowthItem)
 growth_rows distinct sys =
     row (codes "place") (λ n. n == 4)
       (λ before. is_none before || behind word_of (codes "place" ∷ []) before)
-      (λ earlier. true) (λ earlier words. do
+      (λ earlier words. true) (λ earlier words. do
       p ← place_in distinct sys (places_of earlier) words
       Ok (PlaceLine p))
     ∷ row (codes "closed") (nat_le 2)
       (λ before. is_none before || behind word_of (codes "place" ∷ []) before)
-      (λ earlier. true) (λ earlier words. Ok ClosedLine)
+      (λ earlier words. true) (λ earlier words. Ok ClosedLine)
     ∷ row (codes "unique") (nat_le 2)
       (λ before. is_none before || behind word_of (codes "place" ∷ codes "closed" ∷ []) before)
-      (λ earlier. true) (λ earlier words. Ok UniqueLine)
+      (λ earlier words. true) (λ earlier words. Ok UniqueLine)
     ∷ []
 
 -- there is no header and no end line, and the input may end after any line

@@ -3,10 +3,9 @@ use Rattle.std.specs.Prelude.{ℕ, ◌==◌, true, false, List, [], ◌∷◌, c
 use Rattle.tile_io.specs.declared.fault.Cause.{Cause}
 use Rattle.tile_io.specs.declared.mark.Mark.{Mark}
 use Rattle.tile_io.specs.Formats.{Format, Reads}
-use Rattle.tile_io.specs.Checks.{◌>>=◌, field, count_in, Keyword, Table, table_format}
+use Rattle.tile_io.specs.Checks.{◌>>=◌, field, count_in, Keyword, Table, table_format, row}
 use Rattle.atam.specs.TileSystem.{TileSystem}
 use Rattle.tile_text.specs.Fields.{site_field, place_field}
-use Rattle.tile_text.specs.Rows.{row}
 use Rattle.atam.specs.declared.event.Event.{Event}
 use Rattle.atam.specs.declared.event.Event.TheVariants.{Look, Claim, Split, Join}
 use Rattle.seq_text.specs.GrowthText.{names_of}
@@ -19,18 +18,18 @@ scout word = count_in 0 4294967295 word
 -- The lines stand in any order, and a site outside the box is no fault of the text.
 abbrev pub schedule_rows : TileSystem → List (Keyword (List Event) Event)
 schedule_rows sys =
-    row (codes "look") (λ n. n == 4) (λ before. true) (λ earlier. true) (λ earlier words. do
+    row (codes "look") (λ n. n == 4) (λ before. true) (λ earlier words. true) (λ earlier words. do
       w ← scout (field words 1)
       m ← site_field (field words 2) (field words 3)
       Ok (Look w m))
-    ∷ row (codes "claim") (λ n. n == 5) (λ before. true) (λ earlier. true) (λ earlier words. do
+    ∷ row (codes "claim") (λ n. n == 5) (λ before. true) (λ earlier words. true) (λ earlier words. do
       w ← scout (field words 1)
       p ← place_field (names_of sys) (field words 2) (field words 3) (field words 4)
       Ok (Claim w p.site p.tile))
-    ∷ row (codes "split") (λ n. n == 2) (λ before. true) (λ earlier. true) (λ earlier words. do
+    ∷ row (codes "split") (λ n. n == 2) (λ before. true) (λ earlier words. true) (λ earlier words. do
       w ← scout (field words 1)
       Ok (Split w))
-    ∷ row (codes "join") (λ n. n == 3) (λ before. true) (λ earlier. true) (λ earlier words. do
+    ∷ row (codes "join") (λ n. n == 3) (λ before. true) (λ earlier words. true) (λ earlier words. do
       w ← scout (field words 1)
       v ← scout (field words 2)
       Ok (Join w v))

@@ -6,7 +6,7 @@ use Rattle.tile_io.specs.declared.fault.TextStop.{TextStop}
 use Rattle.tile_io.specs.declared.fault.TextStop.TheVariants as stops
 use Rattle.tile_io.specs.declared.mark.Mark.{Mark}
 use Rattle.tile_io.specs.Formats.{Format, Fault, Reads}
-use Rattle.tile_io.specs.Checks.{◌>>=◌, require, field, count_in, declared, referred, behind, last_of, Keyword, Table, table_format}
+use Rattle.tile_io.specs.Checks.{◌>>=◌, require, field, count_in, declared, referred, behind, last_of, Keyword, Table, table_format, row}
 use Rattle.atam.specs.declared.limits.TheConstants.{MOST_GLUES, MOST_PAIRS, MOST_SEEDS, MOST_STRENGTH, MOST_TAU, MOST_TYPES}
 use Rattle.atam.specs.declared.site.Site.{Site}
 use Rattle.atam.specs.declared.place.GlueId.{GlueId}
@@ -19,7 +19,6 @@ use Rattle.tile_system.specs.Seeds.{is_seeded}
 use Rattle.tile_text.specs.declared.version.Version.{Version}
 use Rattle.tile_text.specs.declared.version.Version.TheVariants.{One, Two}
 use Rattle.tile_text.specs.Fields.{box_field, place_field}
-use Rattle.tile_text.specs.Rows.{row}
 
 -- what a kept line of a system text is
 pub data SystemItem : Type 0 where
@@ -107,45 +106,45 @@ if_two Two x = x ∷ []
 -- lines it may stand, the limit of its kind, and its fields with the checks of the whole line.
 abbrev pub system_rows : Version → List (Keyword (List SystemItem) SystemItem)
 system_rows version =
-    row (codes "tiles") (λ n. n == 2) is_none (λ earlier. true) (λ earlier words. do
+    row (codes "tiles") (λ n. n == 2) is_none (λ earlier words. true) (λ earlier words. do
       _ ← require (bytes_eq (field words 1) (version_word version)) NoHeader
       Ok Header)
-    ∷ row (codes "tau") (λ n. n == 2) (behind word_of (codes "tiles" ∷ [])) (λ earlier. true)
+    ∷ row (codes "tau") (λ n. n == 2) (behind word_of (codes "tiles" ∷ [])) (λ earlier words. true)
       (λ earlier words. do
       n ← count_in 1 MOST_TAU (field words 1)
       Ok (TauLine n))
     ∷ row (codes "glue") (λ n. n == 3) (behind word_of (codes "tau" ∷ codes "glue" ∷ []))
-      (λ earlier. nat_lt (length (glue_names earlier)) MOST_GLUES) (λ earlier words. do
+      (λ earlier words. nat_lt (length (glue_names earlier)) MOST_GLUES) (λ earlier words. do
       name ← declared is_name (glue_names earlier) (field words 1)
       n ← count_in 0 MOST_STRENGTH (field words 2)
       Ok (GlueLine (record { name = name; strength = n })))
     ∷ row (codes "tile") (λ n. n == 6)
       (behind word_of (codes "tau" ∷ codes "glue" ∷ codes "pair" ∷ codes "tile" ∷ []))
-      (λ earlier. nat_lt (length (type_names earlier)) MOST_TYPES) (λ earlier words. do
+      (λ earlier words. nat_lt (length (type_names earlier)) MOST_TYPES) (λ earlier words. do
       name ← declared is_name (type_names earlier) (field words 1)
       n ← side earlier (field words 2)
       e ← side earlier (field words 3)
       s ← side earlier (field words 4)
       w ← side earlier (field words 5)
       Ok (TileLine (record { name = name; north = n; east = e; south = s; west = w })))
-    ∷ row (codes "box") (λ n. n == 5) (behind word_of (codes "tile" ∷ [])) (λ earlier. true)
+    ∷ row (codes "box") (λ n. n == 5) (behind word_of (codes "tile" ∷ [])) (λ earlier words. true)
       (λ earlier words. do
       area ← box_field (field words 1) (field words 2) (field words 3) (field words 4)
       _ ← require (is_box area) OutOfRange
       Ok (BoxLine area))
     ∷ row (codes "seed") (λ n. n == 4)
       (behind word_of (codes "box" ∷ if_two version (codes "seed")))
-      (λ earlier. nat_lt (length (filter_map seed_of earlier)) MOST_SEEDS) (λ earlier words. do
+      (λ earlier words. nat_lt (length (filter_map seed_of earlier)) MOST_SEEDS) (λ earlier words. do
       seed ← place_field (type_names earlier) (field words 1) (field words 2) (field words 3)
       _ ← require (is_inside (last_of (filter_map area_of earlier)) seed.site) SeedOutside
       _ ← require (not (is_seeded (filter_map seed_of earlier) seed.site)) DoubleSite
       Ok (SeedLine seed))
-    ∷ row (codes "end") (λ n. n == 1) (behind word_of (codes "seed" ∷ [])) (λ earlier. true)
+    ∷ row (codes "end") (λ n. n == 1) (behind word_of (codes "seed" ∷ [])) (λ earlier words. true)
       (λ earlier words. Ok EndLine)
     -- a pair is of two glues that differ and aren't paired yet
     ∷ if_two version (row (codes "pair") (λ n. n == 4)
       (behind word_of (codes "glue" ∷ codes "pair" ∷ []))
-      (λ earlier. nat_lt (length (filter_map pair_of earlier)) MOST_PAIRS) (λ earlier words. do
+      (λ earlier words. nat_lt (length (filter_map pair_of earlier)) MOST_PAIRS) (λ earlier words. do
       g ← referred is_name (glue_names earlier) (field words 1)
       h ← referred is_name (glue_names earlier) (field words 2)
       n ← count_in 0 MOST_STRENGTH (field words 3)

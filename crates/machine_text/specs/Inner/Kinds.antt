@@ -1,18 +1,12 @@
 -- The keywords of a machine text, as the code has them.
-use Rattle.std.specs.Prelude.{Bool, true, false, List, [], Option, Some, None, Err}
+use Rattle.std.specs.Prelude.{Bool, true, false, List, Option, Some, None}
 use Rattle.std.specs.List.{slice_index_or}
-use Rattle.tile_io.specs.declared.fault.Cause.TheVariants.{BadLine}
-use Rattle.tile_io.specs.Checks.{Keyword, told_by}
+use Rattle.tile_io.specs.Checks.{Keyword, told_by, row, no_row}
 use Rattle.machine_text.specs.declared.kind.LineKind.{LineKind}
 use Rattle.machine_text.specs.declared.kind.LineKind.TheVariants as kinds
 use Rattle.machine_text.specs.Machines.{TuringMachine}
-use Rattle.machine_text.specs.Rows.{row}
 use Rattle.machine_text.specs.MachineText.{MachineItem, machine_of, machine_rows}
 use Rattle.machine_text.specs.MachineText.MachineItem.{Header, StateLine, SymbolLine, RuleLine, CellsLine, RowsLine, HeadLine, TapeLine, EndLine}
-
--- in place of a row, where there is none
-abbrev pub no_row : {Before Item : Type 0} → Keyword Before Item
-no_row = row [] (λ n. false) (λ before. false) (λ M words. false) (λ M words. Err BadLine)
 
 -- the rows by their words
 abbrev pub machine_row : Keyword TuringMachine MachineItem

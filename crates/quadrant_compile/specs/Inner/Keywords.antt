@@ -1,10 +1,9 @@
 -- The keywords of a quadrant text, as the code has them.
 use Rattle.std.specs.Prelude.{Bool, true, false, List, Option, Some, None}
 use Rattle.std.specs.List.{slice_index_or}
-use Rattle.tile_io.specs.Checks.{Keyword, told_by}
+use Rattle.tile_io.specs.Checks.{Keyword, told_by, no_row}
 use Rattle.quadrant_compile.specs.declared.line_kind.LineKind.{LineKind}
 use Rattle.quadrant_compile.specs.declared.line_kind.LineKind.TheVariants as kinds
-use Rattle.machine_text.specs.Inner.Kinds.{no_row}
 use Rattle.quadrant_compile.specs.Quadrants.{RuleQuadrant}
 use Rattle.quadrant_compile.specs.QuadrantText.{QuadrantItem, quadrant_of, quadrant_rows}
 use Rattle.quadrant_compile.specs.QuadrantText.QuadrantItem.{Header, SymbolLine, RuleLine, SizeLine, BottomLine, LeftLine, EndLine}

@@ -1,9 +1,7 @@
 -- The keywords of growth and schedule texts, as the code has them.
-use Rattle.std.specs.Prelude.{ℕ, Bool, true, false, if◌then◌else◌, List, [], codes, bytes_eq, Option, Some, None, Err}
+use Rattle.std.specs.Prelude.{ℕ, Bool, true, false, if◌then◌else◌, List, codes, bytes_eq, Option, Some, None}
 use Rattle.std.specs.List.{slice_index_or}
-use Rattle.tile_io.specs.declared.fault.Cause.TheVariants.{BadLine}
-use Rattle.tile_io.specs.Checks.{Keyword}
-use Rattle.tile_text.specs.Rows.{row}
+use Rattle.tile_io.specs.Checks.{Keyword, row, no_row}
 use Rattle.atam.specs.TileSystem.{TileSystem}
 use Rattle.atam.specs.declared.event.Event.{Event}
 use Rattle.seq_text.specs.declared.kind.LineKind.{LineKind}
@@ -13,10 +11,6 @@ use Rattle.seq_text.specs.declared.action.Action.TheVariants as actions
 use Rattle.seq_text.specs.GrowthText.{GrowthItem, growth_rows}
 use Rattle.seq_text.specs.GrowthText.GrowthItem.{PlaceLine, ClosedLine, UniqueLine}
 use Rattle.seq_text.specs.ScheduleText.{schedule_rows}
-
--- in place of a row, where there is none
-abbrev no_row : {Item : Type 0} → Keyword (List Item) Item
-no_row = row [] (λ n. false) (λ before. false) (λ earlier. false) (λ earlier words. Err BadLine)
 
 -- the row of a keyword in the table of growth texts
 abbrev pub row_of : Bool → TileSystem → LineKind → Keyword (List GrowthItem) GrowthItem
