@@ -13,48 +13,34 @@ abbrev pub name_or_none : TileSystem → Option TypeId → List ℕ
 name_or_none sys None = codes "-"
 name_or_none sys (Some t) = type_name sys t
 
--- what was seen at a site, that a claim was won or which type holds the site, and the name of the new or of the joined scout
-abbrev pub told_line : TileSystem → Seen → List ℕ
-told_line sys (Saw there) = line_of (codes "saw" ∷ name_or_none sys there ∷ [])
-told_line sys Won = line_of (codes "won" ∷ [])
-told_line sys (Held t) = line_of (codes "held" ∷ type_name sys t ∷ [])
-told_line sys (Divided name) = line_of (codes "split" ∷ decimal name ∷ [])
-told_line sys (Joined name) = line_of (codes "joined" ∷ decimal name ∷ [])
-
--- why an event is refused, by its number; a claim that isn't supported with its pull. Want of memory has no line.
-abbrev pub refusal_line : CoreStop → List ℕ
-refusal_line NoSuchScout = line_of (codes "refused" ∷ codes "1" ∷ [])
-refusal_line (NotSupported pull) = line_of (codes "refused" ∷ codes "2" ∷ decimal pull ∷ [])
-refusal_line OutsideBox = line_of (codes "refused" ∷ codes "3" ∷ [])
-refusal_line NoNumberLeft = line_of (codes "refused" ∷ codes "4" ∷ [])
-refusal_line NoMemory = []
-
--- the answer to an event
+-- The answer to an event: what was seen at a site, that a claim was won or which type holds the site,
+-- and the name of the new or of the joined scout; or why the event is refused, by its number, and for
+-- a claim that isn't supported its pull. Want of memory has no line.
 abbrev pub seen_line : TileSystem → Result Seen CoreStop → List ℕ
-seen_line sys (Ok seen) = told_line sys seen
-seen_line sys (Err stop) = refusal_line stop
+seen_line sys (Ok (Saw there)) = line_of (codes "saw" ∷ name_or_none sys there ∷ [])
+seen_line sys (Ok Won) = line_of (codes "won" ∷ [])
+seen_line sys (Ok (Held t)) = line_of (codes "held" ∷ type_name sys t ∷ [])
+seen_line sys (Ok (Divided name)) = line_of (codes "split" ∷ decimal name ∷ [])
+seen_line sys (Ok (Joined name)) = line_of (codes "joined" ∷ decimal name ∷ [])
+seen_line sys (Err NoSuchScout) = line_of (codes "refused" ∷ codes "1" ∷ [])
+seen_line sys (Err (NotSupported pull)) = line_of (codes "refused" ∷ codes "2" ∷ decimal pull ∷ [])
+seen_line sys (Err OutsideBox) = line_of (codes "refused" ∷ codes "3" ∷ [])
+seen_line sys (Err NoNumberLeft) = line_of (codes "refused" ∷ codes "4" ∷ [])
+seen_line sys (Err NoMemory) = []
 
 -- the answers to the events of a schedule, in its order
 abbrev pub seen_lines : TileSystem → List (Result Seen CoreStop) → List ℕ
 seen_lines sys answers = flat_map (seen_line sys) answers
 
--- a type that a scout is told is one of the system
-abbrev pub TellsTypes : TileSystem → Seen → Type 0
-TellsTypes sys (Saw there) = IfSome there (IsType sys)
-TellsTypes sys Won = Unit {0}
-TellsTypes sys (Held t) = IsType sys t
-TellsTypes sys (Divided name) = Unit {0}
-TellsTypes sys (Joined name) = Unit {0}
-
--- anything but want of memory
-abbrev pub IsRefusal : CoreStop → Type 0
-IsRefusal NoSuchScout = Unit {0}
-IsRefusal (NotSupported pull) = Unit {0}
-IsRefusal OutsideBox = Unit {0}
-IsRefusal NoNumberLeft = Unit {0}
-IsRefusal NoMemory = ⊥
-
--- the answer has a line
+-- the answer has a line, which names a type of the system if any: each has but want of memory
 abbrev pub HasLine : TileSystem → Result Seen CoreStop → Type 0
-HasLine sys (Ok seen) = TellsTypes sys seen
-HasLine sys (Err stop) = IsRefusal stop
+HasLine sys (Ok (Saw there)) = IfSome there (IsType sys)
+HasLine sys (Ok Won) = Unit {0}
+HasLine sys (Ok (Held t)) = IsType sys t
+HasLine sys (Ok (Divided name)) = Unit {0}
+HasLine sys (Ok (Joined name)) = Unit {0}
+HasLine sys (Err NoSuchScout) = Unit {0}
+HasLine sys (Err (NotSupported pull)) = Unit {0}
+HasLine sys (Err OutsideBox) = Unit {0}
+HasLine sys (Err NoNumberLeft) = Unit {0}
+HasLine sys (Err NoMemory) = ⊥

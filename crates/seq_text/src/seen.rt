@@ -1,8 +1,9 @@
 // The lines on what scouts are told.
-ghost use Rattle.std.specs.Prelude.{All};
+ghost use Rattle.std.specs.Prelude.{All, Ok, Err};
+ghost use Rattle.atam.specs.TileSystem.{TileSystem};
 ghost use Rattle.tile_io.specs.Prints.{Prints};
 ghost use Rattle.tile_io.specs.Chunks.{PassesOn};
-ghost use Rattle.seq_text.specs.SeenLines.{told_line, refusal_line, seen_line, seen_lines, TellsTypes, IsRefusal, HasLine};
+ghost use Rattle.seq_text.specs.SeenLines.{seen_line, seen_lines, HasLine};
 
 use atam::{CoreStop, Seen};
 use itoa::Buffer;
@@ -78,9 +79,9 @@ fn put_told<K: Sink>(
     chunk: &mut Chunk,
     sink: &mut K,
 ) -> Result<(), Failed>
-    requires { TellsTypes sys.now seen }
+    requires { HasLine sys.now (Ok seen) }
     ensures { PassesOn K.written K.faults sink.old sink.new chunk.old chunk.new result
-        (told_line sys.now seen) }
+        (seen_line sys.now (Ok seen)) }
 {
     match seen {
         Seen::Saw(None) => chunk.put_line(sink, b"saw", &[b"-"]),
@@ -100,9 +101,9 @@ fn put_told<K: Sink>(
 
 // Adds the line of a refusal.
 fn put_refusal<K: Sink>(stop: CoreStop, chunk: &mut Chunk, sink: &mut K) -> Result<(), Failed>
-    requires { IsRefusal stop }
-    ensures { PassesOn K.written K.faults sink.old sink.new chunk.old chunk.new result
-        (refusal_line stop) }
+    requires { (sys : TileSystem) × HasLine sys (Err stop) }
+    ensures { (sys : TileSystem) → PassesOn K.written K.faults sink.old sink.new chunk.old chunk.new
+        result (seen_line sys (Err stop)) }
 {
     match stop {
         CoreStop::NoSuchScout => chunk.put_line(sink, b"refused", &[b"1"]),

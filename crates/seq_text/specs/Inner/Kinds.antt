@@ -1,7 +1,7 @@
 -- The keywords of growth and schedule texts, as the code has them.
 use Rattle.std.specs.Prelude.{ℕ, Bool, true, false, if◌then◌else◌, List, codes, bytes_eq, Option, Some, None}
 use Rattle.std.specs.List.{slice_index_or}
-use Rattle.tile_io.specs.Checks.{Keyword, row, no_row}
+use Rattle.tile_io.specs.Checks.{Keyword, no_row}
 use Rattle.atam.specs.TileSystem.{TileSystem}
 use Rattle.atam.specs.declared.event.Event.{Event}
 use Rattle.seq_text.specs.declared.kind.LineKind.{LineKind}
