@@ -8,6 +8,7 @@ use Rattle.tile_io.specs.Checks.{◌>>=◌, require, field, count_in, Keyword, T
 use Rattle.atam.specs.Placements.{tile_at}
 use Rattle.atam.specs.TileSystem.{TileSystem}
 use Rattle.tile_text.specs.Fields.{place_field}
+use Rattle.tile_text.specs.Rows.{row}
 use Rattle.tile_text.specs.SystemText.{is_in_box}
 use Rattle.seq_text.specs.GrowthText.{names_of}
 use Rattle.cert_check.specs.declared.entry.Entry.{Entry}
@@ -30,19 +31,15 @@ entry_fields sys words = do
   rank ← rank_field (field words 5)
   Ok (record { place = p; sides = sides; rank = rank })
 
--- the row of the table: the lines stand in any order, the site is in the box, and no earlier entry has it
+-- the row of the table: the lines stand in any order, the site is in the box, and no earlier entry
+-- has it
 abbrev pub mark_row : TileSystem → Keyword (List Entry) Entry
-mark_row sys = record {
-  word = codes "mark";
-  has_words = λ n. n == 6;
-  may_follow = λ before. true;
-  has_room = λ earlier words. true;
-  fields = λ earlier words. do
-    e ← entry_fields sys words
-    _ ← require (is_in_box sys.area e.place.site) OutsideBox
-    _ ← require (is_none (tile_at (places_of earlier) e.place.site)) DoubleSite
-    Ok e;
-}
+mark_row sys =
+    row (codes "mark") (λ n. n == 6) (λ before. true) (λ earlier. true) (λ earlier words. do
+      e ← entry_fields sys words
+      _ ← require (is_in_box sys.area e.place.site) OutsideBox
+      _ ← require (is_none (tile_at (places_of earlier) e.place.site)) DoubleSite
+      Ok e)
 
 -- the table of the certificate texts of a system: there is no header and no end line, and the input may end after any line
 unfoldable pub certificate_table : TileSystem → Table Entry
