@@ -40,12 +40,16 @@ def break_told(it: conditions.Break) -> str:
     return f"{what} {many}{sites_told(it)} ({it.bonds})"
 
 
-def breaks_told(growth: Growth) -> Iterator[str]:
-    """All sites that break a condition, by pair of types, where the verdict names one of several."""
+def breaks_of(growth: Growth) -> list[conditions.Break]:
+    """All sites that break a condition like the one that the verdict names, by pair of types."""
     verdict = growth.verdict
     if verdict is None or verdict.is_yes:
-        return
-    found = conditions.breaks_of_sites(growth) if verdict.condition == 3 else conditions.breaks_of_tiles(growth)
+        return []
+    return conditions.breaks_of_sites(growth) if verdict.condition == 3 else conditions.breaks_of_tiles(growth)
+
+
+def breaks_told(found: list[conditions.Break]) -> Iterator[str]:
+    """All sites that break a condition, where the verdict names one of several."""
     if sum(it.count for it in found) < 2:
         return
     yield "in all:"
@@ -62,18 +66,23 @@ def untaken_told(growth: Growth) -> Iterator[str]:
 
 
 def growth_told(growth: Growth) -> Iterator[str]:
-    """The lines behind the places, and behind each what it means."""
+    """The lines behind the places, and behind each what it means. What a wider box brings is told where nothing else
+    can grow in this one, and of the types that are placed nowhere those alone that are not told of as rivals."""
+    verdict, found = growth.verdict, breaks_of(growth)
     if growth.closed is not None:
-        advice = wider.wider_told(growth) if growth.closed.site is not None else ""
+        is_cut = growth.closed.site is not None and (verdict is None or verdict.is_one_within)
+        advice = wider.wider_told(growth) if is_cut else ""
         yield growth.closed.words
         yield f"  {answers.closed_told(growth)}" + (f". {advice}" if advice else "")
-    if growth.verdict is not None:
-        yield growth.verdict.words
+    if verdict is not None:
+        yield verdict.words
         yield f"  {answers.verdict_told(growth)}"
-        yield from (f"  {it}" for it in breaks_told(growth))
+        yield from (f"  {it}" for it in breaks_told(found))
     yield from (f"  {it}" for it in untaken_told(growth))
-    if growth.unplaced:
-        yield f"  placed nowhere: {lines.listed(growth.unplaced)}; tools/lint looks for what they lack"
+    rivals = {it.other for it in found if it.condition == 2}
+    missing = [it for it in growth.unplaced if it not in rivals]
+    if missing:
+        yield f"  placed nowhere: {lines.listed(missing)}; tools/lint looks for what they lack"
 
 
 def line_of(growth: Growth, words: list[str]) -> list[str]:
