@@ -38,7 +38,9 @@ export function* guessHeader({ line, words, command }) {
     yield "the system stands first: cat SYSTEM FILE";
   } else if (words.length && isIn((isKind ? KINDS[command] : KINDS.system).before, word)) {
     yield "the line itself may be fine: the header is missing above it";
-  } else if (word === "tiles") yield "a system is written in version 1 or 2, and nothing else stands in its header";
+  } else if (word === "tiles" && guessBytes(line).next().done) {
+    yield "a system is written in version 1 or 2, and nothing else stands in its header";
+  }
 }
 
 // Of the words that are to be numbers, the first one that is none.

@@ -41,7 +41,7 @@ function* guesses(it) {
   yield* BEHIND[cause]?.(it) ?? [];
 }
 
-const isHidden = (it) => it.line.includes(9) || it.line[it.line.length - 1] === 13;
+const isHidden = (it) => !guessBytes(it.line).next().done;
 
 const BEHIND = {
   *NoHeader(it) {

@@ -243,3 +243,20 @@ def test_a_refused_claim_in_words():
     assert told[1].startswith(
         "  refused 2 0: K at (2, 0) would be held with 0 by the tiles that scout 0 has seen, and the temperature is 2"
     )
+
+
+@pytest.mark.parametrize("planted", ["ends of Windows", "one end of Windows", "tabs", "a long dash"])
+def test_a_byte_that_is_seen_is_the_only_guess(planted):
+    """The cause, the line and one guess."""
+    assert len(tb.refusal(REFUSED[planted][0]).reasons()) == 3
+
+
+def test_a_rival_is_not_told_to_lack_something():
+    told = tb.grow(GROWN["two types for one input"][0]).explain()
+    assert "im1n2 for im1n at 2 sites" in told and "placed nowhere" not in told
+
+
+def test_a_wider_box_is_tried_where_nothing_else_can_grow_in_this_one():
+    assert "Widen the box to the north by 3" in tb.grow(GROWN["a small box"][0]).explain()
+    told = tb.grow(GROWN["temperature 1"][0]).explain()
+    assert "the box cuts the growth off" in told and "A box twice as large" not in told

@@ -203,7 +203,7 @@ def guess_header(line: bytes, words: list[str], command: str) -> Iterator[str]:
         yield "the system stands first: cat SYSTEM FILE"
     elif words and words[0] in KINDS.get(command, SYSTEM).before:
         yield "the line itself may be fine: the header is missing above it"
-    elif words[:1] == ["tiles"]:
+    elif words[:1] == ["tiles"] and not any(guess_bytes(line)):
         yield "a system is written in version 1 or 2, and nothing else stands in its header"
 
 
@@ -409,8 +409,8 @@ class Case:
 
     @property
     def is_plain(self) -> bool:
-        """Whether no byte of it is one that an editor hides."""
-        return b"\t" not in self.line and not self.line.endswith(b"\r")
+        """Whether no byte of it is one that an editor hides, or that looks like another."""
+        return not any(guess_bytes(self.line))
 
     def of_job(self) -> Case:
         """The same with the lines of other jobs emptied, since each job has names of its own."""
