@@ -4,11 +4,10 @@ use Rattle.tile_io.specs.declared.fault.Cause.{Cause}
 use Rattle.tile_io.specs.declared.fault.Cause.TheVariants.{BadName, OutsideBox, DoubleSite}
 use Rattle.tile_io.specs.declared.mark.Mark.{Mark}
 use Rattle.tile_io.specs.Formats.{Format, Reads}
-use Rattle.tile_io.specs.Checks.{◌>>=◌, require, field, count_in, Keyword, Table, table_format}
+use Rattle.tile_io.specs.Checks.{◌>>=◌, require, field, count_in, Keyword, Table, table_format, row}
 use Rattle.atam.specs.Placements.{tile_at}
 use Rattle.atam.specs.TileSystem.{TileSystem}
 use Rattle.tile_text.specs.Fields.{place_field}
-use Rattle.tile_text.specs.Rows.{row}
 use Rattle.tile_text.specs.SystemText.{is_in_box}
 use Rattle.seq_text.specs.GrowthText.{names_of}
 use Rattle.cert_check.specs.declared.entry.Entry.{Entry}
@@ -35,7 +34,7 @@ entry_fields sys words = do
 -- has it
 abbrev pub mark_row : TileSystem → Keyword (List Entry) Entry
 mark_row sys =
-    row (codes "mark") (λ n. n == 6) (λ before. true) (λ earlier. true) (λ earlier words. do
+    row (codes "mark") (λ n. n == 6) (λ before. true) (λ earlier words. true) (λ earlier words. do
       e ← entry_fields sys words
       _ ← require (is_in_box sys.area e.place.site) OutsideBox
       _ ← require (is_none (tile_at (places_of earlier) e.place.site)) DoubleSite
