@@ -74,9 +74,11 @@ impl Outcome {
     {
         let FilledInOrder { grid, order, clean } = filled(rt, alloc, sys, types, choice)?;
         let (verdict, outside) = judge_order(alloc, sys, grid, types, &order, clean)?;
-        // A copy, since the sequence has room for the whole box.
+        let mut sequence = order;
+        // It has room for the whole box.
+        sequence.shrink_to_fit();
         Ok(Outcome {
-            sequence: order.copy()?,
+            sequence,
             outside,
             verdict,
         })

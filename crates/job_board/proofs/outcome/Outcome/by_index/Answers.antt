@@ -8,7 +8,7 @@ pub returns : goal.returns
 returns g c =
     let sys = c.args.sys.now in
     let tiles = c.in_ok-grid.field-0.grid.tiles in
-    let same : c.in_ok-copy.field-0 ≡ c.in_ok-grid.field-0.order = c.in_ok-copy.ensures in
+    let same : c.shrink_to_fit.new.self ≡ c.in_ok-grid.field-0.order = c.shrink_to_fit.ensures in
     record {
       tiles = tiles;
       told = record {
