@@ -216,7 +216,7 @@ one_in_system : (text : List ℕ) (at : Mark) (jobs : List Job) (m n : ℕ) (a b
     LacksSystem text at m a ⊎ HasSystemFault text at m a ⊎ HasTooManySites text at jobs m a → LacksSystem text at n b ⊎ HasSystemFault text at n b ⊎ HasTooManySites text at jobs n b → SameFault m n a b
 one_in_system text at jobs m n a b (inl lacks) (inl other) =
     let end = (reads_once nothing_more text at _ _ lacks.end other.end lacks.none other.none).1 in
-    (lacks.early.number_is ∙ ap (λ (mark : Mark). mark.line) end ∙ sym other.early.number_is, lacks.early.cause_is ∙ sym other.early.cause_is)
+    (lacks.number_is ∙ ap (λ (mark : Mark). mark.line) end ∙ sym other.number_is, lacks.cause_is ∙ sym other.cause_is)
 one_in_system text at jobs m n a b (inl lacks) (inr (inl fault)) = absurd (fault.some (lacks.end, lacks.none))
 one_in_system text at jobs m n a b (inl lacks) (inr (inr sites)) = absurd (no_system text at sites.to sites.sys (lacks.end, lacks.none) sites.reads)
 one_in_system text at jobs m n a b (inr (inl fault)) (inl lacks) = absurd (fault.some (lacks.end, lacks.none))
@@ -238,7 +238,7 @@ one_next text at jobs m n a b (inl fault) (inr (inr fails)) = absurd (not_both _
 one_next text at jobs m n a b (inr (inl lacks)) (inl fault) = absurd (not_both _ text at _ lacks.end n b lacks.ends fault)
 one_next text at jobs m n a b (inr (inl lacks)) (inr (inl other)) =
     let end = (reads_once _ text at _ _ lacks.end other.end lacks.ends other.ends).1 in
-    (lacks.early.number_is ∙ ap (λ (mark : Mark). mark.line) end ∙ sym other.early.number_is, lacks.early.cause_is ∙ sym other.early.cause_is)
+    (lacks.number_is ∙ ap (λ (mark : Mark). mark.line) end ∙ sym other.number_is, lacks.cause_is ∙ sym other.cause_is)
 one_next text at jobs m n a b (inr (inl lacks)) (inr (inr fails)) =
     let line = reads_once _ text at _ _ fails.behind lacks.end fails.line lacks.ends in
     absurd (cc line.0)
@@ -381,7 +381,7 @@ sites_or_fault text at to jobs sys reads = elim (within_or_more (sites_of jobs +
 
 system_or_fault : (text : List ℕ) (at : Mark) (jobs : List Job) → IsRead nothing_more text at ⊎ IsFaulty nothing_more text at → SystemOrFault text at jobs
 system_or_fault text at jobs (inl ([], end, none)) =
-    inr (end.line, NoEnd, inl (record { end = end; none = none; early = record { number_is = refl; cause_is = refl } }))
+    inr (end.line, NoEnd, inl (record { end = end; none = none; number_is = refl; cause_is = refl }))
 system_or_fault text at jobs (inl (item ∷ items, end, reads)) = absurd item
 system_or_fault text at jobs (inr (number, cause, more)) = elim (any_one text at) [
   | inl (sys, to, reads) ↦ sites_or_fault text at to jobs sys reads
@@ -391,7 +391,7 @@ system_or_fault text at jobs (inr (number, cause, more)) = elim (any_one text at
 -- behind the header and some jobs the input ends
 ends_here : (text : List ℕ) (from at end : Mark) (jobs : List Job) → BeginsBatch text from jobs at → ReadsLine (Behind (length jobs)) text at None end → IsReadBatch text from ⊎ IsFaultyBatch text from
 ends_here text from at end [] begins ends =
-    inr (end.line, NoEnd, batch_fails text from at [] end.line NoEnd begins (inr (inl (record { none = refl; end = end; ends = ends; early = record { number_is = refl; cause_is = refl } }))))
+    inr (end.line, NoEnd, batch_fails text from at [] end.line NoEnd begins (inr (inl (record { none = refl; end = end; ends = ends; number_is = refl; cause_is = refl }))))
 ends_here text from at end (job ∷ jobs) begins ends = inl (job ∷ jobs, batch_ends text from at (job ∷ jobs) begins (record { some = omega arith; end = end; ends = ends }))
 
 begins_more : (text : List ℕ) (from at to : Mark) (jobs : List Job) (job : Job) → BeginsBatch text from jobs at → ReadsJob text at (length jobs) job to → sites_of jobs + cell_count job.sys.area ≤ MOST_SITES →

@@ -52,7 +52,7 @@ something_more text from number cause more none = not_both nothing_more text fro
 
 -- the input ends behind a job's line
 pub system_lacks : (text : List ℕ) (from : Mark) (number : ℕ) → HasNoMore text from → number ≡ from.line + length (lines_from text from) → LacksSystem text from number NoEnd
-system_lacks text from number none is = record { end = none.0; none = none.1; early = record { number_is = is ∙ sym (end_line text from none.0 none.1); cause_is = refl } }
+system_lacks text from number none is = record { end = none.0; none = none.1; number_is = is ∙ sym (end_line text from none.0 none.1); cause_is = refl }
 
 -- a system's fault, and too many sites
 pub system_fails : (text : List ℕ) (from : Mark) (jobs : List Job) (number : ℕ) (cause : Cause) → ¬ HasNoMore text from → FaultAny text from number cause →
@@ -81,7 +81,7 @@ job_fails text from behind jobs choice NoMemory line fails = tt
 
 -- no job was found, and there is none
 pub jobs_lack : (text : List ℕ) (from end : Mark) (jobs : List Job) → jobs ≡ [] → FindsLine (Behind (length jobs)) text from None end → FailsNext text from jobs end.line NoEnd
-jobs_lack text from end jobs none line = inr (inl (record { none = none; end = end; ends = line.reads; early = record { number_is = refl; cause_is = refl } }))
+jobs_lack text from end jobs none line = inr (inl (record { none = none; end = end; ends = line.reads; number_is = refl; cause_is = refl }))
 
 pub some_job : (jobs : List Job) → jobs ≢ [] → 1 ≤ length jobs
 some_job [] some = absurd (some refl)

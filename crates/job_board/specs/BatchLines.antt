@@ -6,28 +6,21 @@ use Rattle.tile_io.specs.declared.fault.Cause.TheVariants.{NoHeader}
 use Rattle.tile_io.specs.declared.mark.Mark.{Mark}
 use Rattle.tile_io.specs.Formats.{Format, Reads}
 use Rattle.tile_io.specs.Checks.{◌>>=◌, require, field, count_in, Keyword, Table, table_format}
+use Rattle.tile_text.specs.Rows.{row}
 use Rattle.job_board.specs.declared.limits.TheConstants.{MOST_JOBS, GREATEST_CHOICE}
 use Rattle.job_board.specs.declared.position.Position.{Position}
 use Rattle.job_board.specs.declared.position.Position.TheVariants.{AtStart, Behind}
 use Rattle.job_board.specs.declared.position.BatchItem.{BatchItem}
 use Rattle.job_board.specs.declared.position.BatchItem.TheVariants.{Header, JobLine}
 
--- a row of the table: the word, the limit and the field; each line has two words, and is the first one that is read
-abbrev pub batch_row : List ℕ → Bool → (List (List ℕ) → Result BatchItem Cause) → Keyword (List BatchItem) BatchItem
-batch_row word room fields = record {
-  word = word;
-  has_words = λ n. n == 2;
-  may_follow = is_none;
-  has_room = λ earlier words. room;
-  fields = λ earlier words. fields words;
-}
-
--- The one keyword that may stand at a position: the header at the start, and behind so many jobs another one.
+-- The one keyword that may stand at a position, as the first line that is read: the header at the
+-- start, and behind so many jobs another one.
 abbrev pub row_at : Position → Keyword (List BatchItem) BatchItem
-row_at AtStart = batch_row (codes "batch") true (λ words. do
+row_at AtStart = row (codes "batch") (λ n. n == 2) is_none (λ earlier. true) (λ earlier words. do
   _ ← require (bytes_eq (field words 1) (codes "1")) NoHeader
   Ok Header)
-row_at (Behind jobs) = batch_row (codes "job") (nat_lt jobs MOST_JOBS) (λ words. do
+row_at (Behind jobs) = row (codes "job") (λ n. n == 2) is_none (λ earlier. nat_lt jobs MOST_JOBS)
+  (λ earlier words. do
   choice ← count_in 0 GREATEST_CHOICE (field words 1)
   Ok (JobLine choice))
 

@@ -47,16 +47,12 @@ pub record ReadsBatch (text : List ℕ) (from : Mark) (jobs : List Job) : Type 0
   pub end : Mark
   pub ends : ReadsLine (Behind (length jobs)) text last None end
 
--- the input ends here before the text does
-pub record EndsEarly (end : Mark) (number : ℕ) (cause : Cause) : Type 0 where
-  pub number_is : number ≡ end.line
-  pub cause_is : cause ≡ NoEnd
-
 -- behind the line of a job the input ends with no header of a system
 pub record LacksSystem (text : List ℕ) (from : Mark) (number : ℕ) (cause : Cause) : Type 0 where
   pub end : Mark
   pub none : Reads nothing_more text from [] end
-  pub early : EndsEarly end number cause
+  pub number_is : number ≡ end.line
+  pub cause_is : cause ≡ NoEnd
 
 -- something stands there, and it has this fault as the text of a system
 pub record HasSystemFault (text : List ℕ) (from : Mark) (number : ℕ) (cause : Cause) : Type 0 where
@@ -84,7 +80,8 @@ pub record LacksJobs (text : List ℕ) (from : Mark) (jobs : List Job) (number :
   pub none : jobs ≡ []
   pub end : Mark
   pub ends : ReadsLine (Behind (length jobs)) text from None end
-  pub early : EndsEarly end number cause
+  pub number_is : number ≡ end.line
+  pub cause_is : cause ≡ NoEnd
 
 -- what may fail behind jobs
 abbrev pub FailsNext : List ℕ → Mark → List Job → ℕ → Cause → Type 0
