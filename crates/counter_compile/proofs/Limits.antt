@@ -21,7 +21,8 @@ use Rattle.counter_compile.specs.declared.kind.Kind.TheVariants.{First, AddEast,
 use Rattle.counter_compile.specs.declared.label.Label.{Label}
 use Rattle.counter_compile.specs.declared.label.Label.TheVariants.{BitWest, Bit, BitEast, SumEast, Carry, SumWest, GoAhead, Chain}
 use Rattle.counter_compile.specs.declared.stop.CounterStop.TheVariants.{BitsOutOfRange, StartTooLarge, TooTall}
-use Rattle.counter_compile.specs.Tiles.{kind_name, label_name, strength, kinds_of, labels_of, tiles_of, later_kinds, fixed_labels}
+use Rattle.counter_compile.specs.Tiles.{kind_name, kinds_of, labels_of, tiles_of, later_kinds, fixed_labels}
+use Rattle.counter_compile.specs.Inner.Labels.{label_name, strength}
 use Rattle.counter_compile.specs.Counters.{counter_refusal, row_count, counter_box, counter_system}
 use Rattle.counter_compile.specs.Inner.Accepted.{IsAccepted}
 use Rattle.counter_compile.proofs.Listed.{IsKind, IsLabel, listed_kind, listed_label, kind_listed, is_tile_set}

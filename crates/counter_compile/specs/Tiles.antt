@@ -90,36 +90,16 @@ kind_number last (CopyWest b) = suc last + 10 + digit b
 kind_number last (CopyMiddle b) = suc last + 12 + digit b
 kind_number last (CopyEast b) = suc last + 14 + digit b
 
--- the labels with their names, strengths and numbers
-abbrev pub label_name : Label → List ℕ
-label_name (BitWest b) = codes "w" ++ decimal (digit b)
-label_name (Bit b) = codes "v" ++ decimal (digit b)
-label_name (BitEast b) = codes "e" ++ decimal (digit b)
-label_name (SumEast b) = codes "x" ++ decimal (digit b)
-label_name (Carry b) = codes "c" ++ decimal (digit b)
-label_name (SumWest b) = codes "t" ++ decimal (digit b)
-label_name GoAhead = codes "k"
-label_name (Chain i) = codes "p:" ++ decimal i
-
-abbrev pub strength : Label → ℕ
-strength (BitWest b) = 1
-strength (Bit b) = 1
-strength (BitEast b) = 2
-strength (SumEast b) = 1
-strength (Carry b) = 1
-strength (SumWest b) = 2
-strength GoAhead = 1
-strength (Chain i) = 2
-
-abbrev pub label_number : Label → ℕ
-label_number (BitWest b) = digit b
-label_number (Bit b) = 2 + digit b
-label_number (BitEast b) = 4 + digit b
-label_number (SumEast b) = 6 + digit b
-label_number (Carry b) = 8 + digit b
-label_number (SumWest b) = 10 + digit b
-label_number GoAhead = 12
-label_number (Chain i) = 12 + i
+-- the table of labels: the place of each in the list of labels, its strength and its name
+abbrev pub label_row : Label → ℕ × ℕ × List ℕ
+label_row (BitWest b) = (digit b, 1, codes "w" ++ decimal (digit b))
+label_row (Bit b) = (2 + digit b, 1, codes "v" ++ decimal (digit b))
+label_row (BitEast b) = (4 + digit b, 2, codes "e" ++ decimal (digit b))
+label_row (SumEast b) = (6 + digit b, 1, codes "x" ++ decimal (digit b))
+label_row (Carry b) = (8 + digit b, 1, codes "c" ++ decimal (digit b))
+label_row (SumWest b) = (10 + digit b, 2, codes "t" ++ decimal (digit b))
+label_row GoAhead = (12, 1, codes "k")
+label_row (Chain i) = (12 + i, 2, codes "p:" ++ decimal i)
 
 -- the tiles of later rows: of those that add, and then of those that copy
 abbrev pub later_kinds : List Kind
@@ -179,9 +159,9 @@ tiles_of last v = record {
   kinds = kinds_of last;
   labels = labels_of last;
   side = λ k. on_side (sides_of last v k);
-  strength = strength;
+  strength = λ g. (label_row g).1;
   kind_number = kind_number last;
-  label_number = label_number;
+  label_number = λ g. (label_row g).0;
   kind_name = kind_name;
-  label_name = label_name;
+  label_name = λ g. (label_row g).2;
 }
