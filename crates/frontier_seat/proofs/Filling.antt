@@ -28,8 +28,8 @@ use Rattle.grow_core.specs.Steps.{place}
 use Rattle.number_set.specs.Numbers.{Numbers, IsIn}
 use Rattle.frontier_seat.specs.declared.work_list.Spot.{Spot}
 use Rattle.frontier_seat.specs.Inner.Listings.{ListsAround}
-use Rattle.frontier_seat.specs.Inner.Looks.{IsClosedBut, IsTaken}
-use Rattle.frontier_seat.specs.Inner.Fillings.{IsFilling, ListsBeside, ListsOn}
+use Rattle.frontier_seat.specs.Inner.Looks.{IsClosedBut, IsTaken, ListsOn}
+use Rattle.frontier_seat.specs.Inner.Fillings.{IsFilling, ListsBeside}
 
 -- a site is not beside itself
 neighbor_differs : (m : Site) (d : Side) → m ≢ neighbor m d

@@ -24,18 +24,22 @@ use Rattle.grow_core.specs.declared.placed_tile.PlacedTile.{PlacedTile}
 use Rattle.grow_core.specs.Core.{ScoutState, least, places}
 use Rattle.grow_core.proofs.Listed.{unplaced, whole_place}
 use Rattle.grow_core.specs.Steps.{place, tile_of, Supports, Sees, Wins}
-use Rattle.site_table.specs.Seats.{GoesOn, IsSeatOf, SeatValue, TableValue}
+use Rattle.site_table.specs.Seats.{GoesOn, IsSeatOf, SeatValue}
 use Rattle.site_table.specs.Rule.{IsPossible}
 use Rattle.site_table.proofs.Seen.{seen_fits}
 use Rattle.frontier_seat.specs.declared.growing.Growing.{Growing}
 use Rattle.frontier_seat.specs.Growths.{ClaimsNothing, EndsBurst, IsGrowing, GrowsOn}
 use Rattle.frontier_seat.specs.declared.bursting.Burst.{Burst}
 use Rattle.frontier_seat.specs.declared.bursting.Burst.TheVariants.{Quiet, Spent}
-use Rattle.frontier_seat.specs.Inner.Looks.{CanLook, CatchesUp, Puts, ClaimsAt, ClaimsPick, IsTaken, ListsOpen, LooksAt}
+use Rattle.frontier_seat.specs.Inner.Looks.{CanLook, CatchesUp, Puts, ClaimsAt, ClaimsPick, HasListed, HasTaken, ListsOpen, LooksAt}
+use Rattle.frontier_seat.specs.Inner.Pickers.{IsPickerOf}
+use Rattle.frontier_seat.specs.declared.grower.Grower.{Grower}
+use Rattle.frontier_seat.specs.declared.grower.Lent.{Lent}
+use Rattle.frontier_seat.specs.declared.picking.Picker.{Picker}
 use Rattle.number_set.specs.Numbers.{Numbers, IsIn, Removes}
 use Rattle.assembly.specs.Cells.{cell_count}
 use Rattle.frontier_seat.specs.declared.work_list.Spot.{Spot}
-use Rattle.frontier_seat.specs.Inner.Listings.{ListedSites, ListsAround, IsSpot}
+use Rattle.frontier_seat.specs.Inner.Listings.{ListsAround, IsSpot}
 use Rattle.frontier_seat.proofs.Listing.{closed_none, taken_out}
 use Rattle.frontier_seat.proofs.Filling.{beside_still, lists_filled, lists_unfilled}
 
@@ -127,42 +131,48 @@ goes_further a b c first second =
     }
 
 -- after a look it can look on
-pub can_again : (sys : TileSystem) (table : TableValue) (before after : Growing) (old new : ListedSites) →
-    CanLook sys table before old → GrowsOn before after → IsGrowing sys after → new.area ≡ old.area →
-    CanLook sys table after new
-can_again sys table before after old new can goes growing area = record {
-  seat = record { table = goes.seat.table ∙ can.seat.table; sys = goes.seat.sys ∙ can.seat.sys };
+pub can_again : (lent : Lent) (before after : Grower) →
+    CanLook lent before → GrowsOn before.growing after.growing → IsGrowing lent.sys.now after.growing → IsPickerOf lent.sys.now after.picker → after.work.area ≡ before.work.area →
+    CanLook lent after
+can_again lent before after can goes growing picker area = record {
+  box = can.box;
   system = can.system;
+  seat = record { table = goes.seat.table ∙ can.seat.table; sys = goes.seat.sys ∙ can.seat.sys };
   growing = growing;
+  picker = picker;
   area = area ∙ can.area;
 }
 
 -- of a seat of the table
-pub can_look : (sys : TileSystem) (table : TableValue) (g : Growing) (work : ListedSites) →
-    IsSeatOf table g.seat → table.sys ≡ sys → IsGrowing g.seat.sys g → work.area ≡ g.seat.sys.area →
-    CanLook sys table g work
-can_look sys table g work seat system growing area =
-    let same : g.seat.sys ≡ sys = seat.sys ∙ system in
+pub can_look : (lent : Lent) (g : Grower) → lent.area ≡ lent.sys.now.area → lent.table.now.sys ≡ lent.sys.now →
+    IsSeatOf lent.table.now g.growing.seat → IsGrowing g.growing.seat.sys g.growing → IsPickerOf g.growing.seat.sys g.picker → g.work.area ≡ g.growing.seat.sys.area →
+    CanLook lent g
+can_look lent g box system seat growing picker area =
+    let same : g.growing.seat.sys ≡ lent.sys.now = seat.sys ∙ system in
     record {
-      seat = seat;
+      box = box;
       system = system;
-      growing = subst (λ (z : TileSystem). IsGrowing z g) same growing;
+      seat = seat;
+      growing = subst (λ (z : TileSystem). IsGrowing z g.growing) same growing;
+      picker = subst (λ (z : TileSystem). IsPickerOf z g.picker) same picker;
       area = area ∙ ap (λ (z : TileSystem). z.area) same;
     }
 
 -- where a type attaches and is claimed
-pub looked_at_some : (sys : TileSystem) (before after : Growing) (spot : Spot) (old new : Numbers) → IsTaken sys before.grid.tiles old spot →
-    ClaimsAt sys spot.site before after → ListsAround sys.area after.grid.tiles spot.site old new → LooksAt sys before after old new
-looked_at_some sys before after spot old new taken claim around =
-    let on = lists_filled sys before.grid.tiles after.grid.tiles spot claim.tile old new taken claim.tiles claim.count around in
-    record { growing = claim.growing; goes = claim.goes; closed = on.lists.all; listed = on.lists.empty; work = on.work }
+pub looked_at_some : (sys : TileSystem) (before after : Grower) (spot : Spot) → HasTaken sys before spot → ClaimsAt sys spot.site before.growing after.growing →
+    ListsAround sys.area after.growing.grid.tiles spot.site before.work.numbers after.work.numbers → LooksAt sys before after
+looked_at_some sys before after spot taken claim around = record {
+  goes = claim.goes;
+  on = lists_filled sys before.growing.grid.tiles after.growing.grid.tiles spot claim.tile before.work.numbers after.work.numbers taken claim.tiles claim.count around;
+}
 
 -- where no type attaches
-pub looked_at_none : (sys : TileSystem) (g : Growing) (spot : Spot) (old : Numbers) → IsGrowing sys g → IsTaken sys g.grid.tiles old spot →
-    ((t : TypeId) → ¬ IsCandidate sys g.grid.tiles spot.site t) → LooksAt sys g g old old
-looked_at_none sys g spot old growing taken none =
-    let on = lists_unfilled sys g.grid.tiles spot old taken none in
-    record { growing = growing; goes = goes_nowhere g; closed = on.lists.all; listed = on.lists.empty; work = on.work }
+pub looked_at_none : (sys : TileSystem) (g : Grower) (picker : Picker) (spot : Spot) → HasTaken sys g spot →
+    ((t : TypeId) → ¬ IsCandidate sys g.growing.grid.tiles spot.site t) → LooksAt sys g (record { growing = g.growing; picker = picker; work = g.work })
+looked_at_none sys g picker spot taken none = record {
+  goes = goes_nowhere g.growing;
+  on = lists_unfilled sys g.growing.grid.tiles spot g.work.numbers taken none;
+}
 
 -- the work that is left
 pub less_work : (cells before after rest new all : ℕ) → after ≤ cells → rest + 1 ≤ all → new + 4 * before ≤ rest + 4 * after →
@@ -276,26 +286,30 @@ ended_quiet sys old new most Quiet fewer ends = ends
 ended_quiet sys old new most Spent fewer ends = let all = ends.1 in absurd (omega (arith, fewer, all))
 
 -- what another placed at a site is seen, and the listed sites follow
-pub caught_up : (sys : TileSystem) (before after : Growing) (spot : Spot) (old mid new : Numbers) → IsSpot sys.area spot → tile_at before.grid.tiles spot.site ≡ None → ListsOpen sys before.grid.tiles old → Removes old mid spot.number →
-    ClaimsAt sys spot.site before after → ClaimsNothing before after → ListsAround sys.area after.grid.tiles spot.site mid new → CatchesUp sys before after new
-caught_up sys before after spot old mid new is empty lists removes claim idle around =
-    let taken = taken_out sys before.grid.tiles old mid spot is empty removes lists in
-    let looks = looked_at_some sys before after spot mid new taken claim around in
+pub caught_up : (sys : TileSystem) (before after : Grower) (spot : Spot) (mid : Numbers) → IsSpot sys.area spot → tile_at before.growing.grid.tiles spot.site ≡ None → HasListed sys before → Removes before.work.numbers mid spot.number →
+    ClaimsAt sys spot.site before.growing after.growing → ClaimsNothing before.growing after.growing → ListsAround sys.area after.growing.grid.tiles spot.site mid after.work.numbers → CatchesUp sys before after
+caught_up sys before after spot mid is empty lists removes claim idle around =
+    let taken = taken_out sys before.growing.grid.tiles before.work.numbers mid spot is empty removes lists in
+    let on = lists_filled sys before.growing.grid.tiles after.growing.grid.tiles spot claim.tile mid after.work.numbers taken claim.tiles claim.count around in
     record {
-      growing = looks.growing;
-      goes = looks.goes;
+      goes = claim.goes;
       more = let count = claim.count in omega (arith, count);
       idle = idle;
-      lists = record { empty = looks.listed; all = looks.closed };
+      lists = on.lists;
     }
 
 -- step by step
-pub caught_more : (sys : TileSystem) (a b c : Growing) (one two : Numbers) → CatchesUp sys a b one → CatchesUp sys b c two → CatchesUp sys a c two
-caught_more sys a b c one two first second = record { growing = second.growing; goes = goes_further a b c first.goes second.goes; more = le_trans first.more second.more; idle = record { mine = second.idle.mine ∙ first.idle.mine; won = second.idle.won ∙ first.idle.won }; lists = second.lists }
+pub caught_more : (sys : TileSystem) (a b c : Grower) → CatchesUp sys a b → CatchesUp sys b c → CatchesUp sys a c
+caught_more sys a b c first second = record {
+  goes = goes_further a.growing b.growing c.growing first.goes second.goes;
+  more = le_trans first.more second.more;
+  idle = record { mine = second.idle.mine ∙ first.idle.mine; won = second.idle.won ∙ first.idle.won };
+  lists = second.lists;
+}
 
 -- nothing was seen yet
-pub caught_none : (sys : TileSystem) (g : Growing) (numbers : Numbers) → IsGrowing sys g → ListsOpen sys g.grid.tiles numbers → CatchesUp sys g g numbers
-caught_none sys g numbers growing lists = record { growing = growing; goes = goes_nowhere g; more = omega arith; idle = record { mine = refl; won = refl }; lists = lists }
+pub caught_none : (sys : TileSystem) (g : Grower) → HasListed sys g → CatchesUp sys g g
+caught_none sys g lists = record { goes = goes_nowhere g.growing; more = omega arith; idle = record { mine = refl; won = refl }; lists = lists }
 
 -- how a burst ends, by whether a type attaches still
 pub ended_open : (sys : TileSystem) (old new : Growing) (most : ℕ) (numbers : Numbers) → ListsOpen sys new.grid.tiles numbers → ((n : ℕ) → ¬ IsIn numbers n) ⊎ (length new.grid.tiles ≡ length old.grid.tiles + most) →

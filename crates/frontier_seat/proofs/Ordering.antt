@@ -33,7 +33,8 @@ use Rattle.frontier_seat.specs.declared.growing.Growing.{Growing}
 use Rattle.frontier_seat.specs.declared.work_list.Spot.{Spot}
 use Rattle.frontier_seat.specs.Growths.{IsGrowing}
 use Rattle.frontier_seat.specs.Orders.{AreCanonicalClaims, LoggedClaims}
-use Rattle.frontier_seat.specs.Inner.Fillings.{Fills, GrewByLog, GrewInOrder, GrewSeen, IsFilling, LoggedTiles}
+use Rattle.frontier_seat.specs.Inner.Fillings.{Fills, GrewByLog, GrewInOrder, GrewSeen, IsFilling}
+use Rattle.frontier_seat.specs.Inner.Logs.{LoggedTiles}
 use Rattle.frontier_seat.specs.Inner.Listings.{IsSpot}
 use Rattle.frontier_seat.specs.Inner.Looks.{IsClosedBut, KeepsClean, LogsClaim}
 

@@ -2,6 +2,7 @@
 pub mod Listings
 pub mod Looks
 pub mod Fillings
+pub mod Logs
 pub mod Types
 pub mod Pickers
 pub mod Insides

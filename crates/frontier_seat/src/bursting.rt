@@ -4,17 +4,16 @@ ghost use Rattle.atam.specs.declared.place.TypeId.{TypeId};
 ghost use Rattle.atam.specs.Placements.{tile_at};
 ghost use Rattle.atam.specs.Growth.{IsCandidate, IsClosedInBox};
 ghost use Rattle.number_set.specs.Numbers.{IsIn};
-ghost use Rattle.frontier_seat.specs.Growths.{IsGrowing, GrowsOn};
+ghost use Rattle.frontier_seat.specs.Growths.{GrowsOn, IsGrowing};
 ghost use Rattle.frontier_seat.specs.Inner.Listings.{IsSpot};
-ghost use Rattle.frontier_seat.specs.Inner.Looks.{CanLook, HasCandidate, ListsOpen, TakesSteps};
+ghost use Rattle.frontier_seat.specs.Inner.Looks.{CanLook, HasCandidate, HasListed, TakesSteps};
 ghost use Rattle.frontier_seat.specs.Inner.Pickers.{IsPickerOf};
 
+use crate::grower::{Grower, Lent};
 use crate::picking::Picker;
-use crate::scout::look;
-use crate::work_list::{Spot, WorkList};
+use crate::work_list::Spot;
 use crate::{Chooser, Growing};
 use assembly::Row;
-use site_table::SiteTable;
 use std::sync::ledger::Ledger;
 use tile_io::Steps;
 use tile_system::System;
@@ -28,80 +27,67 @@ pub enum Burst {
     Spent,
 }
 
-// Looks at the sites that are listed, and at those beside each tile that comes, until so many
-// claims are made or no site is left.
-pub(crate) fn spend<C: Chooser, L: Ledger>(
-    sys: &System,
-    table: &SiteTable,
-    growing: &mut Growing,
-    chooser: &mut C,
-    picker: &mut Picker<'_>,
-    work: &mut WorkList,
-    most: u32,
-    steps: &mut Steps<L>,
-)
-    requires can { CanLook sys.now table.now growing.old work.old }
-    requires picker { IsPickerOf sys.now picker.old }
-    requires lists { ListsOpen sys.now growing.old.grid.tiles work.old.numbers }
-    ensures can { CanLook sys.now table.now growing.new work.new }
-    ensures picker { IsPickerOf sys.now picker.new }
-    ensures lists { ListsOpen sys.now growing.new.grid.tiles work.new.numbers }
-    ensures goes { GrowsOn growing.old growing.new }
-    ensures done { ((n : ℕ) → ¬ IsIn work.new.numbers n)
-        ⊎ (length growing.new.grid.tiles ≡ length growing.old.grid.tiles + most) }
-    ensures most { length growing.new.grid.tiles ≤ length growing.old.grid.tiles + most }
-    ensures cost { TakesSteps growing.old growing.new steps.old steps.new }
-{
-    sys.recall_valid();
-    let area = sys.area();
-    let count = work.count();
-    let mut row = Row::least(&area);
-    let mut left = most;
-    while left > 0 {
-        let Some(number) = work.take(chooser.start(count)) else {
-            return;
-        };
-        let site = row.site(&area, number);
-        let spot = Spot { site, number };
-        let seen = look(
-            sys, &area, table, growing, chooser, picker, spot, work, steps,
-        );
-        if seen.claims {
-            left -= 1;
+impl<'i> Grower<'i> {
+    // Looks at the sites that are listed, and at those beside each tile that comes, until so many
+    // claims are made or no site is left.
+    pub(crate) fn spend<C: Chooser, L: Ledger>(
+        &mut self,
+        lent: Lent<'_, '_>,
+        chooser: &mut C,
+        most: u32,
+        steps: &mut Steps<L>,
+    )
+        requires can { CanLook lent self.old }
+        requires lists { HasListed lent.sys.now self.old }
+        ensures can { CanLook lent.entry self.new }
+        ensures lists { HasListed lent.entry.sys.now self.new }
+        ensures goes { GrowsOn self.old.growing self.new.growing }
+        ensures done { ((n : ℕ) → ¬ IsIn self.new.work.numbers n)
+            ⊎ (length self.new.growing.grid.tiles ≡ length self.old.growing.grid.tiles + most) }
+        ensures most { length self.new.growing.grid.tiles
+            ≤ length self.old.growing.grid.tiles + most }
+        ensures cost { TakesSteps self.old self.new steps.old steps.new }
+    {
+        lent.sys.recall_valid();
+        let count = self.work.count();
+        let mut row = Row::least(&lent.area);
+        let mut left = most;
+        while left > 0 {
+            let Some(number) = self.work.take(chooser.start(count)) else {
+                return;
+            };
+            let site = row.site(&lent.area, number);
+            let seen = self.look(lent, chooser, Spot { site, number }, steps);
+            if seen.claims {
+                left -= 1;
+            }
         }
     }
-}
 
-// Whether a type attaches at a listed site. Sites at which none does are listed no longer.
-pub(crate) fn is_open<C: Chooser>(
-    sys: &System,
-    growing: &Growing,
-    chooser: &mut C,
-    picker: &mut Picker<'_>,
-    work: &mut WorkList,
-) -> bool
-    requires growing { IsGrowing sys.now growing.now }
-    requires picker { IsPickerOf sys.now picker.old }
-    requires area { work.old.area ≡ sys.now.area }
-    requires lists { ListsOpen sys.now growing.now.grid.tiles work.old.numbers }
-    ensures picker { IsPickerOf sys.now picker.new }
-    ensures area { work.new.area ≡ work.old.area }
-    ensures lists { ListsOpen sys.now growing.now.grid.tiles work.new.numbers }
-    ensures open { MatchBool result (¬ IsClosedInBox sys.now growing.now.grid.tiles)
-        (IsClosedInBox sys.now growing.now.grid.tiles) }
-{
-    sys.recall_valid();
-    let area = sys.area();
-    let count = work.count();
-    let mut row = Row::least(&area);
-    while let Some(number) = work.take(chooser.start(count)) {
-        let site = row.site(&area, number);
-        if attaches(sys, growing, chooser, picker, Spot { site, number }) {
-            work.put_back(number);
-            return true;
+    // Whether a type attaches at a listed site. Sites at which none does are listed no longer.
+    pub(crate) fn is_open<C: Chooser>(&mut self, lent: Lent<'_, '_>, chooser: &mut C) -> bool
+        requires can { CanLook lent self.old }
+        requires lists { HasListed lent.sys.now self.old }
+        ensures can { CanLook lent.entry self.new }
+        ensures lists { HasListed lent.entry.sys.now self.new }
+        ensures same { self.new.growing ≡ self.old.growing }
+        ensures open { MatchBool result
+            (¬ IsClosedInBox lent.entry.sys.now self.new.growing.grid.tiles)
+            (IsClosedInBox lent.entry.sys.now self.new.growing.grid.tiles) }
+    {
+        lent.sys.recall_valid();
+        let count = self.work.count();
+        let mut row = Row::least(&lent.area);
+        while let Some(number) = self.work.take(chooser.start(count)) {
+            let site = row.site(&lent.area, number);
+            let spot = Spot { site, number };
+            if attaches(lent.sys, &self.growing, chooser, &mut self.picker, spot) {
+                self.work.put_back(number);
+                return true;
+            }
         }
+        false
     }
-    false
 }
 
 // Whether a type attaches at an empty site.

@@ -18,7 +18,7 @@ pub(crate) struct FillLog {
 }
 
 impl Model for FillLog {
-    ghost use Rattle.frontier_seat.specs.Inner.Fillings.{LoggedTiles};
+    ghost use Rattle.frontier_seat.specs.Inner.Logs.{LoggedTiles};
 
     ghost Value = { LoggedTiles };
 

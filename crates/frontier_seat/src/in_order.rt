@@ -7,9 +7,8 @@ ghost use Rattle.assembly.specs.Cells.{cell_count};
 ghost use Rattle.number_set.specs.Numbers.{IsIn};
 ghost use Rattle.type_index.specs.Clean.{CameExact};
 ghost use Rattle.type_index.specs.Indexes.{IsIndexOf};
-ghost use Rattle.frontier_seat.specs.Inner.Fillings.{GrewSeen, IsFilling, ListsOn, MayFill};
-ghost use Rattle.frontier_seat.specs.Inner.Looks.{IsTaken};
-ghost use Rattle.frontier_seat.specs.Inner.Pickers.{IsPickerOf};
+ghost use Rattle.frontier_seat.specs.Inner.Fillings.{CanFill, GrewSeen, MayFill};
+ghost use Rattle.frontier_seat.specs.Inner.Looks.{IsTaken, ListsOn};
 
 use crate::Chooser;
 use crate::beside_seeds::list_beside_seeds;
@@ -31,73 +30,65 @@ pub struct FilledInOrder {
     pub clean: bool,
 }
 
-// Looks at one empty site that is listed no longer. A type that attaches there fills it, and the
-// tile is logged.
-#[inline(always)]
-fn fill<C: Chooser>(
-    sys: &System,
-    grid: &mut Grid,
-    chooser: &mut C,
-    picker: &mut Picker<'_>,
-    spot: Spot,
-    work: &mut WorkList,
-    log: &mut FillLog,
-)
-    requires filling { IsFilling sys.now grid.old }
-    requires picker { IsPickerOf sys.now picker.old }
-    requires area { work.old.area ≡ sys.now.area }
-    requires taken { IsTaken sys.now grid.old.tiles work.old.numbers spot }
-    requires room { length log.old.places < log.old.room }
-    ensures filling { IsFilling sys.now grid.new }
-    ensures lists { ListsOn sys.now grid.old.tiles grid.new.tiles work.old.numbers
-        work.new.numbers }
-    ensures fills { MayFill sys.now spot.site grid.old.tiles grid.new.tiles log.old log.new }
-    ensures picker { IsPickerOf sys.now picker.new }
-    ensures area { work.new.area ≡ work.old.area }
-    ensures room { log.new.room ≡ log.old.room }
-{
-    sys.recall_valid();
-    let Spot { site, number } = spot;
-    let beside = grid.beside_at(site, number);
-    let Pick { tile, clean } = picker.pick(sys, grid, site, &beside, chooser);
-    let Some(tile) = tile else {
-        return;
-    };
-    let place = Place { site, tile };
-    grid.put_at(place, number);
-    work.list_around(grid, spot, &beside);
-    log.push(place, clean);
+// A grid that is filled, what its types are picked by, the sites that are to be looked at, and the
+// log of its tiles.
+#[derive(Drop)]
+struct Filler<'i> {
+    grid: Grid,
+    picker: Picker<'i>,
+    work: WorkList,
+    log: FillLog,
 }
 
-// Looks at the empty sites beside the seeds, and at those beside each tile that comes, always at
-// the least one.
-#[inline(never)]
-fn fill_all<C: Chooser>(
-    sys: &System,
-    grid: &mut Grid,
-    chooser: &mut C,
-    picker: &mut Picker<'_>,
-    work: &mut WorkList,
-    log: &mut FillLog,
-)
-    requires filling { IsFilling sys.now grid.old }
-    requires picker { IsPickerOf sys.now picker.old }
-    requires area { work.old.area ≡ sys.now.area }
-    requires none { (n : ℕ) → ¬ IsIn work.old.numbers n }
-    requires start { SamePlacements sys.now.seeds grid.old.tiles }
-    requires seeds { log.old.places ≡ sys.now.seeds }
-    requires room { length sys.now.seeds + cell_count sys.now.area ≤ log.old.room }
-    ensures filling { IsFilling sys.now grid.new }
-    ensures closed { IsClosedInBox sys.now grid.new.tiles }
-    ensures order { GrewSeen sys.now grid.new.tiles log.new.places log.new.clean }
-{
-    let area = sys.area();
-    list_beside_seeds(sys, grid, work);
-    let mut row = Row::least(&area);
-    while let Some(number) = work.take_least() {
-        let site = row.site(&area, number);
-        let spot = Spot { site, number };
-        fill(sys, grid, chooser, picker, spot, work, log);
+impl<'i> Filler<'i> {
+    // Looks at one empty site that is listed no longer. A type that attaches there fills it, and
+    // the tile is logged.
+    #[inline(always)]
+    fn fill<C: Chooser>(&mut self, sys: &System, chooser: &mut C, spot: Spot)
+        requires can { CanFill sys.now self.old }
+        requires taken { IsTaken sys.now self.old.grid.tiles self.old.work.numbers spot }
+        requires room { length self.old.log.places < self.old.log.room }
+        ensures can { CanFill sys.now self.new }
+        ensures lists { ListsOn sys.now self.old.grid.tiles self.new.grid.tiles
+            self.old.work.numbers self.new.work.numbers }
+        ensures fills { MayFill sys.now spot.site self.old.grid.tiles self.new.grid.tiles
+            self.old.log self.new.log }
+        ensures room { self.new.log.room ≡ self.old.log.room }
+    {
+        sys.recall_valid();
+        let Spot { site, number } = spot;
+        let beside = self.grid.beside_at(site, number);
+        let Pick { tile, clean } = self.picker.pick(sys, &self.grid, site, &beside, chooser);
+        let Some(tile) = tile else {
+            return;
+        };
+        let place = Place { site, tile };
+        self.grid.put_at(place, number);
+        self.work.list_around(&self.grid, spot, &beside);
+        self.log.push(place, clean);
+    }
+
+    // Looks at the empty sites beside the seeds, and at those beside each tile that comes, always at
+    // the least one.
+    #[inline(never)]
+    fn fill_all<C: Chooser>(&mut self, sys: &System, chooser: &mut C)
+        requires can { CanFill sys.now self.old }
+        requires none { (n : ℕ) → ¬ IsIn self.old.work.numbers n }
+        requires start { SamePlacements sys.now.seeds self.old.grid.tiles }
+        requires seeds { self.old.log.places ≡ sys.now.seeds }
+        requires room { length sys.now.seeds + cell_count sys.now.area ≤ self.old.log.room }
+        ensures can { CanFill sys.now self.new }
+        ensures closed { IsClosedInBox sys.now self.new.grid.tiles }
+        ensures order { GrewSeen sys.now self.new.grid.tiles self.new.log.places
+            self.new.log.clean }
+    {
+        let area = sys.area();
+        list_beside_seeds(sys, &self.grid, &mut self.work);
+        let mut row = Row::least(&area);
+        while let Some(number) = self.work.take_least() {
+            let site = row.site(&area, number);
+            self.fill(sys, chooser, Spot { site, number });
+        }
     }
 }
 
@@ -118,12 +109,21 @@ pub fn fill_least_first_seeing<C: Chooser>(
     ensures clean { IfOk result (λ r. r.clean ≡ true → CameExact sys.now r.order) }
 {
     sys.recall_valid();
-    let mut grid = grid_of_seeds(alloc, sys)?;
+    let grid = grid_of_seeds(alloc, sys)?;
     grid.recall_sites();
-    let mut log = FillLog::make(alloc, sys)?;
-    let mut picker = Picker::make(alloc, sys, Types::lent(types))?;
-    let mut work = WorkList::make(alloc, sys.area())?;
-    fill_all(sys, &mut grid, chooser, &mut picker, &mut work, &mut log);
+    let mut filler = Filler {
+        grid,
+        picker: Picker::make(alloc, sys, Types::lent(types))?,
+        work: WorkList::make(alloc, sys.area())?,
+        log: FillLog::make(alloc, sys)?,
+    };
+    filler.fill_all(sys, chooser);
+    let Filler {
+        grid,
+        picker: _picker,
+        work: _work,
+        log,
+    } = filler;
     let clean = log.is_clean();
     let order = log.into_sequence();
     Ok(FilledInOrder { grid, order, clean })

@@ -8,6 +8,7 @@ mod catching;
 mod chooser;
 mod claim_log;
 mod fill_log;
+mod grower;
 mod growing;
 mod in_order;
 mod inside;

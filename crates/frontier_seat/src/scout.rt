@@ -10,18 +10,13 @@ ghost use Rattle.frontier_seat.specs.Growths.{ClaimsNothing, EndsBurst, IsGrowin
 ghost use Rattle.frontier_seat.specs.Orders.{AreCanonicalClaims};
 ghost use Rattle.type_index.specs.Clean.{GrewExact};
 ghost use Rattle.type_index.specs.Indexes.{IsIndexOf};
-ghost use Rattle.frontier_seat.specs.Inner.Insides.{IsInner};
-ghost use Rattle.frontier_seat.specs.Inner.Looks.{CanLook, IsTaken, ListsOpen, LooksAt, MayList, TakesSteps, TellsLook};
-ghost use Rattle.frontier_seat.specs.Inner.Pickers.{IsPickerOf};
+ghost use Rattle.frontier_seat.specs.Inner.Looks.{ListsOpen, MayList};
 
 use crate::beside_seeds::list_beside_seeds;
-use crate::bursting::{is_open, spend};
-use crate::catching::see_edges;
-use crate::inside::{beside_inner, is_inner};
-use crate::picking::{Pick, Picker};
-use crate::sweeping::look_in_order;
+use crate::grower::{Grower, Lent};
+use crate::picking::Picker;
 use crate::types::Types;
-use crate::work_list::{Spot, WorkList};
+use crate::work_list::WorkList;
 use crate::{Burst, Chooser, ClaimLog, Growing};
 use assembly::Grid;
 use site_table::{SiteSeat, SiteTable};
@@ -29,7 +24,7 @@ use std::alloc::Global;
 use std::marker::Model;
 use std::sync::ledger::Ledger;
 use tile_io::Steps;
-use tile_system::{BoxArea, Site, System};
+use tile_system::System;
 use type_index::TypeIndex;
 
 // More claims than a box has sites.
@@ -38,18 +33,14 @@ const MOST_CLAIMS: u32 = u32::MAX;
 /// A seat with the grid of what it has seen, an index of types, which may be lent to it, and room to
 /// work: with the grid, two bytes and an eighth a site.
 pub struct Scout<'i> {
-    growing: Growing,
-    picker: Picker<'i>,
-    work: WorkList,
+    grower: Grower<'i>,
     listed: bool,
 }
 
 impl<'i> Drop for Scout<'i> {
     fn drop(self) {
         let Scout {
-            growing: _growing,
-            picker: _picker,
-            work: _work,
+            grower: _grower,
             listed: _listed,
         } = self;
     }
@@ -64,145 +55,13 @@ impl<'i> Model for Scout<'i> {
 
     ghost Value = { Growing };
 
-    ghost view = { λ s. s.growing };
+    ghost view = { λ s. s.grower.growing };
 
-    ghost invariant = { λ s. IsGrowing s.growing.seat.sys s.growing
-        × IsPickerOf s.growing.seat.sys s.picker
-        × (s.work.area ≡ s.growing.seat.sys.area)
-        × MayList s.growing.seat.sys s.growing.grid.tiles s.listed s.work.numbers };
-}
-
-// What a look at a site was: whether a type attached, whether one that was picked among those
-// stands there then, and whether it is clear that whichever attached comes clean, held by exactly
-// the temperature.
-#[derive(Clone, Copy)]
-pub(crate) struct Looked {
-    pub(crate) claims: bool,
-    pub(crate) picked: bool,
-    pub(crate) clean: bool,
-}
-
-// Looks at one empty site that is listed no longer, and claims it for a type that attaches. It
-// tells whether there is one. The box is handed over, since what stands behind a reference is read
-// again after each store.
-#[inline(always)]
-pub(crate) fn look<C: Chooser, L: Ledger>(
-    sys: &System,
-    area: &BoxArea,
-    table: &SiteTable,
-    growing: &mut Growing,
-    chooser: &mut C,
-    picker: &mut Picker<'_>,
-    spot: Spot,
-    work: &mut WorkList,
-    steps: &mut Steps<L>,
-) -> Looked
-    requires boxed { area.now ≡ sys.now.area }
-    requires can { CanLook sys.now table.now growing.old work.old }
-    requires picker { IsPickerOf sys.now picker.old }
-    requires taken { IsTaken sys.now growing.old.grid.tiles work.old.numbers spot }
-    ensures can { CanLook sys.now table.now growing.new work.new }
-    ensures picker { IsPickerOf sys.now picker.new }
-    ensures looks { LooksAt sys.now growing.old growing.new work.old.numbers work.new.numbers }
-    ensures tells { TellsLook sys.now spot.site growing.old growing.new result }
-    ensures cost { TakesSteps growing.old growing.new steps.old steps.new }
-{
-    if is_inner(area, spot.site) {
-        return look_inside(
-            sys, area, table, growing, chooser, picker, spot, work, steps,
-        );
-    }
-    let Spot { site, number } = spot;
-    look_at_edge(
-        sys, table, growing, chooser, picker, site, number, work, steps,
-    )
-}
-
-// The same at a site at no edge of the box.
-#[inline(always)]
-fn look_inside<C: Chooser, L: Ledger>(
-    sys: &System,
-    area: &BoxArea,
-    table: &SiteTable,
-    growing: &mut Growing,
-    chooser: &mut C,
-    picker: &mut Picker<'_>,
-    spot: Spot,
-    work: &mut WorkList,
-    steps: &mut Steps<L>,
-) -> Looked
-    requires boxed { area.now ≡ sys.now.area }
-    requires inner { IsInner area.now spot.site }
-    requires can { CanLook sys.now table.now growing.old work.old }
-    requires picker { IsPickerOf sys.now picker.old }
-    requires taken { IsTaken sys.now growing.old.grid.tiles work.old.numbers spot }
-    ensures can { CanLook sys.now table.now growing.new work.new }
-    ensures picker { IsPickerOf sys.now picker.new }
-    ensures looks { LooksAt sys.now growing.old growing.new work.old.numbers work.new.numbers }
-    ensures tells { TellsLook sys.now spot.site growing.old growing.new result }
-    ensures cost { TakesSteps growing.old growing.new steps.old steps.new }
-{
-    sys.recall_valid();
-    let beside = beside_inner(&growing.grid, area, spot);
-    let Pick { tile, clean } = picker.pick(sys, &growing.grid, spot.site, &beside, chooser);
-    let Some(tile) = tile else {
-        return Looked {
-            claims: false,
-            picked: false,
-            clean,
-        };
-    };
-    let picked = growing.claim(sys, table, spot, tile, steps);
-    work.list_inner(&growing.grid, area, spot, &beside);
-    Looked {
-        claims: true,
-        picked,
-        clean,
-    }
-}
-
-// The same at any site, which is handed over in parts, so that no site at no edge is written to
-// memory for it.
-#[inline(never)]
-fn look_at_edge<C: Chooser, L: Ledger>(
-    sys: &System,
-    table: &SiteTable,
-    growing: &mut Growing,
-    chooser: &mut C,
-    picker: &mut Picker<'_>,
-    site: Site,
-    number: usize,
-    work: &mut WorkList,
-    steps: &mut Steps<L>,
-) -> Looked
-    requires can { CanLook sys.now table.now growing.old work.old }
-    requires picker { IsPickerOf sys.now picker.old }
-    requires taken { IsTaken sys.now growing.old.grid.tiles work.old.numbers
-        (record { site = site; number = number }) }
-    ensures can { CanLook sys.now table.now growing.new work.new }
-    ensures picker { IsPickerOf sys.now picker.new }
-    ensures looks { LooksAt sys.now growing.old growing.new work.old.numbers work.new.numbers }
-    ensures tells { TellsLook sys.now site growing.old growing.new result }
-    ensures cost { TakesSteps growing.old growing.new steps.old steps.new }
-{
-    sys.recall_valid();
-    let beside = growing.grid.beside_at(site, number);
-    let Pick { tile, clean } = picker.pick(sys, &growing.grid, site, &beside, chooser);
-    let Some(tile) = tile else {
-        return Looked {
-            claims: false,
-            picked: false,
-            clean,
-        };
-    };
-    let spot = Spot { site, number };
-    let picked = growing.claim(sys, table, spot, tile, steps);
-    work.list_around(&growing.grid, spot, &beside);
-    Looked {
-        claims: true,
-        picked,
-        clean,
-    }
+    ghost invariant = { λ s. IsGrowing s.grower.growing.seat.sys s.grower.growing
+        × IsPickerOf s.grower.growing.seat.sys s.grower.picker
+        × (s.grower.work.area ≡ s.grower.growing.seat.sys.area)
+        × MayList s.grower.growing.seat.sys s.grower.growing.grid.tiles s.listed
+        s.grower.work.numbers };
 }
 
 // Lists the empty sites beside what was seen, if that wasn't done before.
@@ -304,9 +163,11 @@ impl<'i> Scout<'i> {
             won: 0,
         };
         Ok(Scout {
-            growing,
-            picker,
-            work,
+            grower: Grower {
+                growing,
+                picker,
+                work,
+            },
             listed: false,
         })
     }
@@ -315,7 +176,7 @@ impl<'i> Scout<'i> {
     pub fn won(&self) -> u32
         ensures { result ≡ self.now.won }
     {
-        self.growing.won
+        self.grower.growing.won
     }
 
     /// What the seat has seen.
@@ -323,7 +184,7 @@ impl<'i> Scout<'i> {
         ensures grid { result.now ≡ self.now.grid }
         ensures same { SamePlacements self.now.seat.scout.seen self.now.grid.tiles }
     {
-        &self.growing.grid
+        &self.grower.growing.grid
     }
 
     /// Claims until no type attaches in the box to what was seen. That is then all that stands, and
@@ -383,20 +244,14 @@ impl<'i> Scout<'i> {
             ≡ steps.old + length self.new.grid.tiles }
         ensures few { steps.new < steps.old + cell_count sys.now.area }
     {
-        list_seeded(sys, &self.growing, self.listed, &mut self.work);
+        let grower = &mut self.grower;
+        list_seeded(sys, &grower.growing, self.listed, &mut grower.work);
         self.listed = true;
-        look_in_order(
-            sys,
-            table,
-            &mut self.growing,
-            chooser,
-            &mut self.picker,
-            &mut self.work,
-            steps,
-            log,
-        );
+        let area = sys.area();
+        let lent = Lent { sys, table, area };
+        self.grower.look_in_order(lent, chooser, steps, log);
         sys.recall_valid();
-        self.growing.seat.recall_possible();
+        self.grower.growing.seat.recall_possible();
     }
 
     /// Claims as a sweep does, at most so many times, and says whether the box is closed then. Of
@@ -430,34 +285,22 @@ impl<'i> Scout<'i> {
         ensures room { length self.new.grid.tiles ≤ cell_count sys.now.area }
     {
         sys.recall_valid();
-        list(sys, &self.growing, self.listed, &mut self.work);
+        let grower = &mut self.grower;
+        list(sys, &grower.growing, self.listed, &mut grower.work);
         self.listed = true;
-        self.work.cut(share, of);
-        spend(
-            sys,
-            table,
-            &mut self.growing,
-            chooser,
-            &mut self.picker,
-            &mut self.work,
-            most,
-            steps,
-        );
-        let open = is_open(
-            sys,
-            &self.growing,
-            chooser,
-            &mut self.picker,
-            &mut self.work,
-        );
-        self.growing.seat.recall_possible();
+        self.grower.work.cut(share, of);
+        let area = sys.area();
+        let lent = Lent { sys, table, area };
+        self.grower.spend(lent, chooser, most, steps);
+        let open = self.grower.is_open(lent, chooser);
+        self.grower.growing.seat.recall_possible();
         if open { Burst::Spent } else { Burst::Quiet }
     }
 
     /// Whether a site is listed in the bands of the last burst or of the last look at their edges. It
     /// tells where a look or a burst saves time, so no clause says more of it.
     pub fn has_own(&self) -> bool {
-        self.work.has_own()
+        self.grower.work.has_own()
     }
 
     /// Looks at the empty sites of the rows just beside the bands of this worker (`burst`), where
@@ -471,10 +314,12 @@ impl<'i> Scout<'i> {
         ensures seen { SamePlacements self.new.seat.scout.seen self.new.grid.tiles }
         ensures more { length self.old.grid.tiles ≤ length self.new.grid.tiles }
     {
-        list(sys, &self.growing, self.listed, &mut self.work);
+        let grower = &mut self.grower;
+        list(sys, &grower.growing, self.listed, &mut grower.work);
         self.listed = true;
-        self.work.cut(share, of);
-        see_edges(sys, table, &mut self.growing, &mut self.work);
+        self.grower.work.cut(share, of);
+        let area = sys.area();
+        self.grower.see_edges(Lent { sys, table, area });
     }
 
     /// The seat, and what it has seen.
@@ -484,11 +329,14 @@ impl<'i> Scout<'i> {
         ensures same { SamePlacements result.0.scout.seen result.1.tiles }
     {
         let Scout {
+            grower,
+            listed: _listed,
+        } = self;
+        let Grower {
             growing,
             picker: _picker,
             work: _work,
-            listed: _listed,
-        } = self;
+        } = grower;
         (growing.seat, growing.grid)
     }
 }

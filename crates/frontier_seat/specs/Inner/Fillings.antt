@@ -14,10 +14,13 @@ use Rattle.atam.specs.LeastFirst.{FillsLeast}
 use Rattle.assembly.specs.Cells.{cell_count, site_at}
 use Rattle.assembly.specs.Grids.{TileGrid}
 use Rattle.grow_core.specs.Steps.{place}
-use Rattle.number_set.specs.Numbers.{Numbers, IsIn, count_below}
+use Rattle.number_set.specs.Numbers.{Numbers, IsIn}
 use Rattle.type_index.specs.Clean.{CameExact}
+use Rattle.frontier_seat.specs.declared.in_order.Filler.{Filler}
 use Rattle.frontier_seat.specs.Orders.{LoggedClaims}
-use Rattle.frontier_seat.specs.Inner.Looks.{KeepsClean, ListsOpen}
+use Rattle.frontier_seat.specs.Inner.Logs.{LoggedTiles}
+use Rattle.frontier_seat.specs.Inner.Pickers.{IsPickerOf}
+use Rattle.frontier_seat.specs.Inner.Looks.{KeepsClean}
 
 -- the grid is over the box, and its tiles are the system's
 pub record IsFilling (sys : TileSystem) (grid : TileGrid) : Type 0 where
@@ -25,20 +28,15 @@ pub record IsFilling (sys : TileSystem) (grid : TileGrid) : Type 0 where
   pub distinct : HasDistinctSites grid.tiles
   pub fits : Fits sys grid.tiles
 
+-- and what types are picked by and the sites that are to be looked at are the system's too
+pub record CanFill (sys : TileSystem) (filler : Filler) : Type 0 where
+  pub filling : IsFilling sys filler.grid
+  pub picker : IsPickerOf sys filler.picker
+  pub area : filler.work.area ≡ sys.area
+
 -- the empty sites of the box beside these places are listed
 abbrev pub ListsBeside : BoxArea → List Place → Numbers → List Place → Type 0
 ListsBeside area tiles numbers places = (p : Place) (n : ℕ) (d : Side) → Contains places p → n < cell_count area → site_at area n ≡ neighbor p.site d → tile_at tiles (site_at area n) ≡ None → IsIn numbers n
-
--- one look at a site that was listed: what may open is listed, and each new tile lists at most four sites
-pub record ListsOn (sys : TileSystem) (before after : List Place) (old new : Numbers) : Type 0 where
-  pub lists : ListsOpen sys after new
-  pub work : (k : ℕ) → count_below new k + 4 * length before ≤ count_below old k + 4 * length after
-
--- the seeds and the tiles that came after them, how many there is room for, and whether it is clear that each tile came clean, held by exactly the temperature
-pub record LoggedTiles : Type 0 where
-  pub places : List Place
-  pub room : ℕ
-  pub clean : Bool
 
 -- a tile more, of a type that attached at its site, and it is listed behind the others
 pub record Fills (sys : TileSystem) (site : Site) (before after old new : List Place) : Type 0 where

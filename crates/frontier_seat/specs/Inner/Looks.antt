@@ -8,15 +8,18 @@ use Rattle.atam.specs.Placements.{SamePlacements, HasDistinctSites, tile_at}
 use Rattle.atam.specs.Growth.{IsCandidate}
 use Rattle.assembly.specs.Cells.{cell_count, site_at}
 use Rattle.grow_core.specs.Steps.{place}
-use Rattle.site_table.specs.Seats.{IsSeatOf, TableValue}
+use Rattle.site_table.specs.Seats.{IsSeatOf}
 use Rattle.number_set.specs.Numbers.{Numbers, IsIn, count_below}
 use Rattle.type_index.specs.Clean.{OpensExact}
 use Rattle.frontier_seat.specs.declared.growing.Growing.{Growing}
-use Rattle.frontier_seat.specs.declared.scout.Looked.{Looked}
+use Rattle.frontier_seat.specs.declared.grower.Grower.{Grower}
+use Rattle.frontier_seat.specs.declared.grower.Looked.{Looked}
+use Rattle.frontier_seat.specs.declared.grower.Lent.{Lent}
 use Rattle.frontier_seat.specs.declared.work_list.Spot.{Spot}
 use Rattle.frontier_seat.specs.Growths.{ClaimsNothing, GrowsOn, IsGrowing}
 use Rattle.frontier_seat.specs.Orders.{LoggedClaims}
-use Rattle.frontier_seat.specs.Inner.Listings.{AreEmptySites, IsSpot, ListedSites}
+use Rattle.frontier_seat.specs.Inner.Listings.{AreEmptySites, IsSpot}
+use Rattle.frontier_seat.specs.Inner.Pickers.{IsPickerOf}
 
 -- a tile more in the grid
 pub record Puts (p : Place) (old new : Growing) : Type 0 where
@@ -63,12 +66,14 @@ MayLogClaim sys spot before after old new = LogsClaim sys spot before after old 
 abbrev pub IsClosedBut : TileSystem → List Place → (ℕ → Type 0) → Type 0
 IsClosedBut sys tiles Listed = (n : ℕ) (t : TypeId) → n < cell_count sys.area → IsCandidate sys tiles (site_at sys.area n) t → Listed n
 
--- a seat of the table with what it has seen, and the list of sites to look at, all of one system
-pub record CanLook (sys : TileSystem) (table : TableValue) (g : Growing) (work : ListedSites) : Type 0 where
-  pub seat : IsSeatOf table g.seat
-  pub system : table.sys ≡ sys
-  pub growing : IsGrowing sys g
-  pub area : work.area ≡ sys.area
+-- the box and the table are the system's, the seat is of the table and has seen what the grid has, and what it picks by and the sites that it is to look at are the system's
+pub record CanLook (lent : Lent) (grower : Grower) : Type 0 where
+  pub box : lent.area ≡ lent.sys.now.area
+  pub system : lent.table.now.sys ≡ lent.sys.now
+  pub seat : IsSeatOf lent.table.now grower.growing.seat
+  pub growing : IsGrowing lent.sys.now grower.growing
+  pub picker : IsPickerOf lent.sys.now grower.picker
+  pub area : grower.work.area ≡ lent.sys.now.area
 
 -- an empty site of the box, listed no longer; the listed ones are empty, at no other a type attaches
 pub record IsTaken (sys : TileSystem) (tiles : List Place) (numbers : Numbers) (taken : Spot) :
@@ -79,22 +84,29 @@ pub record IsTaken (sys : TileSystem) (tiles : List Place) (numbers : Numbers) (
   pub listed : AreEmptySites sys.area tiles numbers
   pub closed : IsClosedBut sys tiles (λ n. IsIn numbers n ⊎ (n ≡ taken.number))
 
+-- the same of the sites that are to be looked at
+abbrev pub HasTaken : TileSystem → Grower → Spot → Type 0
+HasTaken sys grower taken = IsTaken sys grower.growing.grid.tiles grower.work.numbers taken
+
 -- the listed sites are empty, and each site of the box at which a type attaches is listed
 pub record ListsOpen (sys : TileSystem) (tiles : List Place) (numbers : Numbers) : Type 0 where
   pub empty : AreEmptySites sys.area tiles numbers
   pub all : IsClosedBut sys tiles (IsIn numbers)
+
+-- they are the sites that are to be looked at
+abbrev pub HasListed : TileSystem → Grower → Type 0
+HasListed sys grower = ListsOpen sys grower.growing.grid.tiles grower.work.numbers
 
 -- the same where the frontier was listed, and else no site is listed
 abbrev pub MayList : TileSystem → List Place → Bool → Numbers → Type 0
 MayList sys tiles listed numbers = MatchBool listed (ListsOpen sys tiles numbers) ((n : ℕ) → ¬ IsIn numbers n)
 
 -- what others placed is seen, and the listed sites follow
-pub record CatchesUp (sys : TileSystem) (old new : Growing) (numbers : Numbers) : Type 0 where
-  pub growing : IsGrowing sys new
-  pub goes : GrowsOn old new
-  pub more : length old.grid.tiles ≤ length new.grid.tiles
-  pub idle : ClaimsNothing old new
-  pub lists : ListsOpen sys new.grid.tiles numbers
+pub record CatchesUp (sys : TileSystem) (old new : Grower) : Type 0 where
+  pub goes : GrowsOn old.growing new.growing
+  pub more : length old.growing.grid.tiles ≤ length new.growing.grid.tiles
+  pub idle : ClaimsNothing old.growing new.growing
+  pub lists : HasListed sys new
 
 -- a type that attaches at the site; none exactly where none does
 abbrev pub IsOpenType : TileSystem → List Place → Site → Option TypeId → Type 0
@@ -106,19 +118,21 @@ pub record HasCandidate (sys : TileSystem) (tiles : List Place) (m : Site) : Typ
   pub attaches : IsCandidate sys tiles m tile
 
 -- one look at a site that was listed: what may open is listed, and each new tile lists at most four sites
-pub record LooksAt (sys : TileSystem) (before after : Growing) (old new : Numbers) : Type 0 where
-  pub growing : IsGrowing sys after
-  pub goes : GrowsOn before after
-  pub closed : IsClosedBut sys after.grid.tiles (IsIn new)
-  pub listed : AreEmptySites sys.area after.grid.tiles new
-  pub work : (k : ℕ) → count_below new k + 4 * length before.grid.tiles ≤ count_below old k + 4 * length after.grid.tiles
+pub record ListsOn (sys : TileSystem) (before after : List Place) (old new : Numbers) : Type 0 where
+  pub lists : ListsOpen sys after new
+  pub work : (k : ℕ) → count_below new k + 4 * length before ≤ count_below old k + 4 * length after
+
+-- and what was seen stays seen
+pub record LooksAt (sys : TileSystem) (before after : Grower) : Type 0 where
+  pub goes : GrowsOn before.growing after.growing
+  pub on : ListsOn sys before.growing.grid.tiles after.growing.grid.tiles before.work.numbers after.work.numbers
 
 -- A look tells whether a type attached at the site, which was then claimed, and whether it is clear
 -- that whichever attached comes clean.
-pub record TellsLook (sys : TileSystem) (site : Site) (before after : Growing) (told : Looked) : Type 0 where
-  pub claims : MatchBool told.claims (ClaimsPick sys site before after told.picked) (after ≡ before)
-  pub clean : told.clean ≡ true → OpensExact sys before.grid.tiles site
+pub record TellsLook (sys : TileSystem) (site : Site) (before after : Grower) (told : Looked) : Type 0 where
+  pub claims : MatchBool told.claims (ClaimsPick sys site before.growing after.growing told.picked) (after.growing ≡ before.growing)
+  pub clean : told.clean ≡ true → OpensExact sys before.growing.grid.tiles site
 
 -- each tile that came took one step
-abbrev pub TakesSteps : Growing → Growing → ℕ → ℕ → Type 0
-TakesSteps before after start end = end + length before.grid.tiles ≡ start + length after.grid.tiles
+abbrev pub TakesSteps : Grower → Grower → ℕ → ℕ → Type 0
+TakesSteps before after start end = end + length before.growing.grid.tiles ≡ start + length after.growing.grid.tiles

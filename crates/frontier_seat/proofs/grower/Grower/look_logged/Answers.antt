@@ -2,19 +2,19 @@ use Rattle.std.proofs.Common.{◌≡◌, Bool, MatchBool, inl, subst, arith}
 use Rattle.std.proofs.lemmas.Bool.{not-false}
 use Rattle.frontier_seat.specs.Inner.Looks.{ClaimsPick}
 use Rattle.assembly.proofs.Cells.{cell_count-most}
-use Rattle.frontier_seat.proofs.sweeping.look_logged.Goals as goal
+use Rattle.frontier_seat.proofs.grower.Grower.look_logged.Goals as goal
 
 pub overflow_cast-spot : goal.overflow_cast-spot
 overflow_cast-spot g c =
     let within = c.requires.taken.spot.within in
-    let most = cell_count-most c.args.sys.now.area c.recall_valid.ensures.valid.box in
+    let most = cell_count-most c.args.lent.sys.now.area c.recall_valid.ensures.valid.box in
     omega (arith, within, most)
 
 pub returns-clause-logs : goal.returns-clause-logs
 returns-clause-logs g c =
-    let sys = c.args.sys.now in
-    let before = c.args.growing.now in
-    let after = c.look-seen.new.growing in
+    let sys = c.args.lent.sys.now in
+    let before = c.args.self.now.growing in
+    let after = c.look-seen.new.self.growing in
     let pick : ClaimsPick sys c.args.spot.site before after c.look-seen.result.picked =
     subst (λ (b : Bool). MatchBool b (ClaimsPick sys c.args.spot.site before after c.look-seen.result.picked) (after ≡ before)) (not-false c.look-seen.result.claims c.if-not-seen.false) c.look-seen.ensures.tells.claims in
     inl (record {

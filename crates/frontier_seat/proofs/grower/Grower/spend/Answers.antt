@@ -6,13 +6,12 @@ use Rattle.frontier_seat.specs.declared.growing.Growing.{Growing}
 use Rattle.frontier_seat.specs.Inner.Looks.{ClaimsPick}
 use Rattle.frontier_seat.proofs.Listing.{spot_here, taken_spot}
 use Rattle.frontier_seat.proofs.Looked.{few_tiles, goes_further, goes_nowhere, less_work}
-use Rattle.frontier_seat.proofs.bursting.spend.Goals as goal
+use Rattle.frontier_seat.proofs.grower.Grower.spend.Goals as goal
 
 pub loop-left-init : goal.loop-left-init
 loop-left-init g c = record {
   can = c.requires.can;
-  picker = c.requires.picker;
-  goes = goes_nowhere c.args.growing.now;
+  goes = goes_nowhere c.args.self.now.growing;
   row = c.least-row.ensures;
   lists = c.requires.lists;
   made = omega arith;
@@ -22,34 +21,34 @@ loop-left-init g c = record {
 pub look-seen-requires-clause-taken : goal.look-seen-requires-clause-taken
 look-seen-requires-clause-taken g c =
     let inv = c.loop-left.invariant in
-    let old = c.loop-left.work.numbers in
+    let old = c.loop-left.self.work.numbers in
     let new = c.take.new.self.numbers in
     let site = c.site-site.result in
     let number = c.in-Some.number in
-    let is = spot_here c.loop-left.work.area c.area-area.result c.args.sys.now.area site number inv.can.area c.area-area.ensures.area c.in-Some.ensures.within c.site-site.ensures.site c.site-site.ensures.inside in
-    taken_spot c.args.sys.now c.loop-left.growing.grid.tiles old new (record { site = site; number = number }) is c.in-Some.ensures.listed c.in-Some.ensures.removed inv.lists
+    let is = spot_here c.loop-left.self.work.area c.args.lent.area c.args.lent.sys.now.area site number inv.can.area inv.can.box c.in-Some.ensures.within c.site-site.ensures.site c.site-site.ensures.inside in
+    taken_spot c.args.lent.sys.now c.loop-left.self.growing.grid.tiles old new (record { site = site; number = number }) is c.in-Some.ensures.listed c.in-Some.ensures.removed inv.lists
 
 pub loop-left-smaller-then-seen : goal.loop-left-smaller-then-seen
 loop-left-smaller-then-seen g c =
-    let sys = c.args.sys.now in
+    let sys = c.args.lent.sys.now in
     let n = cell_count sys.area in
     let looks = c.look-seen.ensures.looks in
     let within = subst (λ (a : BoxArea). c.in-Some.number < cell_count a) c.loop-left.invariant.can.area c.in-Some.ensures.within in
-    less_work n (length c.loop-left.growing.grid.tiles) (length c.look-seen.new.growing.grid.tiles) _ _ _
-    (few_tiles sys c.look-seen.new.growing looks.growing)
-    (count_below-removes c.loop-left.work.numbers c.take.new.self.numbers c.in-Some.number n c.in-Some.ensures.removed c.in-Some.ensures.listed within)
-    (looks.work n)
+    less_work n (length c.loop-left.self.growing.grid.tiles) (length c.look-seen.new.self.growing.grid.tiles) _ _ _
+    (few_tiles sys c.look-seen.new.self.growing c.look-seen.ensures.can.growing)
+    (count_below-removes c.loop-left.self.work.numbers c.take.new.self.numbers c.in-Some.number n c.in-Some.ensures.removed c.in-Some.ensures.listed within)
+    (looks.on.work n)
 
 pub loop-left-smaller : goal.loop-left-smaller
 loop-left-smaller g c =
-    let sys = c.args.sys.now in
+    let sys = c.args.lent.sys.now in
     let n = cell_count sys.area in
     let looks = c.look-seen.ensures.looks in
     let within = subst (λ (a : BoxArea). c.in-Some.number < cell_count a) c.loop-left.invariant.can.area c.in-Some.ensures.within in
-    less_work n (length c.loop-left.growing.grid.tiles) (length c.look-seen.new.growing.grid.tiles) _ _ _
-    (few_tiles sys c.look-seen.new.growing looks.growing)
-    (count_below-removes c.loop-left.work.numbers c.take.new.self.numbers c.in-Some.number n c.in-Some.ensures.removed c.in-Some.ensures.listed within)
-    (looks.work n)
+    less_work n (length c.loop-left.self.growing.grid.tiles) (length c.look-seen.new.self.growing.grid.tiles) _ _ _
+    (few_tiles sys c.look-seen.new.self.growing c.look-seen.ensures.can.growing)
+    (count_below-removes c.loop-left.self.work.numbers c.take.new.self.numbers c.in-Some.number n c.in-Some.ensures.removed c.in-Some.ensures.listed within)
+    (looks.on.work n)
 
 pub loop-left-preserved-then-seen : goal.loop-left-preserved-then-seen
 loop-left-preserved-then-seen g c =
@@ -59,14 +58,13 @@ loop-left-preserved-then-seen g c =
     let before = inv.cost in
     let made = inv.made in
     let some = c.loop-left-test.true in
-    let claim = subst (λ (b : Bool). MatchBool b (ClaimsPick c.args.sys.now c.site-site.result c.loop-left.growing c.look-seen.new.growing c.look-seen.result.picked) (c.look-seen.new.growing ≡ c.loop-left.growing)) c.if-seen.true c.look-seen.ensures.tells.claims in
+    let claim = subst (λ (b : Bool). MatchBool b (ClaimsPick c.args.lent.sys.now c.site-site.result c.loop-left.self.growing c.look-seen.new.self.growing c.look-seen.result.picked) (c.look-seen.new.self.growing ≡ c.loop-left.self.growing)) c.if-seen.true c.look-seen.ensures.tells.claims in
     let count = claim.claim.count in
     record {
       can = c.look-seen.ensures.can;
-      picker = c.look-seen.ensures.picker;
-      goes = goes_further c.args.growing.now c.loop-left.growing c.look-seen.new.growing inv.goes looks.goes;
+      goes = goes_further c.args.self.now.growing c.loop-left.self.growing c.look-seen.new.self.growing inv.goes looks.goes;
       row = c.site-site.ensures.row;
-      lists = record { empty = looks.listed; all = looks.closed };
+      lists = looks.on.lists;
       made = omega (arith, made, count, some);
       cost = omega (arith, cost, before);
     }
@@ -78,14 +76,13 @@ loop-left-preserved g c =
     let cost = c.look-seen.ensures.cost in
     let before = inv.cost in
     let made = inv.made in
-    let same : c.look-seen.new.growing ≡ c.loop-left.growing = subst (λ (b : Bool). MatchBool b (ClaimsPick c.args.sys.now c.site-site.result c.loop-left.growing c.look-seen.new.growing c.look-seen.result.picked) (c.look-seen.new.growing ≡ c.loop-left.growing)) c.if-seen.false c.look-seen.ensures.tells.claims in
+    let same : c.look-seen.new.self.growing ≡ c.loop-left.self.growing = subst (λ (b : Bool). MatchBool b (ClaimsPick c.args.lent.sys.now c.site-site.result c.loop-left.self.growing c.look-seen.new.self.growing c.look-seen.result.picked) (c.look-seen.new.self.growing ≡ c.loop-left.self.growing)) c.if-seen.false c.look-seen.ensures.tells.claims in
     let count = ap (λ (h : Growing). length h.grid.tiles) same in
     record {
       can = c.look-seen.ensures.can;
-      picker = c.look-seen.ensures.picker;
-      goes = goes_further c.args.growing.now c.loop-left.growing c.look-seen.new.growing inv.goes looks.goes;
+      goes = goes_further c.args.self.now.growing c.loop-left.self.growing c.look-seen.new.self.growing inv.goes looks.goes;
       row = c.site-site.ensures.row;
-      lists = record { empty = looks.listed; all = looks.closed };
+      lists = looks.on.lists;
       made = omega (arith, made, count);
       cost = omega (arith, cost, before);
     }
