@@ -5,8 +5,7 @@ use Rattle.tile_io.specs.declared.fault.Cause.{Cause}
 use Rattle.tile_io.specs.declared.fault.Cause.TheVariants.{NoHeader}
 use Rattle.tile_io.specs.declared.mark.Mark.{Mark}
 use Rattle.tile_io.specs.Formats.{Format, Reads}
-use Rattle.tile_io.specs.Checks.{◌>>=◌, require, field, count_in, Keyword, Table, table_format}
-use Rattle.tile_text.specs.Rows.{row}
+use Rattle.tile_io.specs.Checks.{◌>>=◌, require, field, count_in, Keyword, Table, table_format, row}
 use Rattle.job_board.specs.declared.limits.TheConstants.{MOST_JOBS, GREATEST_CHOICE}
 use Rattle.job_board.specs.declared.position.Position.{Position}
 use Rattle.job_board.specs.declared.position.Position.TheVariants.{AtStart, Behind}
@@ -16,10 +15,10 @@ use Rattle.job_board.specs.declared.position.BatchItem.TheVariants.{Header, JobL
 -- The one keyword that may stand at a position, as the first line that is read: the header at the
 -- start, and behind so many jobs another one.
 abbrev pub row_at : Position → Keyword (List BatchItem) BatchItem
-row_at AtStart = row (codes "batch") (λ n. n == 2) is_none (λ earlier. true) (λ earlier words. do
+row_at AtStart = row (codes "batch") (λ n. n == 2) is_none (λ earlier words. true) (λ earlier words. do
   _ ← require (bytes_eq (field words 1) (codes "1")) NoHeader
   Ok Header)
-row_at (Behind jobs) = row (codes "job") (λ n. n == 2) is_none (λ earlier. nat_lt jobs MOST_JOBS)
+row_at (Behind jobs) = row (codes "job") (λ n. n == 2) is_none (λ earlier words. nat_lt jobs MOST_JOBS)
   (λ earlier words. do
   choice ← count_in 0 GREATEST_CHOICE (field words 1)
   Ok (JobLine choice))
