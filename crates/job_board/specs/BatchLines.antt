@@ -19,9 +19,9 @@ row_at AtStart = row (codes "batch") (λ n. n == 2) is_none (λ earlier words. t
   _ ← require (bytes_eq (field words 1) (codes "1")) NoHeader
   Ok Header)
 row_at (Behind jobs) = row (codes "job") (λ n. n == 2) is_none (λ earlier words. nat_lt jobs MOST_JOBS)
-  (λ earlier words. do
-  choice ← count_in 0 GREATEST_CHOICE (field words 1)
-  Ok (JobLine choice))
+    (λ earlier words. do
+      choice ← count_in 0 GREATEST_CHOICE (field words 1)
+      Ok (JobLine choice))
 
 abbrev pub is_start : Position → Bool
 is_start AtStart = true

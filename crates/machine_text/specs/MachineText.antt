@@ -110,36 +110,36 @@ machine_rows =
       _ ← require (bytes_eq (field words 1) (codes "1")) NoHeader
       Ok Header)
     ∷ row (codes "state") (λ n. n == 2) (behind word_of (codes "machine" ∷ codes "state" ∷ []))
-      (λ M words. nat_lt (length M.states) MOST_STATES) (λ M words. do
+    (λ M words. nat_lt (length M.states) MOST_STATES) (λ M words. do
       name ← declared is_short_name M.states (field words 1)
       Ok (StateLine name))
     ∷ row (codes "symbol") (λ n. n == 2) (behind word_of (codes "state" ∷ codes "symbol" ∷ []))
-      (λ M words. nat_lt (length M.symbols) MOST_SYMBOLS) (λ M words. do
+    (λ M words. nat_lt (length M.symbols) MOST_SYMBOLS) (λ M words. do
       name ← declared is_short_name M.symbols (field words 1)
       Ok (SymbolLine name))
     ∷ row (codes "rule") (λ n. n == 6) (behind word_of (codes "symbol" ∷ codes "rule" ∷ []))
-      (λ M words. true) (λ M words. do
+    (λ M words. true) (λ M words. do
       t ← transition_in M words
       Ok (RuleLine t))
     ∷ row (codes "cells") (λ n. n == 2) (behind word_of (codes "symbol" ∷ codes "rule" ∷ []))
-      (λ M words. true) (λ M words. do
+    (λ M words. true) (λ M words. do
       n ← count_in 1 MOST_CELLS (field words 1)
       Ok (CellsLine n))
     ∷ row (codes "rows") (λ n. n == 2) (behind word_of (codes "cells" ∷ []))
-      (λ M words. true) (λ M words. do
+    (λ M words. true) (λ M words. do
       n ← count_in 1 MOST_ROWS (field words 1)
       Ok (RowsLine n))
     ∷ row (codes "head") (λ n. n == 2) (behind word_of (codes "rows" ∷ []))
-      (λ M words. true) (λ M words. do
+    (λ M words. true) (λ M words. do
       n ← count_in 0 (M.cells - 1) (field words 1)
       Ok (HeadLine n))
     -- all tape lines together have no more symbols than there are cells
     ∷ row (codes "tape") (nat_le 2) (behind word_of (codes "head" ∷ codes "tape" ∷ []))
-      (λ M words. nat_le (length M.tape + (length words - 1)) M.cells) (λ M words. do
+    (λ M words. nat_le (length M.tape + (length words - 1)) M.cells) (λ M words. do
       symbols ← references M.symbols (drop 1 words)
       Ok (TapeLine symbols))
     ∷ row (codes "end") (λ n. n == 1) (behind word_of (codes "head" ∷ codes "tape" ∷ []))
-      (λ M words. true) (λ M words. Ok EndLine)
+    (λ M words. true) (λ M words. Ok EndLine)
     ∷ []
 
 -- only the end line completes a text

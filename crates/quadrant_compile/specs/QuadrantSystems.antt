@@ -42,8 +42,8 @@ kind_row q Corner = (0, codes "o")
 kind_row q (Bottom i) = (i, codes "b:" ++ decimal i)
 kind_row q (Left j) = (q.width + j, codes "a:" ++ decimal j)
 kind_row q (Cell a b) = (
-    suc q.width + q.height + rules_before q (a, b),
-    codes "q:" ++ (symbol_name q a ++ codes ":" ++ symbol_name q b),
+  suc q.width + q.height + rules_before q (a, b),
+  codes "q:" ++ (symbol_name q a ++ codes ":" ++ symbol_name q b),
 )
 
 -- and of labels

@@ -85,32 +85,32 @@ quadrant_rows =
       _ ← require (bytes_eq (field words 1) (codes "1")) NoHeader
       Ok Header)
     ∷ row (codes "symbol") (λ n. n == 2) (behind word_of (codes "quadrant" ∷ codes "symbol" ∷ []))
-      (λ q words. nat_lt (length q.symbols) MOST_SYMBOLS) (λ q words. do
+    (λ q words. nat_lt (length q.symbols) MOST_SYMBOLS) (λ q words. do
       name ← declared is_short_name q.symbols (field words 1)
       Ok (SymbolLine name))
     ∷ row (codes "rule") (λ n. n == 5) (behind word_of (codes "symbol" ∷ codes "rule" ∷ []))
-      (λ q words. true) (λ q words. do
+    (λ q words. true) (λ q words. do
       rule ← rule_in q words
       Ok (RuleLine rule))
     ∷ row (codes "size") (λ n. n == 3) (behind word_of (codes "symbol" ∷ codes "rule" ∷ []))
-      (λ q words. true) (λ q words. do
+    (λ q words. true) (λ q words. do
       width ← count_in 1 LONGEST_SIDE (field words 1)
       height ← count_in 1 LONGEST_SIDE (field words 2)
       Ok (SizeLine width height))
     -- all bottom lines together have no more symbols than there are columns
     ∷ row (codes "bottom") (nat_le 2) (behind word_of (codes "size" ∷ codes "bottom" ∷ []))
-      (λ q words. nat_le (length q.bottom + (length words - 1)) q.width) (λ q words. do
+    (λ q words. nat_le (length q.bottom + (length words - 1)) q.width) (λ q words. do
       symbols ← references q.symbols (drop 1 words)
       Ok (BottomLine symbols))
     -- and all left lines no more than there are rows
     ∷ row (codes "left") (nat_le 2)
-      (behind word_of (codes "size" ∷ codes "bottom" ∷ codes "left" ∷ []))
-      (λ q words. nat_le (length q.left + (length words - 1)) q.height) (λ q words. do
+    (behind word_of (codes "size" ∷ codes "bottom" ∷ codes "left" ∷ []))
+    (λ q words. nat_le (length q.left + (length words - 1)) q.height) (λ q words. do
       symbols ← references q.symbols (drop 1 words)
       Ok (LeftLine symbols))
     ∷ row (codes "end") (λ n. n == 1)
-      (behind word_of (codes "size" ∷ codes "bottom" ∷ codes "left" ∷ []))
-      (λ q words. true) (λ q words. Ok EndLine)
+    (behind word_of (codes "size" ∷ codes "bottom" ∷ codes "left" ∷ []))
+    (λ q words. true) (λ q words. Ok EndLine)
     ∷ []
 
 -- only the end line completes a text

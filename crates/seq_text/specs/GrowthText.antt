@@ -55,16 +55,16 @@ place_in distinct sys earlier words = do
 abbrev pub growth_rows : Bool → TileSystem → List (Keyword (List GrowthItem) GrowthItem)
 growth_rows distinct sys =
     row (codes "place") (λ n. n == 4)
-      (λ before. is_none before || behind word_of (codes "place" ∷ []) before)
-      (λ earlier words. true) (λ earlier words. do
+    (λ before. is_none before || behind word_of (codes "place" ∷ []) before)
+    (λ earlier words. true) (λ earlier words. do
       p ← place_in distinct sys (places_of earlier) words
       Ok (PlaceLine p))
     ∷ row (codes "closed") (nat_le 2)
-      (λ before. is_none before || behind word_of (codes "place" ∷ []) before)
-      (λ earlier words. true) (λ earlier words. Ok ClosedLine)
+    (λ before. is_none before || behind word_of (codes "place" ∷ []) before)
+    (λ earlier words. true) (λ earlier words. Ok ClosedLine)
     ∷ row (codes "unique") (nat_le 2)
-      (λ before. is_none before || behind word_of (codes "place" ∷ codes "closed" ∷ []) before)
-      (λ earlier words. true) (λ earlier words. Ok UniqueLine)
+    (λ before. is_none before || behind word_of (codes "place" ∷ codes "closed" ∷ []) before)
+    (λ earlier words. true) (λ earlier words. Ok UniqueLine)
     ∷ []
 
 -- there is no header and no end line, and the input may end after any line

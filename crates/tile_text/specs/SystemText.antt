@@ -110,17 +110,17 @@ system_rows version =
       _ ← require (bytes_eq (field words 1) (version_word version)) NoHeader
       Ok Header)
     ∷ row (codes "tau") (λ n. n == 2) (behind word_of (codes "tiles" ∷ [])) (λ earlier words. true)
-      (λ earlier words. do
+    (λ earlier words. do
       n ← count_in 1 MOST_TAU (field words 1)
       Ok (TauLine n))
     ∷ row (codes "glue") (λ n. n == 3) (behind word_of (codes "tau" ∷ codes "glue" ∷ []))
-      (λ earlier words. nat_lt (length (glue_names earlier)) MOST_GLUES) (λ earlier words. do
+    (λ earlier words. nat_lt (length (glue_names earlier)) MOST_GLUES) (λ earlier words. do
       name ← declared is_name (glue_names earlier) (field words 1)
       n ← count_in 0 MOST_STRENGTH (field words 2)
       Ok (GlueLine (record { name = name; strength = n })))
     ∷ row (codes "tile") (λ n. n == 6)
-      (behind word_of (codes "tau" ∷ codes "glue" ∷ codes "pair" ∷ codes "tile" ∷ []))
-      (λ earlier words. nat_lt (length (type_names earlier)) MOST_TYPES) (λ earlier words. do
+    (behind word_of (codes "tau" ∷ codes "glue" ∷ codes "pair" ∷ codes "tile" ∷ []))
+    (λ earlier words. nat_lt (length (type_names earlier)) MOST_TYPES) (λ earlier words. do
       name ← declared is_name (type_names earlier) (field words 1)
       n ← side earlier (field words 2)
       e ← side earlier (field words 3)
@@ -128,28 +128,28 @@ system_rows version =
       w ← side earlier (field words 5)
       Ok (TileLine (record { name = name; north = n; east = e; south = s; west = w })))
     ∷ row (codes "box") (λ n. n == 5) (behind word_of (codes "tile" ∷ [])) (λ earlier words. true)
-      (λ earlier words. do
+    (λ earlier words. do
       area ← box_field (field words 1) (field words 2) (field words 3) (field words 4)
       _ ← require (is_box area) OutOfRange
       Ok (BoxLine area))
     ∷ row (codes "seed") (λ n. n == 4)
-      (behind word_of (codes "box" ∷ if_two version (codes "seed")))
-      (λ earlier words. nat_lt (length (filter_map seed_of earlier)) MOST_SEEDS) (λ earlier words. do
+    (behind word_of (codes "box" ∷ if_two version (codes "seed")))
+    (λ earlier words. nat_lt (length (filter_map seed_of earlier)) MOST_SEEDS) (λ earlier words. do
       seed ← place_field (type_names earlier) (field words 1) (field words 2) (field words 3)
       _ ← require (is_inside (last_of (filter_map area_of earlier)) seed.site) SeedOutside
       _ ← require (not (is_seeded (filter_map seed_of earlier) seed.site)) DoubleSite
       Ok (SeedLine seed))
     ∷ row (codes "end") (λ n. n == 1) (behind word_of (codes "seed" ∷ [])) (λ earlier words. true)
-      (λ earlier words. Ok EndLine)
+    (λ earlier words. Ok EndLine)
     -- a pair is of two glues that differ and aren't paired yet
     ∷ if_two version (row (codes "pair") (λ n. n == 4)
-      (behind word_of (codes "glue" ∷ codes "pair" ∷ []))
-      (λ earlier words. nat_lt (length (filter_map pair_of earlier)) MOST_PAIRS) (λ earlier words. do
+    (behind word_of (codes "glue" ∷ codes "pair" ∷ []))
+    (λ earlier words. nat_lt (length (filter_map pair_of earlier)) MOST_PAIRS) (λ earlier words. do
       g ← referred is_name (glue_names earlier) (field words 1)
       h ← referred is_name (glue_names earlier) (field words 2)
       n ← count_in 0 MOST_STRENGTH (field words 3)
       _ ← require (not (g == h) && not (is_some (paired_strength (filter_map pair_of earlier)
-        (record { 0 = g }) (record { 0 = h })))) DoubleName
+          (record { 0 = g }) (record { 0 = h })))) DoubleName
       Ok (PairLine (record { first = record { 0 = g }; second = record { 0 = h }; strength = n }))))
 
 -- only the end line completes a text
