@@ -6,6 +6,7 @@ mod findings;
 mod glances;
 mod grid_of;
 mod judgement;
+mod laid_out;
 mod laws;
 mod once;
 mod passage;
@@ -15,6 +16,7 @@ mod stood_sites;
 mod survey;
 
 pub use judgement::{judge, judge_closed};
+pub use laid_out::LaidOut;
 pub use laws::{law_clean, law_one_verdict, law_yes};
 pub use once::{Judged, judge_clean, judge_grown, judge_once};
 pub use side_table::{SideSets, inputs, inputs_by_index, inputs_of_grid};

@@ -11,9 +11,10 @@ ghost use Rattle.local_check.specs.Inner.Surveys.{CanSurvey};
 
 use crate::judge;
 use crate::judgement::{judge_closed, last_verdict, verdict_by};
+use crate::laid_out::LaidOut;
 use crate::passage::{Passed, pass};
 use crate::side_table::inputs_lent;
-use assembly::{Grid, Sequence, grid_of_seeds};
+use assembly::{Sequence, grid_of_seeds};
 use atam::{Legality, Verdict};
 use std::alloc::Global;
 use tile_system::{NoMemory, Site, System, TypeId};
@@ -65,7 +66,13 @@ pub fn judge_grown(
         Passed::NotExact { site, sum } => Ok(Verdict::NotExact { site, sum }),
         Passed::Exact { clean: true } => Ok(verdict_by(outside)),
         Passed::Exact { clean: false } => {
-            let sides = inputs_lent(alloc, sys, seq, &grid, types)?;
+            let laid = LaidOut {
+                sys,
+                seq,
+                grid: &grid,
+                types,
+            };
+            let sides = inputs_lent(alloc, &laid)?;
             Ok(judge_closed(sys, seq, &sides, outside))
         }
     }
@@ -99,7 +106,13 @@ fn judge_begun(alloc: Global, sys: &System, seq: &Sequence) -> Result<Judged, No
         Passed::Breach(breach) => Ok(Judged::Breach(breach)),
         Passed::NotExact { site, sum } => Ok(Judged::Legal(Verdict::NotExact { site, sum })),
         Passed::Exact { clean } => {
-            let verdict = judge_exact(alloc, sys, seq, &types, &grid, clean)?;
+            let laid = LaidOut {
+                sys,
+                seq,
+                grid: &grid,
+                types: &types,
+            };
+            let verdict = judge_exact(alloc, &laid, clean)?;
             Ok(Judged::Legal(verdict))
         }
     }
@@ -107,22 +120,15 @@ fn judge_begun(alloc: Global, sys: &System, seq: &Sequence) -> Result<Judged, No
 
 // The verdict where each place is held exactly. Where it isn't clear that none has a rival, rivals
 // are sought.
-fn judge_exact(
-    alloc: Global,
-    sys: &System,
-    seq: &Sequence,
-    types: &TypeIndex,
-    grid: &Grid,
-    clean: bool,
-) -> Result<Verdict, NoMemory>
-    requires can { CanSurvey sys.now seq.now grid.now types.now }
-    requires exact { HasExactInputs sys.now seq.now }
-    requires clean { clean ≡ true → HasCleanPlaces sys.now seq.now }
-    ensures { IfOk result (IsVerdict sys.now seq.now) }
+fn judge_exact(alloc: Global, laid: &LaidOut<'_>, clean: bool) -> Result<Verdict, NoMemory>
+    requires can { CanSurvey laid.now }
+    requires exact { HasExactInputs laid.now.sys.now laid.now.seq.now }
+    requires clean { clean ≡ true → HasCleanPlaces laid.now.sys.now laid.now.seq.now }
+    ensures { IfOk result (IsVerdict laid.now.sys.now laid.now.seq.now) }
 {
     if clean {
-        return Ok(last_verdict(sys, seq, types, grid));
+        return Ok(last_verdict(laid.sys, laid.seq, laid.types, laid.grid));
     }
-    let sides = inputs_lent(alloc, sys, seq, grid, types)?;
-    Ok(judge(sys, seq, &sides))
+    let sides = inputs_lent(alloc, laid)?;
+    Ok(judge(laid.sys, laid.seq, &sides))
 }

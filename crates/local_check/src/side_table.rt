@@ -12,8 +12,9 @@ ghost use Rattle.type_index.specs.SideSets.{has};
 ghost use Rattle.local_check.specs.SideSets.{input_at, output_at, AreSidesOf};
 
 use crate::grid_of::grid_of;
+use crate::laid_out::LaidOut;
 use crate::place_sides::PlaceSides;
-use crate::survey::{Survey, survey_all, survey_range};
+use crate::survey::{Survey, survey_all, survey_whole};
 use assembly::{Grid, Sequence};
 use fan_out::WorkerCount;
 use std::alloc::Global;
@@ -160,18 +161,12 @@ pub fn inputs_of_grid<'a>(
 }
 
 // The same where there is an index of the types too.
-pub(crate) fn inputs_lent<'a>(
-    alloc: Global,
-    sys: &System,
-    seq: &Sequence,
-    grid: &'a Grid,
-    types: &'a TypeIndex,
-) -> Result<SideSets<'a>, NoMemory>
-    requires can { CanSurvey sys.now seq.now grid.now types.now }
-    ensures { IfOk result (AreSidesOf sys.now seq.now) }
+pub(crate) fn inputs_lent<'a>(alloc: Global, laid: &LaidOut<'a>) -> Result<SideSets<'a>, NoMemory>
+    requires can { CanSurvey laid.now }
+    ensures { IfOk result (AreSidesOf laid.now.sys.now laid.now.seq.now) }
 {
-    let survey = survey_range(alloc, sys, seq, grid, types, 0, seq.len())?;
-    Ok(table(sys, Cow::Borrowed(grid), Cow::Borrowed(types), survey))
+    let survey = survey_whole(alloc, laid)?;
+    Ok(table_lent(laid, survey))
 }
 
 // The sides of the places of a sequence, by the grid of all of them.
@@ -189,7 +184,13 @@ fn sides_in<'a>(
 {
     sys.recall_valid();
     let index = TypeIndex::build(alloc, sys)?;
-    let survey = survey_range(alloc, sys, seq, &grid, &index, 0, seq.len())?;
+    let laid = LaidOut {
+        sys,
+        seq,
+        grid: &grid,
+        types: &index,
+    };
+    let survey = survey_whole(alloc, &laid)?;
     Ok(table(sys, grid, Cow::Owned(index), survey))
 }
 
@@ -199,22 +200,31 @@ fn sides_in<'a>(
 pub fn inputs_by_index<'a, R: Threads + Sync>(
     rt: &R,
     alloc: Global,
-    sys: &System,
-    seq: &Sequence,
-    grid: &'a Grid,
-    types: &'a TypeIndex,
+    laid: &LaidOut<'a>,
     workers: WorkerCount,
 ) -> Result<SideSets<'a>, NoMemory>
-    requires legal { IsLegal sys.now seq.now }
-    requires fits { Fits sys.now seq.now }
-    requires area { grid.now.area ≡ sys.now.area }
-    requires placements { SamePlacements seq.now grid.now.tiles }
-    requires index { IsIndexOf sys.now types.now }
-    ensures { IfOk result (AreSidesOf sys.now seq.now) }
+    requires legal { IsLegal laid.now.sys.now laid.now.seq.now }
+    requires fits { Fits laid.now.sys.now laid.now.seq.now }
+    requires area { laid.now.grid.now.area ≡ laid.now.sys.now.area }
+    requires placements { SamePlacements laid.now.seq.now laid.now.grid.now.tiles }
+    requires index { IsIndexOf laid.now.sys.now laid.now.types.now }
+    ensures { IfOk result (AreSidesOf laid.now.sys.now laid.now.seq.now) }
 {
-    sys.recall_valid();
-    let survey = survey_all(rt, alloc, sys, seq, grid, types, workers)?;
-    Ok(table(sys, Cow::Borrowed(grid), Cow::Borrowed(types), survey))
+    laid.sys.recall_valid();
+    let survey = survey_all(rt, alloc, laid, workers)?;
+    Ok(table_lent(laid, survey))
+}
+
+// What was found of all places, with the grid and the index that are lent.
+fn table_lent<'a>(laid: &LaidOut<'a>, survey: Survey) -> SideSets<'a>
+    requires can { CanSurvey laid.now }
+    requires survey { IsSurvey laid.now.sys.now laid.now.seq.now 0
+        (length laid.now.seq.now) survey }
+    ensures { AreSidesOf laid.now.sys.now laid.now.seq.now result }
+{
+    let grid = Cow::Borrowed(laid.grid);
+    let index = Cow::Borrowed(laid.types);
+    table(laid.sys, grid, index, survey)
 }
 
 // What was found of all places, with the grid and the index that it was found by.
@@ -224,9 +234,12 @@ fn table<'a>(
     index: Cow<'a, TypeIndex>,
     survey: Survey,
 ) -> SideSets<'a>
-    ensures { (s : List Place) → CanSurvey sys.now s (cow_value grid.entry) (cow_value index.entry) →
-        IsSurvey sys.now s 0 (length s) survey → AreSidesOf sys.now s result }
+    ensures { (s : List Place) → IsLegal sys.now s →
+        SamePlacements s (cow_value grid.entry).tiles →
+        IsIndexOf sys.now (cow_value index.entry) → IsSurvey sys.now s 0 (length s) survey →
+        AreSidesOf sys.now s result }
 {
+    sys.recall_valid();
     let Survey { sides, breaches } = survey;
     SideSets {
         grid,

@@ -8,14 +8,14 @@ ghost use Rattle.local_check.specs.Inner.Portions.{SurveysPortion};
 
 use crate::breaches::Breaches;
 use crate::findings::Findings;
+use crate::laid_out::LaidOut;
 use crate::place_sides::PlaceSides;
 use crate::stood_sites::StoodSites;
-use assembly::{Grid, Sequence, site_index};
+use assembly::site_index;
 use fan_out::{Portion, WorkerCount, share_numbers};
 use std::alloc::Global;
 use std::thread::Threads;
-use tile_system::{NoMemory, System};
-use type_index::TypeIndex;
+use tile_system::NoMemory;
 
 // The sides of each place of a range, and where a condition is broken first.
 #[derive(Drop)]
@@ -24,29 +24,42 @@ pub(crate) struct Survey {
     pub(crate) breaches: Breaches,
 }
 
+// All places, by one worker.
+pub(crate) fn survey_whole(alloc: Global, laid: &LaidOut<'_>) -> Result<Survey, NoMemory>
+    requires can { CanSurvey laid.now }
+    ensures { IfOk result (IsSurvey laid.now.sys.now laid.now.seq.now 0
+        (length laid.now.seq.now)) }
+{
+    let places = Portion {
+        worker: 0,
+        start: 0,
+        end: laid.seq.len(),
+    };
+    survey_portion(alloc, laid, places)
+}
+
 // All places, by so many workers, each with a portion of them.
 pub(crate) fn survey_all<R: Threads + Sync>(
     rt: &R,
     alloc: Global,
-    sys: &System,
-    seq: &Sequence,
-    whole: &Grid,
-    types: &TypeIndex,
+    laid: &LaidOut<'_>,
     workers: WorkerCount,
 ) -> Result<Survey, NoMemory>
-    requires can { CanSurvey sys.now seq.now whole.now types.now }
-    ensures { IfOk result (IsSurvey sys.now seq.now 0 (length seq.now)) }
+    requires can { CanSurvey laid.now }
+    ensures { IfOk result (IsSurvey laid.now.sys.now laid.now.seq.now 0
+        (length laid.now.seq.now)) }
 {
     let surveys = share_numbers(
         rt,
         alloc,
-        seq.len(),
+        laid.seq.len(),
         workers,
         &move |places: Portion| -> Result<Survey, NoMemory>
-            requires { CanSurvey sys.now seq.now whole.now types.now
-                × (places.start ≤ places.end) × (places.end ≤ length seq.now) }
-            ensures { IfOk result (IsSurvey sys.entry.now seq.entry.now places.start places.end) }
-        { survey_range(alloc, sys, seq, whole, types, places.start, places.end) },
+            requires { CanSurvey laid.now
+                × (places.start ≤ places.end) × (places.end ≤ length laid.now.seq.now) }
+            ensures { IfOk result (IsSurvey laid.entry.now.sys.now laid.entry.now.seq.now
+                places.start places.end) }
+        { survey_portion(alloc, laid, places) },
     )?;
     one_survey(surveys)
 }
@@ -77,35 +90,33 @@ impl Survey {
     }
 }
 
-// The places from one index to before another: it looks at what stands beside each in the grid of
-// all of them. The sides beside which a tile stood before it come from the sites of the places before it,
-// the seeds among them.
+// The places of a portion: it looks at what stands beside each in the grid of all of them. The sides
+// beside which a tile stood before it come from the sites of the places before it, the seeds among
+// them.
 #[inline(never)]
-pub(crate) fn survey_range(
-    alloc: Global,
-    sys: &System,
-    seq: &Sequence,
-    whole: &Grid,
-    types: &TypeIndex,
-    start: usize,
-    end: usize,
-) -> Result<Survey, NoMemory>
-    requires can { CanSurvey sys.now seq.now whole.now types.now }
-    requires range { (start ≤ end) × (end ≤ length seq.now) }
-    ensures { IfOk result (IsSurvey sys.now seq.now start end) }
+fn survey_portion(alloc: Global, laid: &LaidOut<'_>, places: Portion) -> Result<Survey, NoMemory>
+    requires can { CanSurvey laid.now }
+    requires range { (places.start ≤ places.end) × (places.end ≤ length laid.now.seq.now) }
+    ensures { IfOk result (IsSurvey laid.now.sys.now laid.now.seq.now places.start places.end) }
 {
-    let mut sides = Vec::with_capacity(alloc, end - start)?;
+    let LaidOut {
+        sys,
+        seq,
+        grid,
+        types,
+    } = *laid;
+    let mut sides = Vec::with_capacity(alloc, places.end - places.start)?;
     let mut breaches = Breaches::NONE;
     let mut findings = Findings::make(alloc, sys)?;
     let area = sys.area();
     let mut stood = StoodSites::make(alloc, area, sys.seeds())?;
     let seed_count = sys.seeds().len();
-    stood.insert_range(seq, seed_count, start);
-    for index in start..end {
+    stood.insert_range(seq, seed_count, places.start);
+    for index in places.start..places.end {
         let place = seq.get(index);
         let number = site_index(&area, place.site);
         let before = stood.beside(place.site, number);
-        let finding = findings.at(sys, types, whole, place, number, &before);
+        let finding = findings.at(sys, types, grid, place, number, &before);
         sides.push_reserved(PlaceSides::of(finding.earlier, finding.outputs));
         if index >= seed_count {
             stood.insert(place, number);

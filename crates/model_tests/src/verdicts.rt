@@ -10,7 +10,7 @@ ghost use Rattle.local_check.specs.Judgement.{IsVerdict};
 use assembly::{Grid, Sequence};
 use atam::{Legality, Verdict};
 use fan_out::WorkerCount;
-use local_check::{Judged, SideSets, inputs, inputs_by_index, judge, judge_once};
+use local_check::{Judged, LaidOut, SideSets, inputs, inputs_by_index, judge, judge_once};
 use replay_order::check_legal;
 use std::alloc::Global;
 use std::test::Fail;
@@ -78,21 +78,18 @@ fn verdict_on(alloc: Global, sys: &System, order: &Sequence) -> Result<Verdict, 
 fn verdict_by_index<R: Threads + Sync>(
     rt: &R,
     alloc: Global,
-    sys: &System,
-    order: &Sequence,
-    grid: &Grid,
-    types: &TypeIndex,
+    laid: &LaidOut<'_>,
     workers: WorkerCount,
 ) -> Result<Verdict, NoMemory>
-    requires fits { Fits sys.now order.now }
-    requires legal { IsLegal sys.now order.now }
-    requires area { grid.now.area ≡ sys.now.area }
-    requires placements { SamePlacements order.now grid.now.tiles }
-    requires index { IsIndexOf sys.now types.now }
-    ensures { IfOk result (IsVerdict sys.now order.now) }
+    requires fits { Fits laid.now.sys.now laid.now.seq.now }
+    requires legal { IsLegal laid.now.sys.now laid.now.seq.now }
+    requires area { laid.now.grid.now.area ≡ laid.now.sys.now.area }
+    requires placements { SamePlacements laid.now.seq.now laid.now.grid.now.tiles }
+    requires index { IsIndexOf laid.now.sys.now laid.now.types.now }
+    ensures { IfOk result (IsVerdict laid.now.sys.now laid.now.seq.now) }
 {
-    let sides = inputs_by_index(rt, alloc, sys, order, grid, types, workers)?;
-    Ok(judge(sys, order, &sides))
+    let sides = inputs_by_index(rt, alloc, laid, workers)?;
+    Ok(judge(laid.sys, laid.seq, &sides))
 }
 
 // The same by so many workers.
@@ -111,7 +108,13 @@ fn verdict_by<R: Threads + Sync>(
     let mut grid = Grid::make(alloc, sys.area())?;
     let _legal = check_legal(sys, order, &mut grid);
     let types = TypeIndex::build(alloc, sys)?;
-    verdict_by_index(rt, alloc, sys, order, &grid, &types, workers)
+    let laid = LaidOut {
+        sys,
+        seq: order,
+        grid: &grid,
+        types: &types,
+    };
+    verdict_by_index(rt, alloc, &laid, workers)
 }
 
 // The verdict on a sequence of these places, if it is legal, by so many workers.

@@ -14,7 +14,7 @@ use assembly::{Grid, Sequence};
 use atam::Verdict;
 use fan_out::WorkerCount;
 use grow_workers::SeenOrder;
-use local_check::{inputs_by_index, judge_clean, judge_closed, judge_grown};
+use local_check::{LaidOut, inputs_by_index, judge_clean, judge_closed, judge_grown};
 use site_table::Grown;
 use std::thread::Threads;
 use tile_io::Gate;
@@ -85,7 +85,13 @@ pub fn judge_grid<R: Threads + Sync, G: Gate>(
     let judges = judges_of(&known, workers);
     let SeenOrder { order, clean } = known_or_found_order(resources, sys, grid, known, workers)?;
     let outside = types.least_open_outside(sys, grid);
-    let verdict = verdict_on(resources, sys, types, grid, &order, clean, outside, judges)?;
+    let laid = LaidOut {
+        sys,
+        seq: &order,
+        grid,
+        types,
+    };
+    let verdict = verdict_on(resources, &laid, clean, outside, judges)?;
     Ok(JudgedGrowth {
         order,
         verdict,
@@ -108,29 +114,32 @@ fn judges_of(known: &Option<SeenOrder>, workers: WorkerCount) -> WorkerCount {
 // that each came clean.
 fn verdict_on<R: Threads + Sync, G: Gate>(
     resources: &Resources<'_, R, G>,
-    sys: &System,
-    types: &TypeIndex,
-    grid: &Grid,
-    order: &Sequence,
+    laid: &LaidOut<'_>,
     clean: bool,
     outside: Option<(Site, TypeId)>,
     workers: WorkerCount,
 ) -> Result<Verdict, NoMemory>
-    requires index { IsIndexOf sys.now types.now }
-    requires area { grid.now.area ≡ sys.now.area }
-    requires order { IsWholeOrder sys.now grid.now.tiles order.now }
-    requires clean { clean ≡ true → CameExact sys.now order.now }
-    requires closed { IsClosedInBox sys.now order.now }
-    requires outside { IsLeastOpenOutside sys.now order.now outside }
-    ensures { IfOk result (IsVerdict sys.now order.now) }
+    requires index { IsIndexOf laid.now.sys.now laid.now.types.now }
+    requires area { laid.now.grid.now.area ≡ laid.now.sys.now.area }
+    requires order { IsWholeOrder laid.now.sys.now laid.now.grid.now.tiles laid.now.seq.now }
+    requires clean { clean ≡ true → CameExact laid.now.sys.now laid.now.seq.now }
+    requires closed { IsClosedInBox laid.now.sys.now laid.now.seq.now }
+    requires outside { IsLeastOpenOutside laid.now.sys.now laid.now.seq.now outside }
+    ensures { IfOk result (IsVerdict laid.now.sys.now laid.now.seq.now) }
 {
+    let LaidOut {
+        sys,
+        seq,
+        types,
+        ..
+    } = *laid;
     let alloc = resources.alloc;
     if clean {
-        return Ok(judge_clean(sys, order, outside));
+        return Ok(judge_clean(sys, seq, outside));
     }
-    if workers.get() == 1 || order.len() <= FEW_PLACES {
-        return judge_grown(alloc, sys, order, types, outside);
+    if workers.get() == 1 || seq.len() <= FEW_PLACES {
+        return judge_grown(alloc, sys, seq, types, outside);
     }
-    let sides = inputs_by_index(resources.rt, alloc, sys, order, grid, types, workers)?;
-    Ok(judge_closed(sys, order, &sides, outside))
+    let sides = inputs_by_index(resources.rt, alloc, laid, workers)?;
+    Ok(judge_closed(sys, seq, &sides, outside))
 }

@@ -5,21 +5,21 @@ use Rattle.atam.specs.Placements.{SamePlacements}
 use Rattle.atam.specs.TileSystem.{TileSystem, IsValid}
 use Rattle.atam.specs.Assembly.{Fits}
 use Rattle.atam.specs.Growth.{IsLegal}
-use Rattle.assembly.specs.Grids.{TileGrid}
-use Rattle.type_index.specs.Indexes.{TypeLists, IsIndexOf}
+use Rattle.type_index.specs.Indexes.{IsIndexOf}
+use Rattle.local_check.specs.declared.laid_out.LaidOut.{LaidOut}
 use Rattle.local_check.specs.declared.survey.Survey.{Survey}
 use Rattle.local_check.specs.Inner.PlaceSides.{earlier_sets, output_sets}
 use Rattle.local_check.specs.Inner.Sides.{AreEarlierFrom, AreOutputsFrom}
 use Rattle.local_check.specs.Inner.Ranges.{FindsInexactIn, FindsRivalIn}
 
 -- a legal sequence that fits, with the grid of its places and an index of the system's types
-pub record CanSurvey (sys : TileSystem) (s : List Place) (grid : TileGrid) (types : TypeLists) : Type 0 where
-  pub valid : IsValid sys
-  pub legal : IsLegal sys s
-  pub fits : Fits sys s
-  pub area : grid.area ≡ sys.area
-  pub placements : SamePlacements s grid.tiles
-  pub index : IsIndexOf sys types
+pub record CanSurvey (laid : LaidOut) : Type 0 where
+  pub valid : IsValid laid.sys.now
+  pub legal : IsLegal laid.sys.now laid.seq.now
+  pub fits : Fits laid.sys.now laid.seq.now
+  pub area : laid.grid.now.area ≡ laid.sys.now.area
+  pub placements : SamePlacements laid.seq.now laid.grid.now.tiles
+  pub index : IsIndexOf laid.sys.now laid.types.now
 
 -- both sets of sides of each place from one index to before another, and where one of them breaks a condition first
 pub record IsSurvey (sys : TileSystem) (s : List Place) (start end : ℕ) (survey : Survey) : Type 0 where

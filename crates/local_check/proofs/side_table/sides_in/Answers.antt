@@ -1,15 +1,6 @@
-use Rattle.std.proofs.Common.{ℕ, subst}
-use Rattle.local_check.specs.Inner.Surveys.{IsSurvey}
 use Rattle.local_check.proofs.side_table.sides_in.Goals as goal
 
 pub returns : goal.returns
 returns c =
-    let all = subst (λ (n : ℕ). IsSurvey c.args.sys.now c.args.seq.now 0 n c.in_ok-survey.survey) c.len.ensures c.in_ok-survey.ensures in
-    c.table.ensures c.args.seq.now (record {
-      valid = c.recall_valid.ensures.valid;
-      legal = c.requires.legal;
-      fits = c.requires.fits;
-      area = c.requires.area;
-      placements = c.requires.placements;
-      index = c.in_ok-index.ensures;
-    }) all
+    c.table.ensures c.args.seq.now c.requires.legal c.requires.placements c.in_ok-index.ensures
+    c.in_ok-survey.ensures

@@ -7,8 +7,8 @@ use Rattle.local_check.proofs.survey.survey_all.Goals as goal
 
 pub returns : goal.returns
 returns g c =
-    let sys = c.args.sys.now in
-    let s = c.args.seq.now in
+    let sys = c.args.laid.now.sys.now in
+    let s = c.args.laid.now.seq.now in
     let surveys = c.in_ok-surveys.surveys.items in
     let row : InARow (SurveysPortion sys s) 0 0 c.len.result surveys =
     row_map _ (SurveysPortion sys s) (λ worker start end found below said. search rules) 0 0 c.len.result surveys c.in_ok-surveys.ensures.each

@@ -24,46 +24,46 @@ use Rattle.assembly.proofs.Putting.{take_more}
 use Rattle.local_check.specs.Inner.StoodSites.{StoodTable, TellsSites}
 use Rattle.local_check.proofs.Standing.{earlier_standing, outputs_standing, pull_standing}
 use Rattle.local_check.proofs.Judging.{one_map, part_of_tiles, seed_inexact, seed_rival, rival_more, none_so_far}
-use Rattle.local_check.proofs.survey.survey_range.Goals as goal
-use Rattle.local_check.proofs.survey.survey_range.Goals.{then-index-seed_count, else-index-seed_count}
+use Rattle.local_check.proofs.survey.survey_portion.Goals as goal
+use Rattle.local_check.proofs.survey.survey_portion.Goals.{then-index-seed_count, else-index-seed_count}
 
 -- a place of the sequence is in the system's box
 placed_inside : (sys : TileSystem) (s : List Place) (area : BoxArea) (i : ℕ) (p : Place) → area ≡ sys.area → Fits sys s → slice_get s i ≡ Some p → InBox area p.site
 placed_inside sys s area i p same fits there = subst (λ (a : BoxArea). InBox a p.site) (sym same) (All-slice_get (λ q. InBox sys.area q.site) s i p fits.sites there)
 
 pub at-finding-requires-clause-fits : goal.at-finding-requires-clause-fits
-at-finding-requires-clause-fits c = Fits-part c.args.sys.now c.args.whole.now.tiles c.args.seq.now c.requires.can.placements.whole c.requires.can.fits
+at-finding-requires-clause-fits c = Fits-part c.args.laid.now.sys.now c.args.laid.now.grid.now.tiles c.args.laid.now.seq.now c.requires.can.placements.whole c.requires.can.fits
 
 pub at-finding-requires-clause-inside : goal.at-finding-requires-clause-inside
 at-finding-requires-clause-inside c =
-    placed_inside c.args.sys.now c.args.seq.now c.args.whole.now.area c.loop-index.index c.get-place.result c.requires.can.area c.requires.can.fits c.get-place.ensures
+    placed_inside c.args.laid.now.sys.now c.args.laid.now.seq.now c.args.laid.now.grid.now.area c.loop-index.index c.get-place.result c.requires.can.area c.requires.can.fits c.get-place.ensures
 
 pub at-finding-requires-clause-kind : goal.at-finding-requires-clause-kind
 at-finding-requires-clause-kind c =
-    All-slice_get (λ p. IsType c.args.sys.now p.tile) c.args.seq.now c.loop-index.index c.get-place.result c.requires.can.fits.types c.get-place.ensures
+    All-slice_get (λ p. IsType c.args.laid.now.sys.now p.tile) c.args.laid.now.seq.now c.loop-index.index c.get-place.result c.requires.can.fits.types c.get-place.ensures
 
 pub site_index-number-requires-clause-inside : goal.site_index-number-requires-clause-inside
 site_index-number-requires-clause-inside c =
-    placed_inside c.args.sys.now c.args.seq.now c.area-area.result c.loop-index.index c.get-place.result c.area-area.ensures.area c.requires.can.fits c.get-place.ensures
+    placed_inside c.args.laid.now.sys.now c.args.laid.now.seq.now c.area-area.result c.loop-index.index c.get-place.result c.area-area.ensures.area c.requires.can.fits c.get-place.ensures
 
 pub beside-before-requires-clause-inside : goal.beside-before-requires-clause-inside
 beside-before-requires-clause-inside c =
-    placed_inside c.args.sys.now c.args.seq.now c.loop-index.stood.area c.loop-index.index c.get-place.result c.loop-index.invariant.area c.requires.can.fits c.get-place.ensures
+    placed_inside c.args.laid.now.sys.now c.args.laid.now.seq.now c.loop-index.stood.area c.loop-index.index c.get-place.result c.loop-index.invariant.area c.requires.can.fits c.get-place.ensures
 
 pub insert-requires-clause-inside : goal.insert-requires-clause-inside
 insert-requires-clause-inside c =
-    placed_inside c.args.sys.now c.args.seq.now c.loop-index.stood.area c.loop-index.index c.get-place.result c.loop-index.invariant.area c.requires.can.fits c.get-place.ensures
+    placed_inside c.args.laid.now.sys.now c.args.laid.now.seq.now c.loop-index.stood.area c.loop-index.index c.get-place.result c.loop-index.invariant.area c.requires.can.fits c.get-place.ensures
 
 pub loop-index-preserved : goal.loop-index-preserved
 loop-index-preserved c =
-    let sys = c.args.sys.now in
-    let s = c.args.seq.now in
+    let sys = c.args.laid.now.sys.now in
+    let s = c.args.laid.now.seq.now in
     let n = length sys.seeds in
     let i = c.loop-index.index in
     let k = max n i in
     let part = take k s in
     let p = c.get-place.result in
-    let whole = c.args.whole.now.tiles in
+    let whole = c.args.laid.now.grid.now.tiles in
     let legal = c.requires.can.legal in
     let distinct = c.requires.can.valid.distinct_seeds in
     let found = c.at-finding.result in
@@ -95,7 +95,7 @@ loop-index-preserved c =
     (sym (bound_sides-same sys s whole p.site p.tile (one_map sys s whole distinct legal c.requires.can.placements)))
     outputs_are
     in
-    let start = c.args.start in
+    let start = c.args.places.start in
     let earlier_count : start + length (earlier_sets sides) ≡ i = ap (λ j. start + j) (length-map sides (λ (a : PlaceSides). a.earlier)) ∙ c.loop-index.invariant.count in
     let output_count : start + length (output_sets sides) ≡ i = ap (λ j. start + j) (length-map sides (λ (a : PlaceSides). a.outputs)) ∙ c.loop-index.invariant.count in
     let earlier_put : earlier_sets c.push_reserved.new.self.items ≡ earlier_sets sides ++ found.earlier ∷ [] =
@@ -184,11 +184,11 @@ loop-index-preserved c =
 
 pub returns : goal.returns
 returns c =
-    let all : c.loop-index.index ≡ c.args.end = omega (arith, c.loop-index-test.false, c.loop-index.invariant.within) in
+    let all : c.loop-index.index ≡ c.args.places.end = omega (arith, c.loop-index-test.false, c.loop-index.invariant.within) in
     record {
       count = c.loop-index.invariant.count ∙ all;
       earlier = c.loop-index.invariant.earlier;
       outputs = c.loop-index.invariant.outputs;
-      inexact = subst (λ n. FindsInexactIn c.args.sys.now c.args.seq.now c.args.start n c.loop-index.breaches.inexact) all c.loop-index.invariant.inexact;
-      rival = subst (λ n. FindsRivalIn c.args.sys.now c.args.seq.now c.args.start n c.loop-index.breaches.rival) all c.loop-index.invariant.rival;
+      inexact = subst (λ n. FindsInexactIn c.args.laid.now.sys.now c.args.laid.now.seq.now c.args.places.start n c.loop-index.breaches.inexact) all c.loop-index.invariant.inexact;
+      rival = subst (λ n. FindsRivalIn c.args.laid.now.sys.now c.args.laid.now.seq.now c.args.places.start n c.loop-index.breaches.rival) all c.loop-index.invariant.rival;
     }
