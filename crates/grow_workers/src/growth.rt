@@ -22,7 +22,6 @@ use std::alloc::Global;
 use std::thread::Threads;
 use tile_io::Gate;
 use tile_system::{NoMemory, System};
-use type_index::TypeIndex;
 
 /// Grows a system within its box with so many workers, by `grow_on` on a table of its own.
 pub fn grow<R: Threads + Sync, G: Gate>(
@@ -54,21 +53,18 @@ pub fn grow<R: Threads + Sync, G: Gate>(
 pub fn grow_by_index<R: Threads + Sync, G: Gate>(
     rt: &R,
     alloc: Global,
-    sys: &System,
-    types: &TypeIndex,
+    lent: &Lent<'_, G>,
     workers: WorkerCount,
     choice: u64,
-    gate: &G,
 ) -> Result<Grown, NoMemory>
-    requires index { IsIndexOf sys.now types.now }
-    ensures { IfOk result (IsGrownBy sys.now workers.count) }
+    requires index { IsIndexOf lent.now.sys.now lent.now.types.now }
+    ensures { IfOk result (IsGrownBy lent.now.sys.now workers.count) }
 {
-    let lent = Lent { sys, types, gate };
     if workers.get() == 1 && choice == 0 {
-        let (grown, _log) = claim_in_order(alloc, &lent)?;
+        let (grown, _log) = claim_in_order(alloc, lent)?;
         return Ok(grown);
     }
-    let (grown, _log) = grow_whole(rt, alloc, &lent, workers, Goes::ByBands { choice })?;
+    let (grown, _log) = grow_whole(rt, alloc, lent, workers, Goes::ByBands { choice })?;
     Ok(grown)
 }
 

@@ -22,3 +22,4 @@ pub use numbers::worker_number;
 pub use ordered::{SeenOrder, grow_seeing_order};
 pub use picks::picks_in_order;
 pub use rounds::{grow_on, grow_on_by_index};
+pub use shared::Lent;

@@ -16,7 +16,6 @@ use std::alloc::Global;
 use std::thread::Threads;
 use tile_io::Gate;
 use tile_system::{NoMemory, System};
-use type_index::TypeIndex;
 
 /// The canonical order of what has grown, and whether it is clear that each tile but the seeds came
 /// clean, held by exactly the temperature.
@@ -36,23 +35,20 @@ pub struct SeenOrder {
 pub fn grow_seeing_order<R: Threads + Sync, G: Gate>(
     rt: &R,
     alloc: Global,
-    sys: &System,
-    types: &TypeIndex,
+    lent: &Lent<'_, G>,
     workers: WorkerCount,
-    gate: &G,
 ) -> Result<(Grown, Option<SeenOrder>), NoMemory>
-    requires { IsIndexOf sys.now types.now }
-    ensures growth { IfOk result (λ r. IsGrownBy sys.now workers.count r.0) }
-    ensures order { IfOk result (λ r. IfSome r.1 (IsSeenOrder sys.now r.0.grid.tiles)) }
+    requires { IsIndexOf lent.now.sys.now lent.now.types.now }
+    ensures growth { IfOk result (λ r. IsGrownBy lent.now.sys.now workers.count r.0) }
+    ensures order { IfOk result (λ r. IfSome r.1 (IsSeenOrder lent.now.sys.now r.0.grid.tiles)) }
     ensures sole { workers.count ≡ 1 → IfOk result (λ r. IsSome r.1) }
 {
-    let lent = Lent { sys, types, gate };
     if workers.get() == 1 {
-        let (grown, seen) = grow_in_order_seeing(alloc, &lent)?;
+        let (grown, seen) = grow_in_order_seeing(alloc, lent)?;
         return Ok((grown, Some(seen)));
     }
-    let (grown, log) = grow_whole(rt, alloc, &lent, workers, Goes::InOrder)?;
-    let order = order_of(alloc, sys, grown.grid(), log)?;
+    let (grown, log) = grow_whole(rt, alloc, lent, workers, Goes::InOrder)?;
+    let order = order_of(alloc, lent.sys, grown.grid(), log)?;
     Ok((grown, order))
 }
 

@@ -14,7 +14,7 @@ ghost use Rattle.grow_workers.specs.Inner.Wins.{HasNumbers};
 use crate::goes::Goes;
 use crate::joining::join;
 use crate::leavings::{Harvest, Part, part_of, scout_of};
-use crate::shared::Shared;
+use crate::shared::{Lent, Shared};
 use crate::starts::{Start, grid_at_start, split};
 use assembly::Grid;
 use attach_rule::least_open_inside_by;
@@ -70,9 +70,12 @@ pub fn grow_on<R: Threads + Sync, G: Gate>(
 {
     let types = TypeIndex::build(alloc, sys)?;
     let workers = WorkerCount::new(workers);
-    grow_on_by_index(
-        rt, alloc, sys, table, &types, seat, seen, workers, choice, gate,
-    )
+    let lent = Lent {
+        sys,
+        types: &types,
+        gate,
+    };
+    grow_on_by_index(rt, alloc, &lent, table, seat, seen, workers, choice)
 }
 
 /// Grows with so many workers, from what the seat has seen, in rounds, with an index of the system's
@@ -87,25 +90,24 @@ pub fn grow_on<R: Threads + Sync, G: Gate>(
 pub fn grow_on_by_index<R: Threads + Sync, G: Gate>(
     rt: &R,
     alloc: Global,
-    sys: &System,
+    lent: &Lent<'_, G>,
     table: &SiteTable,
-    types: &TypeIndex,
     seat: SiteSeat,
     seen: Grid,
     workers: WorkerCount,
     choice: u64,
-    gate: &G,
 ) -> Result<(SiteSeat, Grid, Vec<u32>), NoMemory>
-    requires index { IsIndexOf sys.now types.now }
+    requires index { IsIndexOf lent.now.sys.now lent.now.types.now }
     requires numbers { OwnsAtLeast workers.count seat.scout.owned }
     requires seat { IsSeatOf table.now seat }
-    requires system { table.now.sys ≡ sys.now }
-    requires area { seen.area ≡ sys.now.area }
+    requires system { table.now.sys ≡ lent.now.sys.now }
+    requires area { seen.area ≡ lent.now.sys.now.area }
     requires seen { SamePlacements seat.scout.seen seen.tiles }
-    ensures grew { IfOk result (λ r. GrewOn sys.now seat seen r.0 r.1 r.2.items) }
+    ensures grew { IfOk result (λ r. GrewOn lent.now.sys.now seat seen r.0 r.1 r.2.items) }
     ensures count { IfOk result (λ r. length r.2.items ≡ workers.count) }
 {
-    let shared = Shared::of(sys, table, types, gate, workers, Goes::ByBands { choice });
+    let goes = Goes::ByBands { choice };
+    let shared = Shared::of(lent.sys, table, lent.types, lent.gate, workers, goes);
     grow_in_rounds(rt, alloc, &shared, seat, seen)
 }
 

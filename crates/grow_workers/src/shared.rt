@@ -11,10 +11,10 @@ use tile_io::Gate;
 use tile_system::System;
 use type_index::TypeIndex;
 
-// What a whole growth is lent: a system, an index of the system's types, and the gate that each
-// worker passes.
+/// What a growth is lent: a system, an index of the system's types, and the gate that each worker
+/// passes.
 #[derive(Drop)]
-pub(crate) struct Lent<'a, G: Gate> {
+pub struct Lent<'a, G: Gate> {
     pub sys: &'a System,
     pub types: &'a TypeIndex,
     pub gate: &'a G,

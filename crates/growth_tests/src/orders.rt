@@ -4,7 +4,7 @@ ghost use Rattle.atam.specs.Assembly.{Fits};
 
 use assembly::{Grid, Sequence};
 use fan_out::WorkerCount;
-use grow_workers::{SeenOrder, grow_seeing_order};
+use grow_workers::{Lent, SeenOrder, grow_seeing_order};
 use replay_order::{ReplayStop, replay, replay_by};
 use site_table::Grown;
 use std::alloc::{AllocError, Global};
@@ -118,7 +118,12 @@ fn grown_seeing<R: Threads + Sync>(
 {
     let gate = CountingGate::make();
     let types = TypeIndex::build(alloc, sys)?;
-    let (grown, seen) = grow_seeing_order(rt, alloc, sys, &types, workers, &gate)?;
+    let lent = Lent {
+        sys,
+        types: &types,
+        gate: &gate,
+    };
+    let (grown, seen) = grow_seeing_order(rt, alloc, &lent, workers)?;
     grown.grid().recall_sites();
     Ok((grown, seen, gate.saw_each_once(workers.get())))
 }

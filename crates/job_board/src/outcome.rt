@@ -13,7 +13,7 @@ use assembly::{Grid, Sequence};
 use atam::Verdict;
 use fan_out::WorkerCount;
 use frontier_seat::{FilledInOrder, fill_least_first_seeing};
-use grow_workers::{grow_by_index, picks_in_order};
+use grow_workers::{Lent, grow_by_index, picks_in_order};
 use local_check::{judge_clean, judge_grown};
 use replay_order::replay_producible;
 use std::alloc::Global;
@@ -127,15 +127,12 @@ fn filled<R: Threads + Sync>(
     if choice == 0 {
         return fill_least_first_seeing(alloc, sys, types, &mut picks_in_order());
     }
-    let grown = grow_by_index(
-        rt,
-        alloc,
+    let lent = Lent {
         sys,
         types,
-        WorkerCount::new(1),
-        choice,
-        &OpenGate,
-    )?;
+        gate: &OpenGate,
+    };
+    let grown = grow_by_index(rt, alloc, &lent, WorkerCount::new(1), choice)?;
     let grid = grown.into_grid();
     grid.recall_sites();
     let order = replay_producible(alloc, sys, &grid)?;

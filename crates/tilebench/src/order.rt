@@ -10,7 +10,7 @@ ghost use Rattle.replay_order.specs.ReplayAnswers.{IsWholeOrder};
 use crate::resources::{Crew, Resources};
 use assembly::Grid;
 use fan_out::WorkerCount;
-use grow_workers::{SeenOrder, grow_by_index, grow_seeing_order};
+use grow_workers::{Lent, SeenOrder, grow_by_index, grow_seeing_order};
 use replay_order::replay_producible_by;
 use site_table::Grown;
 use std::alloc::Global;
@@ -31,13 +31,16 @@ pub fn grow_ordered<R: Threads + Sync, G: Gate>(
     ensures grew { IfOk result (λ r. IsGrownBy sys.now crew.workers.count r.0) }
     ensures order { IfOk result (λ r. IfSome r.1 (IsSeenOrder sys.now r.0.grid.tiles)) }
 {
-    let alloc = resources.alloc;
-    let gate = resources.gate;
+    let lent = Lent {
+        sys,
+        types,
+        gate: resources.gate,
+    };
     let Crew { workers, choice } = crew;
     if choice == 0 {
-        return grow_seeing_order(resources.rt, alloc, sys, types, workers, gate);
+        return grow_seeing_order(resources.rt, resources.alloc, &lent, workers);
     }
-    let grown = grow_by_index(resources.rt, alloc, sys, types, workers, choice, gate)?;
+    let grown = grow_by_index(resources.rt, resources.alloc, &lent, workers, choice)?;
     Ok((grown, None))
 }
 
@@ -49,11 +52,14 @@ pub fn grow_by_crew<R: Threads + Sync, G: Gate>(
 ) -> Result<Grown, NoMemory>
     ensures { IfOk result (IsGrownBy sys.now crew.workers.count) }
 {
-    let alloc = resources.alloc;
-    let gate = resources.gate;
+    let types = TypeIndex::build(resources.alloc, sys)?;
+    let lent = Lent {
+        sys,
+        types: &types,
+        gate: resources.gate,
+    };
     let Crew { workers, choice } = crew;
-    let types = TypeIndex::build(alloc, sys)?;
-    grow_by_index(resources.rt, alloc, sys, &types, workers, choice, gate)
+    grow_by_index(resources.rt, resources.alloc, &lent, workers, choice)
 }
 
 /// The canonical sequence of a producible grid, which may be known, by so many workers.

@@ -4,13 +4,8 @@ use Rattle.tile_io.specs.Lines.{line_of}
 use Rattle.atam.specs.declared.place.Place.{Place}
 use Rattle.atam.specs.TileSystem.{TileSystem}
 use Rattle.seq_text.specs.GrowthLines.{place_lines}
+use Rattle.watch_frames.specs.declared.printing.FrameSpan.{FrameSpan}
 use Rattle.watch_frames.specs.Watched.{IsWatched}
-
--- a frame: its number from 1, how many places were told of before, and how many it has
-pub record FrameSpan : Type 0 where
-  pub number : ℕ
-  pub before : ℕ
-  pub count : ℕ
 
 -- the frames with these counts, from one with this number on, behind so many places
 abbrev pub spans_from : ℕ → ℕ → List ℕ → List FrameSpan

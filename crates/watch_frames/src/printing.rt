@@ -12,6 +12,14 @@ use seq_text::PlacePieces;
 use tile_io::{Chunk, Failed, Sink};
 use tile_system::System;
 
+// A frame: its number from 1, how many places were told of before, and how many it has.
+#[derive(Clone, Copy)]
+struct FrameSpan {
+    number: u32,
+    before: u32,
+    count: u32,
+}
+
 /// Writes for each frame its line and the `place` lines of the places that it adds, and then the
 /// line `grown`. It takes no memory.
 pub fn print_frames<K: Sink>(sys: &System, frames: &Frames, sink: &mut K) -> Result<(), Failed>
@@ -40,7 +48,13 @@ fn put_frames<K: Sink>(
     let mut before = 0;
     for index in 0..frames.taken() {
         let count = frames.count(index);
-        put_frame(frames, index + 1, before, count, pieces, chunk, sink)?;
+        let number = index + 1;
+        let span = FrameSpan {
+            number,
+            before,
+            count,
+        };
+        put_frame(frames, span, pieces, chunk, sink)?;
         before = count;
     }
     Ok(())
@@ -49,26 +63,23 @@ fn put_frames<K: Sink>(
 // Adds the lines of one frame.
 fn put_frame<K: Sink>(
     frames: &Frames,
-    number: u32,
-    before: u32,
-    count: u32,
+    span: FrameSpan,
     pieces: &mut PlacePieces,
     chunk: &mut Chunk,
     sink: &mut K,
 ) -> Result<(), Failed>
     requires types { All (λ p. IsType pieces.old p.tile) frames.now.places }
-    requires within { count ≤ length frames.now.places }
+    requires within { span.count ≤ length frames.now.places }
     ensures same { pieces.new ≡ pieces.old }
     ensures passes { PassesOn K.written K.faults sink.old sink.new chunk.old chunk.new result
-        (span_lines pieces.old frames.now.places
-        (record { number = number; before = before; count = count })) }
+        (span_lines pieces.old frames.now.places span) }
 {
     let mut first = Buffer::new();
     let mut second = Buffer::new();
-    let number = first.format(number).as_bytes();
-    let many = second.format(count).as_bytes();
+    let number = first.format(span.number).as_bytes();
+    let many = second.format(span.count).as_bytes();
     chunk.put_line(sink, b"frame", &[number, many])?;
-    put_added(frames, before, count, pieces, chunk, sink)
+    put_added(frames, span.before, span.count, pieces, chunk, sink)
 }
 
 // Adds the lines of the places from one number to before another.

@@ -12,7 +12,7 @@ ghost use Rattle.watch_frames.specs.Inner.Watching.{IsLent};
 use crate::{Frames, Watcher};
 use assembly::{Grid, grid_of_seeds};
 use fan_out::WorkerCount;
-use grow_workers::grow_on_by_index;
+use grow_workers::{Lent, grow_on_by_index};
 use site_table::{Grown, SiteSeat, SiteTable};
 use std::alloc::Global;
 use std::thread::{self, Threads};
@@ -23,7 +23,7 @@ use type_index::TypeIndex;
 // What the growth and the watcher beside it are lent, by how many workers and by which choice it
 // grows.
 #[derive(Drop)]
-struct Lent<'a, G: Gate> {
+struct OnTable<'a, G: Gate> {
     sys: &'a System,
     table: &'a SiteTable,
     types: &'a TypeIndex,
@@ -52,26 +52,30 @@ pub fn watch<R: Threads + Sync, G: Gate>(
 {
     let types = TypeIndex::build(alloc, sys)?;
     let workers = WorkerCount::new(workers);
-    watch_by_index(rt, alloc, sys, &types, workers, choice, frames, gate)
+    let lent = Lent {
+        sys,
+        types: &types,
+        gate,
+    };
+    watch_by_index(rt, alloc, &lent, workers, choice, frames)
 }
 
-/// The same, with an index of the system's types that is lent. Where memory is wanting for the
+/// The same, with an index of the system's types that is lent too. Where memory is wanting for the
 /// growth, the watcher still takes its frames.
 pub fn watch_by_index<R: Threads + Sync, G: Gate>(
     rt: &R,
     alloc: Global,
-    sys: &System,
-    types: &TypeIndex,
+    lent: &Lent<'_, G>,
     workers: WorkerCount,
     choice: u64,
     frames: u32,
-    gate: &G,
 ) -> Result<(Frames, Grown), NoMemory>
-    requires index { IsIndexOf sys.now types.now }
+    requires index { IsIndexOf lent.now.sys.now lent.now.types.now }
     requires some_frame { 1 ≤ frames }
     requires few_frames { frames ≤ 1000 }
-    ensures { IfOk result (λ r. IsWatchedGrowth sys.now workers.count frames r.0 r.1) }
+    ensures { IfOk result (λ r. IsWatchedGrowth lent.now.sys.now workers.count frames r.0 r.1) }
 {
+    let sys = lent.sys;
     sys.recall_valid();
     let seen = grid_of_seeds(alloc, sys)?;
     let own = seen.copy()?;
@@ -80,15 +84,15 @@ pub fn watch_by_index<R: Threads + Sync, G: Gate>(
     let Ok(watcher) = Watcher::make(alloc, sys, given, own, frames) else {
         return Err(NoMemory);
     };
-    let lent = Lent {
+    let on = OnTable {
         sys,
         table: &table,
-        types,
-        gate,
+        types: lent.types,
+        gate: lent.gate,
         workers,
         choice,
     };
-    let (watcher, grown) = grow_watched(rt, alloc, lent, watcher, kept, seen);
+    let (watcher, grown) = grow_watched(rt, alloc, on, watcher, kept, seen);
     let (kept, mut grid, _wins) = grown?;
     let (given, _seen, frames) = watcher.end();
     grid.recall_sites();
@@ -102,30 +106,30 @@ pub fn watch_by_index<R: Threads + Sync, G: Gate>(
 fn grow_watched<R: Threads + Sync, G: Gate>(
     rt: &R,
     alloc: Global,
-    lent: Lent<'_, G>,
+    on: OnTable<'_, G>,
     watcher: Watcher,
     seat: SiteSeat,
     seen: Grid,
 ) -> (Watcher, Result<(SiteSeat, Grid, Vec<u32>), NoMemory>)
-    requires lent { IsLent lent }
-    requires numbers { OwnsAtLeast lent.workers.count seat.scout.owned }
-    requires watcher { IsSeatOf lent.table.now watcher.seat }
+    requires lent { IsLent on }
+    requires numbers { OwnsAtLeast on.workers.count seat.scout.owned }
+    requires watcher { IsSeatOf on.table.now watcher.seat }
     requires none { watcher.frames.counts ≡ [] }
-    requires seat { IsSeatOf lent.table.now seat }
-    requires area { seen.area ≡ lent.sys.now.area }
+    requires seat { IsSeatOf on.table.now seat }
+    requires area { seen.area ≡ on.sys.now.area }
     requires seen { SamePlacements seat.scout.seen seen.tiles }
     ensures watched { HasWatched watcher result.0 }
-    ensures grew { IfOk result.1 (λ r. GrewOn lent.entry.sys.now seat seen r.0 r.1 r.2.items) }
-    ensures count { IfOk result.1 (λ r. length r.2.items ≡ lent.entry.workers.count) }
+    ensures grew { IfOk result.1 (λ r. GrewOn on.entry.sys.now seat seen r.0 r.1 r.2.items) }
+    ensures count { IfOk result.1 (λ r. length r.2.items ≡ on.entry.workers.count) }
 {
-    let Lent {
+    let OnTable {
         sys,
         table,
         types,
         gate,
         workers,
         choice,
-    } = lent;
+    } = on;
     thread::join(
         rt,
         move || -> Watcher
@@ -141,9 +145,8 @@ fn grow_watched<R: Threads + Sync, G: Gate>(
             ensures { IfOk result (λ r. GrewOn sys.entry.now seat seen r.0 r.1 r.2.items
                 × (length r.2.items ≡ workers.count)) }
         {
-            grow_on_by_index(
-                rt, alloc, sys, table, types, seat, seen, workers, choice, gate,
-            )
+            let lent = Lent { sys, types, gate };
+            grow_on_by_index(rt, alloc, &lent, table, seat, seen, workers, choice)
         },
     )
 }

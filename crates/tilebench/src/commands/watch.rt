@@ -25,6 +25,7 @@ use crate::status::Ran;
 use crate::stop::Stop;
 use command_line::FrameCount;
 use fan_out::WorkerCount;
+use grow_workers::Lent;
 use job_board::is_unique;
 use site_table::Grown;
 use std::thread::Threads;
@@ -103,15 +104,18 @@ fn grow_watched<R: Threads + Sync, G: Gate>(
     ensures { IfOk result (λ r. IsWatchedGrowth sys.now crew.workers.count frames.count r.0 r.1) }
 {
     let Crew { workers, choice } = crew;
+    let lent = Lent {
+        sys,
+        types,
+        gate: resources.gate,
+    };
     watch_by_index(
         resources.rt,
         resources.alloc,
-        sys,
-        types,
+        &lent,
         workers,
         choice,
         frames.get(),
-        resources.gate,
     )
 }
 

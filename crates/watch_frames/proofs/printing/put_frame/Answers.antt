@@ -11,15 +11,15 @@ same_line x y a b rest same_x same_y = cc
 
 pub returns-in_err-put_line-clause-passes : goal.returns-in_err-put_line-clause-passes
 returns-in_err-put_line-clause-passes g c =
-    let same_number : c.as_bytes-number.result.now ≡ decimal c.args.number = search rules in
-    let same_count : c.as_bytes-many.result.now ≡ decimal c.args.count = search rules in
+    let same_number : c.as_bytes-number.result.now ≡ decimal c.args.span.number = search rules in
+    let same_count : c.as_bytes-many.result.now ≡ decimal c.args.span.count = search rules in
     let p = err_from_is_err_and c.from_residual.result c.from_residual.ensures.1 in
-    let rest = place_lines c.args.pieces.now (drop c.args.before (take c.args.count c.args.frames.now.places)) in
+    let rest = place_lines c.args.pieces.now (drop c.args.span.before (take c.args.span.count c.args.frames.now.places)) in
     rw p.1 (PassesOn-text (same_line _ _ _ _ rest same_number same_count) (PassesOn-stopped rest c.in_err-put_line.ensures))
 
 pub returns-clause-passes : goal.returns-clause-passes
 returns-clause-passes g c =
-    let same_number : c.as_bytes-number.result.now ≡ decimal c.args.number = search rules in
-    let same_count : c.as_bytes-many.result.now ≡ decimal c.args.count = search rules in
-    let rest = place_lines c.args.pieces.now (drop c.args.before (take c.args.count c.args.frames.now.places)) in
+    let same_number : c.as_bytes-number.result.now ≡ decimal c.args.span.number = search rules in
+    let same_count : c.as_bytes-many.result.now ≡ decimal c.args.span.count = search rules in
+    let rest = place_lines c.args.pieces.now (drop c.args.span.before (take c.args.span.count c.args.frames.now.places)) in
     PassesOn-text (same_line _ _ _ _ rest same_number same_count) (PassesOn-then c.put_added.result c.in_ok-put_line.ensures c.put_added.ensures.passes)

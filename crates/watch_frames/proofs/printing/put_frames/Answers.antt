@@ -3,7 +3,8 @@ use Rattle.std.proofs.lemmas.Result.{err_from_is_err_and}
 use Rattle.std.proofs.lemmas.List.{take_all}
 use Rattle.atam.specs.TileSystem.{TileSystem}
 use Rattle.tile_io.proofs.Printing.{PassesOn-next, PassesOn-halted, PassesOn-text}
-use Rattle.watch_frames.specs.FrameText.{FrameSpan, span_lines, spans}
+use Rattle.watch_frames.specs.declared.printing.FrameSpan.{FrameSpan}
+use Rattle.watch_frames.specs.FrameText.{span_lines, spans}
 use Rattle.watch_frames.proofs.FrameSpans.{told_before, spans-length, spans-at}
 use Rattle.watch_frames.proofs.printing.put_frames.Goals as goal
 

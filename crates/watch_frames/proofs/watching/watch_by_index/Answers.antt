@@ -18,7 +18,7 @@ split-kept-requires-clause-two g c = subst OwnsTwoOrMore (sym c.in_ok-table.ensu
 pub make-requires-2-clause-seen : goal.make-requires-2-clause-seen
 make-requires-2-clause-seen g c =
     let given = c.split-kept.result.1.scout.seen in
-    let same : SamePlacements given c.in_ok-seen.seen.tiles = seeds_seen c.args.sys.now.seeds c.in_ok-table.seat.scout.seen given c.in_ok-seen.seen.tiles c.in_ok-table.ensures.scout.seen c.split-kept.ensures.given.seen c.in_ok-seen.ensures.seeds in
+    let same : SamePlacements given c.in_ok-seen.seen.tiles = seeds_seen c.args.lent.now.sys.now.seeds c.in_ok-table.seat.scout.seen given c.in_ok-seen.seen.tiles c.in_ok-table.ensures.scout.seen c.split-kept.ensures.given.seen c.in_ok-seen.ensures.seeds in
     subst (λ (grid : TileGrid). SamePlacements given grid.tiles) (sym c.in_ok-own.ensures) same
 
 pub grow_watched-watcher-requires-clause-numbers : goal.grow_watched-watcher-requires-clause-numbers
@@ -30,11 +30,11 @@ grow_watched-watcher-requires-clause-numbers g c κs within =
 
 pub grow_watched-watcher-requires-clause-seen : goal.grow_watched-watcher-requires-clause-seen
 grow_watched-watcher-requires-clause-seen g c κs within =
-    seeds_seen c.args.sys.now.seeds c.in_ok-table.seat.scout.seen c.split-kept.result.0.scout.seen c.in_ok-seen.seen.tiles c.in_ok-table.ensures.scout.seen c.split-kept.ensures.kept.seen c.in_ok-seen.ensures.seeds
+    seeds_seen c.args.lent.now.sys.now.seeds c.in_ok-table.seat.scout.seen c.split-kept.result.0.scout.seen c.in_ok-seen.seen.tiles c.in_ok-table.ensures.scout.seen c.split-kept.ensures.kept.seen c.in_ok-seen.ensures.seeds
 
 pub returns : goal.returns
 returns g c =
-    let sys = c.args.sys.now in
+    let sys = c.args.lent.now.sys.now in
     let frames = c.end-given.result.2 in
     let watcher = c.grow_watched-watcher.result.0 in
     let done = c.grow_watched-watcher.ensures.watched in
