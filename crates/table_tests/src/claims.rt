@@ -16,7 +16,7 @@ use std::sync::ledger::{Blank, Ledger};
 use std::test::Fail;
 use std::thread::{self, Threads};
 use tile_io::Steps;
-use tile_system::{NoMemory, Placed, Site, System, TypeId};
+use tile_system::{NoMemory, Place, Placed, Site, System, TypeId};
 use worked_systems::{CHAIN, RIVALS, system};
 
 pub(crate) const BESIDE: Site = Site { x: 1, y: 0 };
@@ -52,8 +52,7 @@ fn claim_counted<L: Ledger>(
     table: &SiteTable,
     seat: &mut SiteSeat,
     seen: &Grid,
-    site: Site,
-    tile: TypeId,
+    place: Place,
     blank: Blank,
 ) -> Option<Claimed>
     requires blank { (blank.name ≡ L.name) × (blank.parts ≡ L.parts) × (0 < blank.parts) }
@@ -62,6 +61,7 @@ fn claim_counted<L: Ledger>(
     requires seen { SamePlacements seat.old.scout.seen seen.now.tiles }
     ensures { IsSeatOf table.now seat.new }
 {
+    let Place { site, tile } = place;
     let area = sys.area();
     if !area.holds(site) || tile.0 >= sys.type_count() {
         return None;
@@ -86,7 +86,8 @@ pub(crate) fn claim_alone(
     requires seen { SamePlacements seat.scout.seen seen.now.tiles }
     ensures { IsSeatOf table.now result.0 }
 {
-    let claimed = claim_counted::<Brand>(sys, table, &mut seat, seen, BESIDE, tile, Blank::new(1));
+    let place = Place { site: BESIDE, tile };
+    let claimed = claim_counted::<Brand>(sys, table, &mut seat, seen, place, Blank::new(1));
     (seat, claimed)
 }
 
