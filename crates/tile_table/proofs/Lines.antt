@@ -3,7 +3,7 @@ use Rattle.std.proofs.Common.{◌≡◌, ◌≤◌, ℕ, ◌+◌, List, [], ◌�
 use Rattle.std.specs.Fmt.{digits}
 use Rattle.tile_io.specs.Lines.{line_of}
 use Rattle.tile_text.specs.declared.version.Version.TheVariants.{One}
-use Rattle.tile_text.specs.Spelling.{head_words}
+use Rattle.tile_text.specs.Inner.Words.{head_words}
 
 pub longer : (new old piece : List ℕ) → new ≡ old ++ piece → length new ≡ length old + length piece
 longer new old piece added = ap length added ∙ length-append old piece

@@ -11,7 +11,8 @@ use Rattle.atam.specs.TileSystem.{glue_name, type_name}
 use Rattle.atam.proofs.Lists.{Contains-here, Contains-there}
 use Rattle.tile_io.specs.Lines.{line_of}
 use Rattle.tile_text.specs.declared.version.Version.TheVariants.{One}
-use Rattle.tile_text.specs.Spelling.{spelling, head_words, side_word, box_words}
+use Rattle.tile_text.specs.Spelling.{spelling, side_word}
+use Rattle.tile_text.specs.Inner.Words.{head_words, box_words}
 use Rattle.tile_text.proofs.PlainWords.{name_short}
 use Rattle.tile_text.proofs.PrintLemmas.{printed_as, glue_line, tile_line, seed_line, end_line}
 use Rattle.design.specs.TileSets.{TileSet, IsTileSet, IsWithinLimits, type_id, glue_id, tile_type, glue_of, system_of}

@@ -20,7 +20,8 @@ use Rattle.atam.specs.TileSystem.{TileSystem, Glue, TileType, IsName, IsPair, Is
 use Rattle.tile_text.specs.declared.version.Version.{Version}
 use Rattle.tile_text.specs.declared.version.Version.TheVariants.{One, Two}
 use Rattle.tile_text.specs.SystemText.{version_word}
-use Rattle.tile_text.specs.Spelling.{glue_words, pair_words, side_word, tile_words, box_words, seed_words}
+use Rattle.tile_text.specs.Spelling.{side_word}
+use Rattle.tile_text.specs.Inner.Words.{glue_words, pair_words, tile_words, box_words, seed_words}
 use Rattle.tile_text.proofs.Names.{named_glue}
 use Rattle.tile_io.proofs.PassedFields.{and_both}
 use Rattle.tile_text.proofs.Boxes.{le_z}

@@ -6,7 +6,8 @@ ghost use Rattle.tile_io.specs.declared.mark.Mark.{Mark};
 ghost use Rattle.tile_io.specs.Chunks.{PassesOn};
 ghost use Rattle.tile_io.specs.Lines.{line_of};
 ghost use Rattle.tile_io.specs.Prints.{Prints};
-ghost use Rattle.tile_text.specs.Spelling.{spelling, spelling_by, newest_spelling, version_of, end_of_print, head_words, glue_words, pair_words, side_word, tile_words, box_words, seed_words};
+ghost use Rattle.tile_text.specs.Spelling.{spelling, spelling_by, newest_spelling, version_of, end_of_print, side_word};
+ghost use Rattle.tile_text.specs.Inner.Words.{head_words, glue_words, pair_words, tile_words, box_words, seed_words};
 ghost use Rattle.tile_text.specs.declared.version.Version.TheVariants.{Two};
 ghost use Rattle.tile_text.specs.SystemText.{ReadsAny, ReadsVersion};
 

@@ -2,7 +2,7 @@ use Rattle.std.proofs.Common.{◌++◌, Contains, flat_map, subst, ◌∙◌}
 use Rattle.std.proofs.lemmas.Result.{err_from_is_err_and}
 use Rattle.tile_io.specs.Lines.{line_of}
 use Rattle.tile_io.proofs.Printing.{PassesOn-then, PassesOn-fails, PassesOn-stopped, PassesOn-text}
-use Rattle.tile_text.specs.Spelling.{box_words}
+use Rattle.tile_text.specs.Inner.Words.{box_words}
 use Rattle.tile_text.proofs.PrintLemmas.{end_line}
 use Rattle.tile_table.specs.Inner.TableLines.{seed_words}
 use Rattle.tile_table.proofs.TableSpelled.{label_text, kind_text, spelled_table}
