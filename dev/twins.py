@@ -37,6 +37,7 @@ ACCEPTED = {
     ("machine_text:entry", "quadrant_compile:entry"): "they are of tables with other limits",
     ("job_board:is_unique", "tilebench:is_verified"): "they are of verdicts of other judges",
     ("type_index:BearerLinks", "type_index:PairOrder"): FIELDS,
+    ("site_table:no_system", "tile_text:nothing"): "neither crate stands on the other",
 }
 
 

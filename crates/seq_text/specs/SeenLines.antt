@@ -13,9 +13,9 @@ abbrev pub name_or_none : TileSystem → Option TypeId → List ℕ
 name_or_none sys None = codes "-"
 name_or_none sys (Some t) = type_name sys t
 
--- The answer to an event: what was seen at a site, that a claim was won or which type holds the site,
--- and the name of the new or of the joined scout; or why the event is refused, by its number, and for
--- a claim that isn't supported its pull. Want of memory has no line.
+-- The answer to an event: what was seen at a site, that a claim was won or which type holds the
+-- site, and the name of the new or of the joined scout; or why the event is refused, by its number,
+-- and for a claim that isn't supported its pull. Want of memory has no line.
 abbrev pub seen_line : TileSystem → Result Seen CoreStop → List ℕ
 seen_line sys (Ok (Saw there)) = line_of (codes "saw" ∷ name_or_none sys there ∷ [])
 seen_line sys (Ok Won) = line_of (codes "won" ∷ [])

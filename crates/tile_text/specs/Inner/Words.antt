@@ -11,10 +11,18 @@ use Rattle.tile_text.specs.Spelling.{item_words}
 
 -- a system of nothing, for the lines whose words are the same in every system
 abbrev nothing : TileSystem
-nothing = record { glues = []; pairs = []; types = []; tau = 0; seeds = []; area = record { x0 = pos 0; y0 = pos 0; x1 = pos 0; y1 = pos 0 } }
+nothing = record {
+  glues = [];
+  pairs = [];
+  types = [];
+  tau = 0;
+  seeds = [];
+  area = record { x0 = pos 0; y0 = pos 0; x1 = pos 0; y1 = pos 0 };
+}
 
 abbrev pub head_words : Version → ℕ → List (List (List ℕ))
-head_words version tau = item_words version nothing Header ∷ item_words version nothing (TauLine tau) ∷ []
+head_words version tau =
+    item_words version nothing Header ∷ item_words version nothing (TauLine tau) ∷ []
 
 abbrev pub glue_words : Glue → List (List ℕ)
 glue_words g = item_words One nothing (GlueLine g)
