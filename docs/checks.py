@@ -99,7 +99,7 @@ REFUSALS = ("tile_io/specs/Causes", "command_line/specs/Commands", "tilebench/sp
 REFUSAL = re.compile(r'^\w+_(?:stop_)?name [\w.]+ = codes "([A-Z]\w+)"', re.M)
 TEXTS = ("tile_text/specs/SystemText", "seq_text/specs/GrowthText", "seq_text/specs/ScheduleText",
          "machine_text/specs/MachineText", "quadrant_compile/specs/QuadrantText")
-KEYWORD = re.compile(r'codes "([a-z]+)"(?:;\s+has_words = λ n\. n ==|\)) (\d+)')
+KEYWORD = re.compile(r'row \(codes "([a-z]+)"\)\s+\(λ n\. n == (\d+)\)')
 
 
 def refusals():
