@@ -38,7 +38,8 @@ ACCEPTED = {
     ("job_board:is_unique", "tilebench:is_verified"): "they are of verdicts of other judges",
     ("type_index:BearerLinks", "type_index:PairOrder"): FIELDS,
     ("site_table:no_system", "tile_text:nothing"): "neither crate stands on the other",
-    ("assembly:cell_over", "site_table:word_after"): "the one is of cells of two grids, and the other of a word of a table at a claim",
+    ("assembly:cell_over", "site_table:word_after"):
+        "the one is of cells of two grids, and the other of a word of a table at a claim",
 }
 
 
