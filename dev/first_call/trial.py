@@ -16,6 +16,8 @@ from talk import say, wait_for
 # the end of a report with an answer: at a higher status the trial lacked memory, or could not read or write
 ANSWERED = re.compile(rb"^run=ended status=([0-3]) .*proved=no\n\Z", re.M)
 REPORT = (b"run=", b"checked:", b"interpreter:", b"races:")
+# what the report says of the run with checks: the kind of its end, and why
+CHECKED = re.compile(rb"^checked: (?:no-answer: )?(.*)$", re.M)
 # rt takes an input that is shorter, in bytes
 MOST = 64 << 20
 
@@ -88,8 +90,9 @@ def answer(top, words, given):
     found = ANSWERED.search(err)
     lines = err.splitlines(keepends=True)
     if not found or status != int(found[1]):
-        told = b" ".join(it.strip() for it in lines[-4:] if it.startswith(REPORT)).decode(errors="replace")
-        say(f"the trial gives no answer ({told or f'status {status}'}); the proved program will answer")
+        why = CHECKED.search(b"".join(lines[-4:]))
+        told = why[1].decode(errors="replace") if why else f"status {status}"
+        say(f"the trial gives no answer ({told}); the proved program will answer")
         return None
     is_written = write(1, out) and write(2, b"".join(it for it in lines if not it.startswith(REPORT)))
     close_output()
