@@ -1,16 +1,18 @@
 -- Each text reads as one batch, or has one fault.
 use Rattle.std.proofs.Common.{◌≡◌, ◌⊎◌, ℕ, zero, suc, ◌+◌, ◌-◌, ◌<◌, ◌≤◌, Bool, true, false, if◌then◌else◌, List, [], ◌∷◌, ◌++◌, All, length, Option, Some, None, Result, Ok, Err, refl, ap, ap₂, sym, ◌∙◌, subst, arith, inl, inr, append-nil, length-append}
 use Rattle.std.specs.Prelude.{bytes_eq, nat_lt}
+use Rattle.std.specs.Option.{option_map_or, option_transpose}
 use Rattle.std.proofs.lemmas.Bool.{ltb-true}
 use Rattle.std.proofs.lemmas.List.Elements.{All-head}
 use Rattle.std.proofs.lemmas.List.Sums.{sum_by-append, sum_by-cons}
 use Rattle.tile_io.specs.declared.fault.Cause.{Cause}
 use Rattle.tile_io.specs.declared.fault.Cause.TheVariants.{NoHeader, NoEnd, BadLine, OutOfOrder, TooMany}
 use Rattle.tile_io.specs.declared.mark.Mark.{Mark}
-use Rattle.tile_io.specs.Checks.{◌>>=◌, Keyword, by_header, check_keyword, check_line, nothing_more, require}
-use Rattle.tile_io.specs.Formats.{Fault, Format, IsFaulty, IsRead, Reads, item_unless, line_item, some_item}
+use Rattle.tile_io.specs.Checks.{◌>>=◌, Keyword, by_header, check_line, nothing_more, require}
+use Rattle.tile_io.specs.Formats.{Fault, Format, IsFaulty, IsRead, Reads, line_item}
 use Rattle.tile_io.specs.Lines.{TextLine, is_skipped, lines_from, plain_cause, words_of}
 use Rattle.tile_io.specs.Rest.{HasNoMore}
+use Rattle.tile_io.proofs.Checking.{check_keyword}
 use Rattle.tile_io.proofs.Laws.{fails_once, not_both, read_or_faulty, reads_once}
 use Rattle.tile_io.proofs.Progress.{passes_nothing}
 use Rattle.atam.specs.TileSystem.{TileSystem}
@@ -280,7 +282,7 @@ batch_one_fault text from m n a b (inr behind) (inr other) =
 
 -- ---- a batch or a fault
 
-by_checks : (plain : Option Cause) (skipped : Bool) (checked : Result BatchItem Cause) (item : BatchItem) → item_unless plain (if skipped then Ok None else some_item checked) ≡ Ok (Some item) → checked ≡ Ok item
+by_checks : (plain : Option Cause) (skipped : Bool) (checked : Result BatchItem Cause) (item : BatchItem) → option_map_or Err plain (option_transpose (if skipped then None else Some checked)) ≡ Ok (Some item) → checked ≡ Ok item
 by_checks (Some cause) skipped checked item is = absurd (cc is)
 by_checks None true checked item is = absurd (cc is)
 by_checks None false (Ok other) item is = cc is

@@ -1,11 +1,13 @@
 -- A line of a border, with all its checks.
 use Rattle.std.proofs.Common.{◌≡◌, ◌≤◌, ℕ, Bool, true, false, List, [], ◌∷◌, ◌++◌, length, Option, Some, Ok, Err, refl, sym, ap, subst, ◌∙◌, arith}
 use Rattle.std.specs.Prelude.{codes, find, bytes_eq, nat_le}
-use Rattle.std.proofs.lemmas.Bool.{le-leb}
+use Rattle.std.proofs.lemmas.Bool.{le-leb, leb-true}
 use Rattle.tile_io.specs.declared.line_reader.LineStop.{LineStop}
 use Rattle.tile_io.specs.declared.line_reader.LineStop.TheVariants as stops
-use Rattle.tile_io.specs.Checks.{Keyword, field, keyword_of, check_keyword, check_line, last_of}
+use Rattle.tile_io.specs.Checks.{Keyword, field, check_line, last_of}
 use Rattle.tile_io.specs.LineReader.{TakesItem}
+use Rattle.tile_io.proofs.Checking.{check_keyword}
+use Rattle.tile_io.proofs.Rows.{line_at}
 use Rattle.quadrant_compile.specs.declared.border.Border.{Border}
 use Rattle.quadrant_compile.specs.declared.border.Border.TheVariants as borders
 use Rattle.quadrant_compile.specs.declared.line_kind.LineKind.{LineKind}
@@ -16,11 +18,6 @@ use Rattle.quadrant_compile.specs.Inner.Borders.{HasPlace, border_kind, border_r
 use Rattle.quadrant_compile.specs.Inner.SoFar.{Gets, HoldsLines, IsFit, with_item}
 use Rattle.quadrant_compile.proofs.Built.{holds-push, last_is}
 use Rattle.quadrant_compile.proofs.Fits.{fit_of, follows_is}
-
--- the keyword of a line with words, by the first of them
-pub keyword_at : (words : List (List ℕ)) → 1 ≤ length words → keyword_of quadrant_table.keywords words ≡ find (λ row. bytes_eq (field words 0) row.word) quadrant_table.keywords
-keyword_at [] some = let never : ⊥ = omega (arith, some) in absurd never
-keyword_at (word ∷ words) some = refl
 
 count_is : (border : Border) (words : List (List ℕ)) → nat_le 2 (length words) ≡ true → (row_of (border_kind border)).has_words (length words) ≡ true
 count_is borders.Bottom words count = count
@@ -50,15 +47,16 @@ passed : (row : Keyword (List QuadrantItem) QuadrantItem) (items : List Quadrant
 passed row items words count follows room = rw (count, follows, room) refl
 
 module _ (border : Border) (q : RuleQuadrant) (last : Option LineKind) (items : List QuadrantItem) (words : List (List ℕ)) (place : HasPlace border q last words) (held : HoldsLines q last items) where
-  border_check : keyword_of quadrant_table.keywords words ≡ Some (row_of (border_kind border)) → check_line quadrant_table.keywords items words ≡ (row_of (border_kind border)).fields items words
+  border_check : find (λ row. bytes_eq (field words 0) row.word) quadrant_table.keywords ≡ Some (row_of (border_kind border)) → check_line quadrant_table.keywords items words ≡ (row_of (border_kind border)).fields items words
   border_check keyword =
       let kind = border_kind border in
       let follows : (row_of kind).may_follow (last_of items) ≡ true = follows_is kind (last_of items) ∙ ap (may_stand_after kind) (sym held.kind) ∙ place.follows in
-      ap (λ k. check_keyword k items words) keyword
+      let two : 2 ≤ length words = leb-true 2 (length words) place.count in
+      line_at quadrant_table.keywords items words (omega (arith, two)) ∙ ap (λ k. check_keyword k items words) keyword
       ∙ passed (row_of kind) items words (count_is border words place.count) follows (room_is border q items words held.quadrant place.room)
 
   -- it passes
-  pub border_taken : (new : RuleQuadrant) → keyword_of quadrant_table.keywords words ≡ Some (row_of (border_kind border)) → Gets (border_kind border) ((row_of (border_kind border)).fields items words) q new (Ok tt) →
+  pub border_taken : (new : RuleQuadrant) → find (λ row. bytes_eq (field words 0) row.word) quadrant_table.keywords ≡ Some (row_of (border_kind border)) → Gets (border_kind border) ((row_of (border_kind border)).fields items words) q new (Ok tt) →
       TakesItem (λ item. bytes_eq (word_of item) (codes "end")) (λ l. HoldsLines new (Some (border_kind border)) l) items (check_line quadrant_table.keywords items words) (Ok false)
   border_taken new keyword took =
       let kind = border_kind border in
@@ -71,7 +69,7 @@ module _ (border : Border) (q : RuleQuadrant) (last : Option LineKind) (items : 
       (item, border_check keyword ∙ took.2, last_is item ∙ ap is_last took.1 ∙ never_last border, subst Draws (sym took.3) (subst Kind took.1 (holds-push q last items item held stood fit)))
 
   -- or stops
-  pub border_stopped : (new : RuleQuadrant) (stop : LineStop) → keyword_of quadrant_table.keywords words ≡ Some (row_of (border_kind border)) → Gets (border_kind border) ((row_of (border_kind border)).fields items words) q new (Err stop) →
+  pub border_stopped : (new : RuleQuadrant) (stop : LineStop) → find (λ row. bytes_eq (field words 0) row.word) quadrant_table.keywords ≡ Some (row_of (border_kind border)) → Gets (border_kind border) ((row_of (border_kind border)).fields items words) q new (Err stop) →
       TakesItem (λ item. bytes_eq (word_of item) (codes "end")) (λ l. HoldsLines new last l) items (check_line quadrant_table.keywords items words) (Err stop)
   border_stopped new (stops.Fault cause) keyword stopped = (border_check keyword ∙ stopped.0, subst (λ (v : RuleQuadrant). HoldsLines v last items) (sym stopped.1) held)
   border_stopped new stops.NoMemory keyword stopped = subst (λ (v : RuleQuadrant). HoldsLines v last items) (sym stopped) held

@@ -1,6 +1,6 @@
 // The borders, and which of them a line is of.
-ghost use Rattle.std.specs.Prelude.{◌≡◌, Some, IfSome};
-ghost use Rattle.tile_io.specs.Checks.{keyword_of};
+ghost use Rattle.std.specs.Prelude.{◌≡◌, bytes_eq, find, Some, IfSome};
+ghost use Rattle.tile_io.specs.Checks.{field};
 ghost use Rattle.quadrant_compile.specs.QuadrantText.{quadrant_table};
 ghost use Rattle.quadrant_compile.specs.Inner.Keywords.{row_of};
 ghost use Rattle.quadrant_compile.specs.Inner.Borders.{border_kind};
@@ -18,7 +18,8 @@ pub(crate) enum Border {
 impl Border {
     /// The border that a line of these words is of.
     pub(crate) fn of(words: &LineWords) -> Option<Border>
-        ensures { IfSome result (λ border. keyword_of quadrant_table.keywords words.now
+        ensures { IfSome result (λ border. find (λ row.
+            bytes_eq (field words.now 0) row.word) quadrant_table.keywords
             ≡ Some (row_of (border_kind border))) }
     {
         if words.len() == 0 {

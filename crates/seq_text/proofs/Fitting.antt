@@ -4,9 +4,8 @@ use Rattle.std.specs.Prelude.{bytes_eq, filter_map}
 use Rattle.std.proofs.lemmas.List.Elements.{All-nil}
 use Rattle.tile_io.specs.declared.fault.Cause.{Cause}
 use Rattle.tile_io.specs.declared.mark.Mark.{Mark}
-use Rattle.tile_io.specs.Checks.{check_keyword}
 use Rattle.tile_io.specs.Formats.{Fault, Reads}
-use Rattle.tile_io.proofs.Checking.{row_ok}
+use Rattle.tile_io.proofs.Checking.{check_keyword, row_ok}
 use Rattle.tile_io.proofs.Laws.{not_both, reads_once}
 use Rattle.tile_io.proofs.ReadItems.{reads_hold, reads_few}
 use Rattle.atam.specs.declared.place.Place.{Place}

@@ -1,16 +1,15 @@
 -- A `place` line in its plain form reads as its place.
 use Rattle.std.proofs.Common.{◌≡◌, ℕ, zero, suc, ◌+◌, ◌-◌, ◌^◌, ◌≤◌, ◌<◌, ◌==◌, Bool, true, false, cond, List, [], ◌∷◌, ◌++◌, length, codes, pos, Option, Some, None, Ok, refl, sym, ap, subst, ◌∙◌, append_assoc, length-append, arith}
-use Rattle.std.specs.Prelude.{ℤ, neg_ℤ, int_le, find, bytes_eq, option_map}
+use Rattle.std.specs.Prelude.{ℤ, neg_ℤ, int_le, find, bytes_eq, option_map, slice_index}
 use Rattle.std.proofs.lemmas.Bool.{eqb-true, le-leb}
 use Rattle.std.proofs.lemmas.List.Elements.{All-cons, All-from_recursion}
 use Rattle.tile_io.specs.declared.fault.Cause.TheVariants.{BadNumber}
 use Rattle.tile_io.specs.Lines.{words_of, BeginsWithLine}
 use Rattle.tile_io.specs.FrontDigits.{StartsWithDigits, HasNoDigits}
-use Rattle.tile_io.specs.Checks.{◌>>=◌, require, is_digit, are_digits, without_minus, starts_with_minus, number_in, number_value, in_range, check_line, field, last_of}
-use Rattle.tile_io.specs.declared.limits.TheConstants.{LEAST_COORDINATE, GREATEST_COORDINATE}
+use Rattle.tile_io.specs.Checks.{◌>>=◌, require, are_digits, without_minus, number_in, number_value, check_line, field, last_of}
 use Rattle.tile_io.proofs.Checking.{bind_ok, require_ok}
 use Rattle.tile_io.proofs.Cuts.{is_space, is_newline}
-use Rattle.tile_io.proofs.Digits.{digits_parts, number_within, unsigned}
+use Rattle.tile_io.proofs.Digits.{is_digit, in_range, digits_parts, number_within, unsigned}
 use Rattle.tile_io.proofs.Spelled.{IsWord, IsSpelled, words_of-join, begins_spelled}
 use Rattle.tile_io.proofs.WordsSpelled.{word_from}
 use Rattle.atam.specs.declared.site.Site.{Site}
@@ -42,11 +41,11 @@ plain_number bytes rest size h small =
     let few : length (without_minus h.word) ≤ 6 = rw no_minus h.few in
     record { word = h.word; cut = h.cut; few = few; reads = number_within _ _ h.word (pos size) digits value refl (le-leb size 1000000 (omega (arith, small))) }
 
-minus_low : (size : ℕ) → size < 10 ^ 6 → int_le LEAST_COORDINATE (neg_ℤ (pos size)) ≡ true
+minus_low : (size : ℕ) → size < 10 ^ 6 → int_le (neg_ℤ (pos 1000000)) (neg_ℤ (pos size)) ≡ true
 minus_low zero small = refl
 minus_low (suc n) small = le-leb n 999999 (omega (arith, small))
 
-minus_high : (size : ℕ) → int_le (neg_ℤ (pos size)) GREATEST_COORDINATE ≡ true
+minus_high : (size : ℕ) → int_le (neg_ℤ (pos size)) (pos 1000000) ≡ true
 minus_high zero = refl
 minus_high (suc n) = refl
 
@@ -91,10 +90,10 @@ module _ (bytes : List ℕ) (none : HasNoDigits 32 6 bytes) where
       let size : length bs ≡ length (without_minus (b ∷ bs)) = ap length same in
       none bs rest behind (ap are_digits same ∙ digits) (omega (arith, size, short))
 
-  no_number_by : (word rest : List ℕ) → starts_with_minus bytes ≡ false → bytes ≡ word ++ 32 ∷ rest → are_digits (without_minus word) ≡ true → length (without_minus word) ≤ 6 → ⊥
+  no_number_by : (word rest : List ℕ) → (slice_index bytes 0 == 45) ≡ false → bytes ≡ word ++ 32 ∷ rest → are_digits (without_minus word) ≡ true → length (without_minus word) ≤ 6 → ⊥
   no_number_by [] rest plus cut digits few = absurd (cc digits)
   no_number_by (b ∷ bs) rest plus cut digits few =
-      let other : (b == 45) ≡ false = ap starts_with_minus (sym cut) ∙ plus in
+      let other : (b == 45) ≡ false = ap (λ l. slice_index l 0 == 45) (sym cut) ∙ plus in
       let same : without_minus (b ∷ bs) ≡ b ∷ bs = rw other refl in
       let short : length (without_minus (b ∷ bs)) ≤ 6 = few in
       let size : length (b ∷ bs) ≡ length (without_minus (b ∷ bs)) = ap length (sym same) in
@@ -104,7 +103,7 @@ module _ (bytes : List ℕ) (none : HasNoDigits 32 6 bytes) where
   pub no_minus : (z : ℤ) (rest : List ℕ) → StartsWithCoordinate (45 ∷ bytes) z rest → ⊥
   no_minus z rest h = no_minus_by h.word rest h.cut (number_digits _ _ h.word z h.reads) h.few
 
-  pub no_number : starts_with_minus bytes ≡ false → (z : ℤ) (rest : List ℕ) → StartsWithCoordinate bytes z rest → ⊥
+  pub no_number : (slice_index bytes 0 == 45) ≡ false → (z : ℤ) (rest : List ℕ) → StartsWithCoordinate bytes z rest → ⊥
   no_number plus z rest h = no_number_by h.word rest plus h.cut (number_digits _ _ h.word z h.reads) h.few
 
 -- a number field that reads is one word

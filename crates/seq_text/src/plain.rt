@@ -1,7 +1,6 @@
 // A `place` line in its plain form, which is read from the front of a text without being cut into
 // words.
-ghost use Rattle.std.specs.Prelude.{◌≡◌, ◌≢◌, ◌≤◌, ◌+◌, ◌∷◌, ◌++◌, ℕ, ℤ, List, All, false, length, take, codes, IfNone, IfSome};
-ghost use Rattle.tile_io.specs.Checks.{starts_with_minus};
+ghost use Rattle.std.specs.Prelude.{◌≡◌, ◌≢◌, ◌≤◌, ◌+◌, ◌∷◌, ◌++◌, ◌==◌, ℕ, ℤ, List, All, false, length, slice_index, take, codes, IfNone, IfSome};
 ghost use Rattle.seq_text.specs.PlainCoordinates.{StartsWithCoordinate};
 ghost use Rattle.seq_text.specs.Inner.Plain.{BeginsPlain, IsPlainPlace};
 
@@ -95,7 +94,7 @@ pub fn plain_coordinate(bytes: &[u8]) -> Option<(i32, &[u8])>
 #[inline(always)]
 fn after_minus(bytes: &[u8]) -> Option<&[u8]>
     ensures rest { IfSome result (λ rest. bytes.now ≡ 45 ∷ rest.now) }
-    ensures none { IfNone result (starts_with_minus bytes.now ≡ false) }
+    ensures none { IfNone result ((slice_index bytes.now 0 == 45) ≡ false) }
 {
     match bytes.split_first() {
         Some((first, rest)) if *first == b'-' => Some(rest),

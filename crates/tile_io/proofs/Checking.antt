@@ -1,8 +1,9 @@
 -- The checks of a line, one after another, and what a check that passed says.
-use Rattle.std.proofs.Common.{◌≡◌, ℕ, ◌+◌, ◌-◌, Bool, true, false, List, [], ◌∷◌, ◌++◌, length, slice_get, Some, Result, Ok, Err, refl, ap, ◌∙◌, length-append, arith}
+use Rattle.std.proofs.Common.{◌≡◌, ℕ, ◌+◌, ◌-◌, Bool, true, false, List, [], ◌∷◌, ◌++◌, length, slice_get, Option, Some, Result, Ok, Err, refl, ap, ◌∙◌, length-append, arith}
+use Rattle.std.specs.Prelude.{bytes_eq, find, ok_or, None}
 use Rattle.tile_io.specs.declared.fault.Cause.{Cause}
 use Rattle.tile_io.specs.declared.fault.Cause.TheVariants.{BadLine, OutOfOrder, TooMany}
-use Rattle.tile_io.specs.Checks.{◌>>=◌, require, Keyword, check_keyword, last_of}
+use Rattle.tile_io.specs.Checks.{◌>>=◌, require, Keyword, check_line, last_of}
 
 module _ {Item : Type 0} where
   get_last : (items : List Item) (item : Item) → slice_get (items ++ item ∷ []) (length items) ≡ Some item
@@ -21,6 +22,25 @@ bind_ok (Err cause) f y e = absurd (cc e)
 pub require_ok : (b : Bool) (cause : Cause) (u : Unit {0}) → require b cause ≡ Ok u → b ≡ true
 require_ok true cause u e = refl
 require_ok false cause u e = absurd (cc e)
+
+-- the keyword that the first word is
+abbrev pub keyword_of : {Item : Type 0} → List (Keyword (List Item) Item) → List (List ℕ) → Option (Keyword (List Item) Item)
+keyword_of keywords [] = None
+keyword_of keywords (first ∷ rest) = find (λ row. bytes_eq first row.word) keywords
+
+-- the checks of a line of this keyword, where there is one
+abbrev pub check_keyword : {Item : Type 0} → Option (Keyword (List Item) Item) → List Item → List (List ℕ) → Result Item Cause
+check_keyword found earlier words = do
+  keyword ← ok_or found BadLine
+  _ ← require (keyword.has_words (length words)) BadLine
+  _ ← require (keyword.may_follow (last_of earlier)) OutOfOrder
+  _ ← require (keyword.has_room earlier words) TooMany
+  keyword.fields earlier words
+
+pub by_keyword : {Item : Type 0} (keywords : List (Keyword (List Item) Item)) (earlier : List Item) (words : List (List ℕ)) →
+    check_line keywords earlier words ≡ check_keyword (keyword_of keywords words) earlier words
+by_keyword keywords earlier [] = refl
+by_keyword keywords earlier (first ∷ rest) = refl
 
 -- a keyword's line that passed: it may stand there, and its fields pass
 pub row_ok : {Item : Type 0} (row : Keyword (List Item) Item) (earlier : List Item) (words : List (List ℕ)) (item : Item) → check_keyword (Some row) earlier words ≡ Ok item →

@@ -1,13 +1,14 @@
 -- What a check of a field that passed says of it.
-use Rattle.std.proofs.Common.{◌≡◌, ℕ, ◌+◌, ◌≤◌, ◌<◌, Bool, true, false, cond, List, [], ◌∷◌, length, Option, Some, None, Ok, Err, refl, ap, subst, ◌∙◌}
+use Rattle.std.proofs.Common.{◌≡◌, ℕ, ◌+◌, ◌≤◌, ◌<◌, Bool, true, false, cond, List, [], ◌∷◌, length, Option, Some, None, Ok, refl, ap, subst, ◌∙◌}
 use Rattle.std.specs.Prelude.{ℤ, pos, negsuc, nat_abs, int_le, ◌&&◌, not, bytes_eq, position, is_some, ok_or, ◌||◌}
 use Rattle.std.specs.List.{list_any, position_from}
 use Rattle.std.proofs.lemmas.Bool.{leb-true}
 use Rattle.std.proofs.lemmas.List.Quantifiers.{position-Some}
 use Rattle.std.proofs.lemmas.Iterator.Adapters.{position_from-zero}
 use Rattle.tile_io.specs.declared.fault.Cause.TheVariants.{BadName, DoubleName, UnknownName, OutOfRange, BadNumber}
-use Rattle.tile_io.specs.Checks.{◌>>=◌, require, number_in, in_range, number_value, are_digits, without_minus, count_in, declared, referred}
+use Rattle.tile_io.specs.Checks.{◌>>=◌, require, number_in, number_value, are_digits, without_minus, count_in, declared, referred}
 use Rattle.tile_io.proofs.Checking.{bind_ok, require_ok}
+use Rattle.tile_io.proofs.Digits.{in_range}
 
 pub and_both : (a b : Bool) → (a && b) ≡ true → (a ≡ true) × (b ≡ true)
 and_both true b e = (refl, e)
@@ -17,7 +18,7 @@ pub not_true : (b : Bool) → not b ≡ true → b ≡ false
 not_true true e = absurd (cc e)
 not_true false e = refl
 
-range_by : (b : Bool) (n m : ℤ) → cond b (Ok n) (Err OutOfRange) ≡ Ok m → (b ≡ true) × (n ≡ m)
+range_by : (b : Bool) (n m : ℤ) → (require b OutOfRange >>= λ _. Ok n) ≡ Ok m → (b ≡ true) × (n ≡ m)
 range_by true n m e = (refl, cc e)
 range_by false n m e = absurd (cc e)
 

@@ -1,5 +1,6 @@
 -- What the lines of a text say of each longer text that it begins.
 use Rattle.std.proofs.Common.{◌≡◌, ℕ, zero, suc, ◌+◌, ◌≤◌, ◌<◌, Bool, true, false, not, cond, List, [], ◌∷◌, ◌++◌, length, take, drop, get_or, slice_get, Option, Some, None, Result, Err, All, refl, sym, ap, subst, ◌∙◌, arith, inl, inr, length-append}
+use Rattle.std.specs.Option.{option_map_or}
 use Rattle.std.specs.List.{position_or_len, slice_split}
 use Rattle.std.proofs.lemmas.Bool.{cases_lt, ne_eqb}
 use Rattle.std.proofs.lemmas.List.{nil_from_length, drop_all, take-append-le, drop-append-le, get_or-take}
@@ -12,7 +13,7 @@ use Rattle.tile_io.specs.declared.fault.Cause.TheVariants.{LineTooLong, NoEnd, N
 use Rattle.tile_io.specs.declared.mark.Mark.{Mark}
 use Rattle.tile_io.specs.Lines.{TextLine, lines_of, lines_of_parts, lines_from, plain_cause, text_of, kept_lines, is_skipped, words_of}
 use Rattle.tile_io.specs.NextLine.{IsMark}
-use Rattle.tile_io.specs.Formats.{Format, Passes, ReadsToEndLine, FailsAtLine, Fault, line_item, item_unless, missing_cause}
+use Rattle.tile_io.specs.Formats.{Format, Passes, ReadsToEndLine, FailsAtLine, Fault, line_item, missing_cause}
 use Rattle.tile_io.specs.Inner.Blocks.{IsEnded}
 use Rattle.tile_io.specs.Inner.Stretches.{Progress}
 use Rattle.tile_io.proofs.Cuts.{is_newline, lines-nil, lines-ended, lines-unended, parts_more}
@@ -232,7 +233,7 @@ rest_ended n text (inr some) = elim (cases_lt (length some.0) n) [
 ]
 
 -- a line that fails for want of a header has its newline
-headed_by : {Item : Type 0} (long ended : Bool) (found : Result (Option Item) Cause) → item_unless (cond long (Some LineTooLong) (cond ended None (Some NoEnd))) found ≡ Err NoHeader → ended ≡ true
+headed_by : {Item : Type 0} (long ended : Bool) (found : Result (Option Item) Cause) → option_map_or Err (cond long (Some LineTooLong) (cond ended None (Some NoEnd))) found ≡ Err NoHeader → ended ≡ true
 headed_by true ended found e = absurd (cc e)
 headed_by false true found e = refl
 headed_by false false found e = absurd (cc e)

@@ -3,21 +3,27 @@ use Rattle.std.proofs.Common.{◌≡◌, ℕ, ◌<◌, Bool, true, false, List, 
 use Rattle.std.specs.Prelude.{bytes_eq, find}
 use Rattle.tile_io.specs.declared.fault.Cause.{Cause}
 use Rattle.tile_io.specs.Formats.{missing_cause}
-use Rattle.tile_io.specs.Checks.{Keyword, check_keyword, check_line, keyword_of, last_of, field, by_header}
+use Rattle.tile_io.specs.Checks.{Keyword, check_line, last_of, field, by_header}
+use Rattle.tile_io.proofs.Checking.{check_keyword}
 use Rattle.tile_io.specs.Inner.Headers.{first_cause}
 
 module _ {Item : Type 0} where
   -- the keyword of a line is that of its first word
-  by_word : (keywords : List (Keyword (List Item) Item)) (words : List (List ℕ)) → 0 < length words → keyword_of keywords words ≡ find (λ row. bytes_eq (field words 0) row.word) keywords
-  by_word keywords [] some = absurd (omega (arith, some))
-  by_word keywords (word ∷ rest) some = refl
+  pub line_at : (keywords : List (Keyword (List Item) Item)) (items : List Item) (words : List (List ℕ)) → 0 < length words →
+      check_line keywords items words ≡ check_keyword (find (λ row. bytes_eq (field words 0) row.word) keywords) items words
+  line_at keywords items [] some = absurd (omega (arith, some))
+  line_at keywords items (first ∷ rest) some = refl
+
+  pub row_at : (keywords : List (Keyword (List Item) Item)) (row : Keyword (List Item) Item) (items : List Item) (words : List (List ℕ)) → 0 < length words →
+      Some row ≡ find (λ row. bytes_eq (field words 0) row.word) keywords → check_line keywords items words ≡ check_keyword (Some row) items words
+  row_at keywords row items words some found = line_at keywords items words some ∙ ap (λ r. check_keyword r items words) (sym found)
 
   -- a line that may stand where it does passes where its fields do
   pub check_line_by : (keywords : List (Keyword (List Item) Item)) (row : Keyword (List Item) Item) (items : List Item) (words : List (List ℕ)) → 0 < length words →
       Some row ≡ find (λ row. bytes_eq (field words 0) row.word) keywords → row.has_words (length words) ≡ true → row.may_follow (last_of items) ≡ true → row.has_room items words ≡ true →
       check_line keywords items words ≡ row.fields items words
   check_line_by keywords row items words some found count follows room =
-      ap (λ r. check_keyword r items words) (by_word keywords words some ∙ sym found) ∙ rw (count, follows, room) refl
+      row_at keywords row items words some found ∙ rw (count, follows, room) refl
 
   -- a header that is still missing is what a line lacks that fails
   pub header_passes : (has_header : Bool) (items : List Item) (check : Result Item Cause) (item : Item) → check ≡ Ok item → by_header has_header items check ≡ Ok item

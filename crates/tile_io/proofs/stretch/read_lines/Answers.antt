@@ -1,7 +1,7 @@
 use Rattle.std.proofs.Common.{◌≡◌, true, false, ◌≤◌, ◌<◌, ◌+◌, ◌-◌, ◌++◌, ◌∷◌, [], length, Ok, Err, refl, sym, ap, subst, ◌∙◌, arith}
 use Rattle.tile_io.specs.declared.fault.TextStop.{TextStop}
 use Rattle.tile_io.specs.Lines.{lines_from, mark_after, words_of, AreSkipped}
-use Rattle.tile_io.specs.NextLine.{IsMark}
+use Rattle.tile_io.specs.NextLine.{IsMark, line_bytes}
 use Rattle.tile_io.specs.Checks.{table_format}
 use Rattle.tile_io.specs.Inner.Headers.{stop_at}
 use Rattle.tile_io.specs.Inner.Stretches.{IsStretch, moved}
@@ -118,7 +118,7 @@ lines-preserved g c =
     let found = told_turn (table (g.R.LineReader.context c.lines.reader)) (g.R.LineReader.holds c.lines.reader) (g.R.LineReader.holds c.match-take_from_front.reader) text mark turn done took_turn.line in
     let next = found.next in
     let later : mark.at < line.next.at = next_is_later text mark line next in
-    let taken = takes_here table now.context Holds now.items refl (Ok false) (found.taken now.items now.held) in
+    let taken = takes_here table now.context Holds now.items {cut = words_of (line_bytes text line)} refl (Ok false) (found.taken now.items now.held) in
     record {
       context = took_turn.same ∙ now.context;
       items = now.items ++ taken.0 ∷ [];

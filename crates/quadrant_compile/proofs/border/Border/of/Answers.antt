@@ -1,10 +1,9 @@
-use Rattle.std.proofs.Common.{List, ℕ, Option, Some, sym, ap, ◌∙◌, arith}
+use Rattle.std.proofs.Common.{List, ℕ, Option, Some, sym, ap, ◌∙◌}
 use Rattle.std.specs.Prelude.{find, bytes_eq}
 use Rattle.tile_io.specs.Checks.{Keyword}
 use Rattle.quadrant_compile.specs.declared.line_kind.LineKind.{LineKind}
 use Rattle.quadrant_compile.specs.QuadrantText.{QuadrantItem, quadrant_table}
 use Rattle.quadrant_compile.specs.Inner.Keywords.{row_of}
-use Rattle.quadrant_compile.proofs.Borders.{keyword_at}
 use Rattle.quadrant_compile.proofs.border.Border.of.Goals as goal
 
 -- the keyword that a word is
@@ -13,10 +12,10 @@ named word = find (λ row. bytes_eq word row.word) quadrant_table.keywords
 
 pub returns-in-Bottom : goal.returns-in-Bottom
 returns-in-Bottom c =
-    keyword_at c.args.words.now (omega arith) ∙ ap named (sym c.word.ensures) ∙ sym c.in_ok-kind.ensures
+    ap named (sym c.word.ensures) ∙ sym c.in_ok-kind.ensures
     ∙ ap (λ (k : LineKind). Some (row_of k)) c.in-Bottom.is
 
 pub returns-in-Left : goal.returns-in-Left
 returns-in-Left c =
-    keyword_at c.args.words.now (omega arith) ∙ ap named (sym c.word.ensures) ∙ sym c.in_ok-kind.ensures
+    ap named (sym c.word.ensures) ∙ sym c.in_ok-kind.ensures
     ∙ ap (λ (k : LineKind). Some (row_of k)) c.in-Left.is

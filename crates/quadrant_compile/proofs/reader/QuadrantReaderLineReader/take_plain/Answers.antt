@@ -1,6 +1,7 @@
 use Rattle.std.proofs.Common.{◌≡◌, Some, sym, ap, subst, ◌∙◌}
 use Rattle.tile_io.specs.Lines.{words_of}
-use Rattle.tile_io.specs.Checks.{keyword_of}
+use Rattle.std.specs.Prelude.{find, bytes_eq}
+use Rattle.tile_io.specs.Checks.{field}
 use Rattle.quadrant_compile.specs.QuadrantText.{quadrant_table}
 use Rattle.quadrant_compile.specs.Inner.Keywords.{row_of}
 use Rattle.quadrant_compile.specs.Inner.Borders.{HasPlace, border_kind}
@@ -15,7 +16,7 @@ returns-in-Ok-clause-taken c = λ items held.
     let border = c.in_ok-border.border in
     let line = c.cut-words.ensures in
     let place = subst (HasPlace border (quadrant_in r.parts) r.last) line (c.has_place.ensures c.if-not-has_place.false) in
-    let keyword : keyword_of quadrant_table.keywords (words_of c.args.line.now) ≡ Some (row_of (border_kind border)) = ap (keyword_of quadrant_table.keywords) (sym line) ∙ c.in_ok-border.ensures in
+    let keyword : find (λ row. bytes_eq (field (words_of c.args.line.now) 0) row.word) quadrant_table.keywords ≡ Some (row_of (border_kind border)) = ap (λ w. find (λ row. bytes_eq (field w 0) row.word) quadrant_table.keywords) (sym line) ∙ c.in_ok-border.ensures in
     let took = border_taken border (quadrant_in r.parts) r.last items (words_of c.args.line.now) place held (quadrant_in c.take_border.new.parts) keyword (c.in-Ok.ensures items held.quadrant) in
     rw c.kind.ensures took
 
@@ -26,5 +27,5 @@ returns-in-Err-clause-taken c = λ items held.
     let border = c.in_ok-border.border in
     let line = c.cut-words.ensures in
     let place = subst (HasPlace border (quadrant_in r.parts) r.last) line (c.has_place.ensures c.if-not-has_place.false) in
-    let keyword : keyword_of quadrant_table.keywords (words_of c.args.line.now) ≡ Some (row_of (border_kind border)) = ap (keyword_of quadrant_table.keywords) (sym line) ∙ c.in_ok-border.ensures in
+    let keyword : find (λ row. bytes_eq (field (words_of c.args.line.now) 0) row.word) quadrant_table.keywords ≡ Some (row_of (border_kind border)) = ap (λ w. find (λ row. bytes_eq (field w 0) row.word) quadrant_table.keywords) (sym line) ∙ c.in_ok-border.ensures in
     border_stopped border (quadrant_in r.parts) r.last items (words_of c.args.line.now) place held (quadrant_in c.take_border.new.parts) c.in-Err.stop keyword (c.in-Err.ensures items held.quadrant)
