@@ -1,5 +1,7 @@
 -- The text of a system: what each kept line is, which checks it has to pass, and the items of a system.
-use Rattle.std.specs.Prelude.{◌≡◌, ◌≢◌, ℕ, ◌==◌, Bool, true, false, not, ◌&&◌, ◌⊎◌, nat_lt, is_none, is_some, if◌then◌else◌, List, [], ◌∷◌, ◌++◌, length, map, filter_map, codes, bytes_eq, Option, Some, None, Result, Ok, Err, pos, ◌+ℤ◌, int_le}
+use Rattle.std.specs.Prelude.{◌≡◌, ◌≢◌, ℕ, ◌==◌, Bool, true, false, not, ◌&&◌, ◌⊎◌, nat_lt, is_none, if◌then◌else◌, List, [], ◌∷◌, ◌++◌, length, map, filter_map, codes, bytes_eq, Option, Some, None, Result, Ok, Err, pos, ◌+ℤ◌, int_le}
+use Rattle.std.specs.List.{list_any}
+use Rattle.std.specs.Option.{option_map_or}
 use Rattle.tile_io.specs.declared.fault.Cause.{Cause}
 use Rattle.tile_io.specs.declared.fault.Cause.TheVariants.{DoubleName, DoubleSite, NoHeader, OutOfRange, SeedOutside}
 use Rattle.tile_io.specs.declared.fault.TextStop.{TextStop}
@@ -7,15 +9,13 @@ use Rattle.tile_io.specs.declared.fault.TextStop.TheVariants as stops
 use Rattle.tile_io.specs.declared.mark.Mark.{Mark}
 use Rattle.tile_io.specs.Formats.{Format, Fault, Reads}
 use Rattle.tile_io.specs.Checks.{◌>>=◌, require, field, count_in, declared, referred, behind, last_of, Keyword, Table, table_format, row}
-use Rattle.atam.specs.declared.limits.TheConstants.{MOST_GLUES, MOST_PAIRS, MOST_SEEDS, MOST_STRENGTH, MOST_TAU, MOST_TYPES}
 use Rattle.atam.specs.declared.site.Site.{Site}
+use Rattle.atam.specs.Sites.{same_site}
 use Rattle.atam.specs.declared.place.GlueId.{GlueId}
 use Rattle.atam.specs.declared.place.GluePair.{GluePair}
 use Rattle.atam.specs.declared.place.Place.{Place}
 use Rattle.atam.specs.declared.area.BoxArea.{BoxArea}
-use Rattle.atam.specs.TileSystem.{TileSystem, Glue, TileType, is_name}
-use Rattle.tile_system.specs.Pairs.{paired_strength}
-use Rattle.tile_system.specs.Seeds.{is_seeded}
+use Rattle.atam.specs.TileSystem.{TileSystem, Glue, TileType, is_name, is_pair_of}
 use Rattle.tile_text.specs.declared.version.Version.{Version}
 use Rattle.tile_text.specs.declared.version.Version.TheVariants.{One, Two}
 use Rattle.tile_text.specs.Fields.{box_field, place_field}
@@ -81,17 +81,8 @@ side earlier word =
     if bytes_eq word (codes "-") then Ok None
     else (referred is_name (glue_names earlier) word >>= (λ g. Ok (Some (record { 0 = g }))))
 
--- a box of 1 to 1024 columns and rows
-abbrev pub is_box : BoxArea → Bool
-is_box area = int_le area.x0 area.x1 && int_le area.y0 area.y1
-    && int_le area.x1 (area.x0 +ℤ pos 1023) && int_le area.y1 (area.y0 +ℤ pos 1023)
-
 abbrev pub is_in_box : BoxArea → Site → Bool
 is_in_box area m = int_le area.x0 m.x && int_le m.x area.x1 && int_le area.y0 m.y && int_le m.y area.y1
-
-abbrev pub is_inside : Option BoxArea → Site → Bool
-is_inside None m = true
-is_inside (Some area) m = is_in_box area m
 
 abbrev pub version_word : Version → List ℕ
 version_word One = codes "1"
@@ -103,7 +94,8 @@ if_two One x = []
 if_two Two x = x ∷ []
 
 -- The table of keywords of a version. A row has the word, how many words its line has, behind which
--- lines it may stand, the limit of its kind, and its fields with the checks of the whole line.
+-- lines it may stand, the limit of its kind, and its fields with the checks of the whole line. A box
+-- has 1 to 1024 columns and rows.
 abbrev pub system_rows : Version → List (Keyword (List SystemItem) SystemItem)
 system_rows version =
     row (codes "tiles") (λ n. n == 2) is_none (λ earlier words. true) (λ earlier words. do
@@ -111,16 +103,16 @@ system_rows version =
       Ok Header)
     ∷ row (codes "tau") (λ n. n == 2) (behind word_of (codes "tiles" ∷ [])) (λ earlier words. true)
     (λ earlier words. do
-      n ← count_in 1 MOST_TAU (field words 1)
+      n ← count_in 1 1000 (field words 1)
       Ok (TauLine n))
     ∷ row (codes "glue") (λ n. n == 3) (behind word_of (codes "tau" ∷ codes "glue" ∷ []))
-    (λ earlier words. nat_lt (length (glue_names earlier)) MOST_GLUES) (λ earlier words. do
+    (λ earlier words. nat_lt (length (glue_names earlier)) 8192) (λ earlier words. do
       name ← declared is_name (glue_names earlier) (field words 1)
-      n ← count_in 0 MOST_STRENGTH (field words 2)
+      n ← count_in 0 250 (field words 2)
       Ok (GlueLine (record { name = name; strength = n })))
     ∷ row (codes "tile") (λ n. n == 6)
     (behind word_of (codes "tau" ∷ codes "glue" ∷ codes "pair" ∷ codes "tile" ∷ []))
-    (λ earlier words. nat_lt (length (type_names earlier)) MOST_TYPES) (λ earlier words. do
+    (λ earlier words. nat_lt (length (type_names earlier)) 16384) (λ earlier words. do
       name ← declared is_name (type_names earlier) (field words 1)
       n ← side earlier (field words 2)
       e ← side earlier (field words 3)
@@ -130,26 +122,28 @@ system_rows version =
     ∷ row (codes "box") (λ n. n == 5) (behind word_of (codes "tile" ∷ [])) (λ earlier words. true)
     (λ earlier words. do
       area ← box_field (field words 1) (field words 2) (field words 3) (field words 4)
-      _ ← require (is_box area) OutOfRange
+      _ ← require (int_le area.x0 area.x1 && int_le area.y0 area.y1
+          && int_le area.x1 (area.x0 +ℤ pos 1023) && int_le area.y1 (area.y0 +ℤ pos 1023)) OutOfRange
       Ok (BoxLine area))
     ∷ row (codes "seed") (λ n. n == 4)
     (behind word_of (codes "box" ∷ if_two version (codes "seed")))
-    (λ earlier words. nat_lt (length (filter_map seed_of earlier)) MOST_SEEDS) (λ earlier words. do
+    (λ earlier words. nat_lt (length (filter_map seed_of earlier)) 4096) (λ earlier words. do
       seed ← place_field (type_names earlier) (field words 1) (field words 2) (field words 3)
-      _ ← require (is_inside (last_of (filter_map area_of earlier)) seed.site) SeedOutside
-      _ ← require (not (is_seeded (filter_map seed_of earlier) seed.site)) DoubleSite
+      _ ← require (option_map_or (λ area. is_in_box area seed.site)
+          (last_of (filter_map area_of earlier)) true) SeedOutside
+      _ ← require (not (list_any (λ p. same_site p.site seed.site) (filter_map seed_of earlier))) DoubleSite
       Ok (SeedLine seed))
     ∷ row (codes "end") (λ n. n == 1) (behind word_of (codes "seed" ∷ [])) (λ earlier words. true)
     (λ earlier words. Ok EndLine)
     -- a pair is of two glues that differ and aren't paired yet
     ∷ if_two version (row (codes "pair") (λ n. n == 4)
     (behind word_of (codes "glue" ∷ codes "pair" ∷ []))
-    (λ earlier words. nat_lt (length (filter_map pair_of earlier)) MOST_PAIRS) (λ earlier words. do
+    (λ earlier words. nat_lt (length (filter_map pair_of earlier)) 65536) (λ earlier words. do
       g ← referred is_name (glue_names earlier) (field words 1)
       h ← referred is_name (glue_names earlier) (field words 2)
-      n ← count_in 0 MOST_STRENGTH (field words 3)
-      _ ← require (not (g == h) && not (is_some (paired_strength (filter_map pair_of earlier)
-          (record { 0 = g }) (record { 0 = h })))) DoubleName
+      n ← count_in 0 250 (field words 3)
+      _ ← require (not (g == h) && not (list_any (λ p. is_pair_of p (record { 0 = g }) (record { 0 = h }))
+          (filter_map pair_of earlier))) DoubleName
       Ok (PairLine (record { first = record { 0 = g }; second = record { 0 = h }; strength = n }))))
 
 -- only the end line completes a text
