@@ -22,7 +22,7 @@ use Rattle.attach_rule.specs.Bonds.{AreBonds}
 use Rattle.attach_rule.specs.Facing.{FacesSite, facing_pull}
 use Rattle.attach_rule.specs.Searches.{IsFirstType, AttachesFirst}
 use Rattle.type_index.specs.HeldTypes.{IsHeld as IsHeldType, FirstHeldBut}
-use Rattle.type_index.specs.SideSets.{SideSet, has}
+use Rattle.type_cache.specs.SideSets.{SideSet, has}
 use Rattle.local_check.proofs.Keeping.{pull_facing}
 use Rattle.cert_check.specs.declared.entry.Entry.{Entry}
 use Rattle.cert_check.specs.declared.listing.EntriesBeside.{EntriesBeside}

@@ -14,7 +14,7 @@ use Rattle.atam.specs.TileSystem.{TileSystem, IsType, side_glue}
 use Rattle.atam.specs.Assembly.{Fits, interaction, glue_at, bond, pull}
 use Rattle.attach_rule.specs.declared.facing.FacingGlues.{FacingGlues}
 use Rattle.attach_rule.specs.Facing.{FacesSite}
-use Rattle.type_index.specs.SideSets.{has, complement}
+use Rattle.type_cache.specs.SideSets.{has, complement}
 use Rattle.type_index.proofs.Keys.{faced, faced_faces, faces_key}
 use Rattle.local_check.proofs.Keeping.{pull_facing}
 use Rattle.local_check.proofs.Sites.{slice_get-set, slice_get-apart}

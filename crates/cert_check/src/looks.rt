@@ -16,7 +16,8 @@ use attach_rule::FacingGlues;
 use std::alloc::Global;
 use std::marker::Model;
 use tile_system::{NoMemory, Side, System, TypeId};
-use type_index::{FacingCache, SideSet, TypeIndex, key_of_codes};
+use type_cache::{FacingCache, SideSet};
+use type_index::{TypeIndex, key_of_codes};
 
 // What an entry looks like: the key of the glues that face its site, the sides that it states, and
 // those on which the entries beside it wait.

@@ -27,8 +27,8 @@ use Rattle.assembly.specs.Grids.{TileGrid}
 use Rattle.assembly.proofs.Cells.{index_of, not_before}
 use Rattle.grow_core.specs.Steps.{place}
 use Rattle.number_set.specs.Numbers.{Numbers, IsIn, IsLeastOf}
-use Rattle.type_index.specs.Clean.{CameExact, ComesClean, ComesExact, GrewExact}
-use Rattle.type_index.proofs.Settling.{exact_same}
+use Rattle.type_cache.specs.Clean.{CameExact, ComesClean, ComesExact, GrewExact}
+use Rattle.type_cache.proofs.Settling.{exact_same}
 use Rattle.frontier_seat.specs.declared.growing.Growing.{Growing}
 use Rattle.frontier_seat.specs.declared.work_list.Spot.{Spot}
 use Rattle.frontier_seat.specs.Growths.{IsGrowing}

@@ -5,7 +5,7 @@ ghost use Rattle.atam.specs.Growth.{IsClosedInBox, IsFullGrowth};
 ghost use Rattle.atam.specs.Canonical.{IsCanonical};
 ghost use Rattle.assembly.specs.Cells.{cell_count};
 ghost use Rattle.number_set.specs.Numbers.{IsIn};
-ghost use Rattle.type_index.specs.Clean.{CameExact};
+ghost use Rattle.type_cache.specs.Clean.{CameExact};
 ghost use Rattle.type_index.specs.Indexes.{IsIndexOf};
 ghost use Rattle.frontier_seat.specs.Inner.Fillings.{CanFill, GrewSeen, MayFill};
 ghost use Rattle.frontier_seat.specs.Inner.Looks.{IsTaken, ListsOn};

@@ -4,8 +4,8 @@ ghost use Rattle.atam.specs.Sites.{IsNearSite};
 ghost use Rattle.atam.specs.Placements.{tile_at};
 ghost use Rattle.atam.specs.Assembly.{Fits};
 ghost use Rattle.tile_system.specs.Neighbors.{StandBeside};
-ghost use Rattle.type_index.specs.Clean.{OpensExact};
-ghost use Rattle.type_index.specs.Findings.{SumsUpCandidates};
+ghost use Rattle.type_cache.specs.Clean.{OpensExact};
+ghost use Rattle.type_index.specs.Sums.{SumsUpCandidates};
 ghost use Rattle.type_index.specs.Indexes.{IsIndexOf};
 ghost use Rattle.frontier_seat.specs.Inner.Looks.{IsOpenType};
 ghost use Rattle.frontier_seat.specs.Inner.Pickers.{HasMoreThan, IsPickerOf};
@@ -15,7 +15,8 @@ use crate::types::Types;
 use assembly::Grid;
 use std::alloc::Global;
 use tile_system::{Beside, NoMemory, Placed, Site, System, TypeId};
-use type_index::{FacingCache, Found, HeldList};
+use type_cache::{FacingCache, HeldList};
+use type_index::Found;
 
 // One of the types that attach at a site, if any does, and whether it is clear that whichever
 // attaches comes clean, held by exactly the temperature.

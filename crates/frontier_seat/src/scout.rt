@@ -8,7 +8,7 @@ ghost use Rattle.site_table.specs.Seats.{IsSeatOf};
 ghost use Rattle.site_table.specs.Laws.{IsFinal};
 ghost use Rattle.frontier_seat.specs.Growths.{ClaimsNothing, EndsBurst, IsGrowing, GrowsOn};
 ghost use Rattle.frontier_seat.specs.Orders.{AreCanonicalClaims};
-ghost use Rattle.type_index.specs.Clean.{GrewExact};
+ghost use Rattle.type_cache.specs.Clean.{GrewExact};
 ghost use Rattle.type_index.specs.Indexes.{IsIndexOf};
 ghost use Rattle.frontier_seat.specs.Inner.Looks.{ListsOpen, MayList};
 

@@ -8,7 +8,7 @@ use Rattle.atam.specs.Growth.{IsClosedInBox}
 use Rattle.atam.proofs.Canon.{canonical_too}
 use Rattle.atam.proofs.Tiles.{same_back}
 use Rattle.assembly.specs.Grids.{TileGrid}
-use Rattle.type_index.specs.Clean.{CameExact, GrewExact}
+use Rattle.type_cache.specs.Clean.{CameExact, GrewExact}
 use Rattle.site_table.specs.Seats.{SeatValue}
 use Rattle.frontier_seat.specs.Orders.{AreCanonicalClaims}
 use Rattle.grow_workers.specs.Inner.Wins.{PartedGrowth}

@@ -9,7 +9,7 @@ use Rattle.atam.specs.Canonical.{IsCanonical}
 use Rattle.assembly.specs.Grids.{TileGrid}
 use Rattle.grow_core.specs.declared.placed_tile.PlacedTile.{PlacedTile}
 use Rattle.grow_core.specs.Core.{Owns, least, greatest, placed_by}
-use Rattle.type_index.specs.Clean.{CameExact}
+use Rattle.type_cache.specs.Clean.{CameExact}
 use Rattle.site_table.specs.Seats.{SeatValue, GoesOn, GrownValue}
 use Rattle.grow_workers.specs.declared.ordered.SeenOrder.{SeenOrder}
 

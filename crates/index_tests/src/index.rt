@@ -4,7 +4,7 @@ ghost use Rattle.std.specs.Prelude.{◌≡◌, ◌<◌, IfOk};
 ghost use Rattle.atam.specs.Sites.{IsNearSite};
 ghost use Rattle.atam.specs.Assembly.{Fits};
 ghost use Rattle.type_index.specs.Indexes.{IsIndexOf};
-ghost use Rattle.type_index.specs.Findings.{AreFindings};
+ghost use Rattle.type_cache.specs.Findings.{AreFindings};
 
 use crate::random::{Kind, Numbers, random_grid, random_system};
 use assembly::{Grid, site_of_index};
@@ -14,7 +14,8 @@ use attach_rule::{
 use std::alloc::Global;
 use std::test::Fail;
 use tile_system::{BuildStop, NoMemory, Placed, Site, System, TypeId};
-use type_index::{FacingCache, Found, TypeIndex};
+use type_cache::FacingCache;
+use type_index::{Found, TypeIndex};
 
 // Whether two lists have the same types.
 fn have_same(first: &TypeList, second: &TypeList) -> bool {

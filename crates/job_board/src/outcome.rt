@@ -2,7 +2,7 @@
 ghost use Rattle.std.specs.Prelude.{◌≡◌, true, IfOk};
 ghost use Rattle.atam.specs.Canonical.{IsCanonical};
 ghost use Rattle.atam.specs.Growth.{IsFullGrowth, IsLeastOpenOutside};
-ghost use Rattle.type_index.specs.Clean.{CameExact};
+ghost use Rattle.type_cache.specs.Clean.{CameExact};
 ghost use Rattle.type_index.specs.Indexes.{IsIndexOf};
 ghost use Rattle.local_check.specs.Judgement.{IsVerdict};
 ghost use Rattle.job_board.specs.Answers.{Answers};

@@ -22,8 +22,8 @@ use Rattle.atam.proofs.Sequences.{IsLegal-listed, IsLegal-tile_at, same_index}
 use Rattle.atam.proofs.Confluence.{is_input-later}
 use Rattle.atam.proofs.SameVerdict.{is_output-some}
 use Rattle.atam.proofs.Opening.{bond-beside}
-use Rattle.type_index.specs.Clean.{IsDead, ComesClean, AllCleanBelow, HasCleanPlaces}
-use Rattle.type_index.specs.SideSets.{bond_if}
+use Rattle.type_cache.specs.Clean.{IsDead, ComesClean, AllCleanBelow, HasCleanPlaces}
+use Rattle.type_cache.specs.SideSets.{bond_if}
 use Rattle.local_check.proofs.Keeping.{bond_kept}
 use Rattle.local_check.proofs.Sides.{apart}
 

@@ -18,9 +18,9 @@ use Rattle.attach_rule.specs.Bonds.{AreBonds}
 use Rattle.attach_rule.specs.Facing.{AreNone, FacesSite}
 use Rattle.attach_rule.proofs.Held.{facing_pull-pull}
 use Rattle.type_index.specs.HeldTypes.{IsHeld}
-use Rattle.type_index.specs.SideSets.{SideSet, has, sides_beside}
-use Rattle.type_index.specs.Clean.{ComesClean, AreSettled}
-use Rattle.type_index.proofs.Settling.{has_beside, held_by, strength_is}
+use Rattle.type_cache.specs.SideSets.{SideSet, has, sides_beside}
+use Rattle.type_cache.specs.Clean.{ComesClean, AreSettled}
+use Rattle.type_cache.proofs.Settling.{has_beside, held_by, strength_is}
 use Rattle.local_check.specs.declared.glances.Glance.{Glance}
 use Rattle.local_check.specs.declared.glances.LastGlance.{LastGlance}
 use Rattle.local_check.specs.Inner.Glances.{IsGlance, IsGlanceFor, glance_of}

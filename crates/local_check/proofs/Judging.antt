@@ -16,7 +16,7 @@ use Rattle.std.proofs.Math.Seq.{take-length}
 use Rattle.atam.proofs.Placements.{Extends, Extends-take}
 use Rattle.atam.proofs.Sequences.{IsLegal-distinct}
 use Rattle.atam.proofs.Tiles.{SameTiles, SameTiles-from}
-use Rattle.type_index.specs.SideSets.{SideSet, has, glues_on}
+use Rattle.type_cache.specs.SideSets.{SideSet, has, glues_on}
 use Rattle.attach_rule.specs.declared.facing.FacingGlues.{FacingGlues}
 use Rattle.attach_rule.specs.Facing.{FacesSite, facing_pull}
 use Rattle.type_index.specs.HeldTypes.{IsHeld, FirstHeldBut}

@@ -21,7 +21,7 @@ use Rattle.atam.proofs.Opening.{bond-beside}
 use Rattle.atam.proofs.Tiles.{SameTiles}
 use Rattle.attach_rule.specs.declared.facing.FacingGlues.{FacingGlues}
 use Rattle.attach_rule.specs.Facing.{FacesSite, facing_pull}
-use Rattle.type_index.specs.SideSets.{SideSet, has, bond_if, glues_on}
+use Rattle.type_cache.specs.SideSets.{SideSet, has, bond_if, glues_on}
 use Rattle.local_check.proofs.Sides.{apart}
 
 -- the test of two neighbours of a site

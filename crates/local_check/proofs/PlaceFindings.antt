@@ -16,7 +16,7 @@ use Rattle.atam.specs.Assembly.{interaction, glue_at, bond}
 use Rattle.atam.proofs.Bonds.{interaction-none}
 use Rattle.attach_rule.specs.Facing.{AreNone, FacesSite, facing_pull}
 use Rattle.type_index.specs.HeldTypes.{FirstHeldBut}
-use Rattle.type_index.specs.SideSets.{SideSet, intersection, difference, complement, glues_on}
+use Rattle.type_cache.specs.SideSets.{SideSet, intersection, difference, complement, glues_on}
 use Rattle.local_check.specs.Inner.Sides.{bound_sides, pull_on}
 use Rattle.local_check.proofs.Sites.{slice_get-set, slice_get-apart}
 use Rattle.local_check.specs.declared.findings.PlaceFinding.{PlaceFinding}

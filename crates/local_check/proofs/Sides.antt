@@ -22,7 +22,7 @@ use Rattle.atam.proofs.Sequences.{IsLegal-empty, IsLegal-tile_at, IsLegal-listed
 use Rattle.atam.proofs.Confluence.{is_input-seed, is_input-later}
 use Rattle.atam.proofs.SameVerdict.{is_output-some, is_output-none}
 use Rattle.type_index.specs.Indexes.{TypeLists, IsIndexOf}
-use Rattle.type_index.specs.SideSets.{SideSet, has, bond_if, sum_on, bound_by, difference, complement}
+use Rattle.type_cache.specs.SideSets.{SideSet, has, bond_if, sum_on, bound_by, difference, complement}
 use Rattle.local_check.specs.SideSets.{has_at, AreSidesOf}
 use Rattle.attach_rule.specs.declared.bonding.Strengths.{Strengths}
 use Rattle.attach_rule.specs.declared.facing.FacingGlues.{FacingGlues}

@@ -11,7 +11,7 @@ use Rattle.atam.specs.TileSystem.{TileSystem}
 use Rattle.atam.specs.Assembly.{bond, pull}
 use Rattle.atam.proofs.Bonds.{bond_is, bond-none}
 use Rattle.atam.proofs.Placements.{Extends}
-use Rattle.type_index.specs.SideSets.{sides_beside, intersection, difference, bond_if}
+use Rattle.type_cache.specs.SideSets.{sides_beside, intersection, difference, bond_if}
 use Rattle.local_check.specs.Inner.Sides.{bound_sides, pull_on}
 
 in_both : (on : Bool) (w : ℕ) → (nat_lt 0 w && on) ≡ nat_lt 0 (bond_if on w)

@@ -8,7 +8,7 @@ use Rattle.atam.specs.Determinism.{HasNoRivals, IsLocallyDeterministic}
 use Rattle.atam.specs.declared.verdict.Verdict.{Verdict}
 use Rattle.atam.specs.declared.verdict.Verdict.TheVariants.{Yes}
 use Rattle.local_check.specs.Judgement.{IsVerdict}
-use Rattle.type_index.specs.Clean.{HasCleanPlaces}
+use Rattle.type_cache.specs.Clean.{HasCleanPlaces}
 
 -- a legal sequence of a system whose temperature isn't 0 has a verdict
 abbrev pub HasVerdict : Type 0

@@ -8,7 +8,7 @@ use Rattle.atam.specs.declared.place.Place.{Place}
 use Rattle.atam.specs.Placements.{SamePlacements}
 use Rattle.atam.specs.TileSystem.{TileSystem}
 use Rattle.atam.specs.Determinism.{is_input, is_output}
-use Rattle.type_index.specs.SideSets.{SideSet, has}
+use Rattle.type_cache.specs.SideSets.{SideSet, has}
 use Rattle.type_index.specs.Indexes.{TypeLists, IsIndexOf}
 use Rattle.local_check.specs.Judgement.{FindsInexact, FindsRival}
 

@@ -7,7 +7,7 @@ ghost use Rattle.atam.specs.Assembly.{Fits};
 ghost use Rattle.assembly.specs.Cells.{cell_count, site_at};
 ghost use Rattle.type_index.specs.Indexes.{IsIndexOf};
 ghost use Rattle.type_index.specs.HeldTypes.{FirstHeldBut};
-ghost use Rattle.type_index.specs.Findings.{AreFindings};
+ghost use Rattle.type_cache.specs.Findings.{AreFindings};
 ghost use Rattle.local_check.specs.Inner.PlaceFindings.{IsFinding, ArePlaceFindings, IsKept};
 
 use assembly::Grid;
@@ -15,7 +15,8 @@ use attach_rule::FacingGlues;
 use std::alloc::Global;
 use std::marker::Model;
 use tile_system::{NoMemory, Place, System, TypeId};
-use type_index::{FacingCache, SideSet, TypeIndex, glues_of_key, key_beside};
+use type_cache::{FacingCache, SideSet};
+use type_index::{TypeIndex, glues_of_key, key_beside};
 
 // What is found at a place, where tiles stood beside some sides before: the sides that interact
 // with those tiles, their pull, the other sides that interact, and the first rival.

@@ -7,8 +7,8 @@ ghost use Rattle.atam.specs.Assembly.{Fits};
 ghost use Rattle.assembly.specs.Cells.{cell_count, site_at};
 ghost use Rattle.type_index.specs.Indexes.{IsIndexOf};
 ghost use Rattle.type_index.specs.HeldTypes.{IsHeld};
-ghost use Rattle.type_index.specs.Findings.{AreFindings};
-ghost use Rattle.type_index.specs.Clean.{AreSettled};
+ghost use Rattle.type_cache.specs.Findings.{AreFindings};
+ghost use Rattle.type_cache.specs.Clean.{AreSettled};
 ghost use Rattle.local_check.specs.Inner.Glances.{AreGlances, IsGlance, IsGlanceFor};
 
 use assembly::Grid;
@@ -16,7 +16,8 @@ use attach_rule::{FacingGlues, Strengths};
 use std::alloc::Global;
 use std::marker::Model;
 use tile_system::{NoMemory, Place, System, TypeId};
-use type_index::{FacingCache, SideSet, TypeIndex, glues_of_key, key_beside, settled_sides};
+use type_cache::{FacingCache, SideSet, settled_sides};
+use type_index::{TypeIndex, glues_of_key, key_beside};
 
 // What is seen of a tile as it comes: the sum that holds it, and whether it comes clean.
 #[derive(Clone, Copy)]

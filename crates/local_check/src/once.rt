@@ -3,7 +3,7 @@ ghost use Rattle.std.specs.Prelude.{◌≡◌, ◌<◌, ◌^◌, true, length, t
 ghost use Rattle.atam.specs.Assembly.{Fits};
 ghost use Rattle.atam.specs.Growth.{IsClosedInBox, IsLeastOpenOutside, IsLegal};
 ghost use Rattle.atam.specs.Determinism.{HasExactInputs};
-ghost use Rattle.type_index.specs.Clean.{CameExact, HasCleanPlaces};
+ghost use Rattle.type_cache.specs.Clean.{CameExact, HasCleanPlaces};
 ghost use Rattle.type_index.specs.Indexes.{IsIndexOf};
 ghost use Rattle.local_check.specs.Judgement.{IsVerdict};
 ghost use Rattle.local_check.specs.Judged.{IsJudged};

@@ -2,7 +2,7 @@
 ghost use Rattle.std.specs.Prelude.{◌≡◌};
 
 use std::marker::Model;
-use type_index::SideSet;
+use type_cache::SideSet;
 
 // The sides of a place that interact with the seeds or with an earlier place, and its output sides.
 // They are one byte, a half for each set, since there is one for each place of a sequence.

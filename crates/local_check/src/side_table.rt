@@ -8,7 +8,7 @@ ghost use Rattle.atam.specs.Assembly.{Fits};
 ghost use Rattle.atam.specs.Growth.{IsLegal};
 ghost use Rattle.type_index.specs.Indexes.{IsIndexOf};
 ghost use Rattle.local_check.specs.Inner.Surveys.{CanSurvey, IsSurvey};
-ghost use Rattle.type_index.specs.SideSets.{has};
+ghost use Rattle.type_cache.specs.SideSets.{has};
 ghost use Rattle.local_check.specs.SideSets.{input_at, output_at, AreSidesOf};
 
 use crate::grid_of::grid_of;
@@ -22,7 +22,8 @@ use std::borrow::Cow;
 use std::marker::Model;
 use std::thread::Threads;
 use tile_system::{Beside, NoMemory, Placed, Side, Site, System, TypeId};
-use type_index::{SideSet, TypeIndex};
+use type_cache::SideSet;
+use type_index::TypeIndex;
 
 /// The input and output sides of each place of a sequence, the grid of its places, an index of the
 /// system's types, and where the sequence first breaks a condition on its places. The grid and the

@@ -4,14 +4,14 @@ ghost use Rattle.atam.specs.declared.place.Place.{Place};
 ghost use Rattle.atam.specs.Sites.{InBox, IsBox, neighbor};
 ghost use Rattle.atam.specs.Placements.{tile_at};
 ghost use Rattle.assembly.specs.Cells.{cell_count, site_at};
-ghost use Rattle.type_index.specs.SideSets.{sides_beside};
+ghost use Rattle.type_cache.specs.SideSets.{sides_beside};
 ghost use Rattle.local_check.specs.Inner.StoodSites.{TellsSites};
 
 use assembly::{Sequence, number_beside, site_index};
 use std::alloc::Global;
 use std::marker::Model;
 use tile_system::{BoxArea, NoMemory, Place, Side, Site};
-use type_index::SideSet;
+use type_cache::SideSet;
 
 // Whether a tile stood at each site of a box, by the site's number. Each call but `make` takes no
 // memory.

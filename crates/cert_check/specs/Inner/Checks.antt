@@ -12,7 +12,7 @@ use Rattle.tile_system.specs.declared.memory.NoMemory.{NoMemory}
 use Rattle.attach_rule.specs.declared.bonding.Strengths.{Strengths}
 use Rattle.attach_rule.specs.declared.facing.FacingGlues.{FacingGlues}
 use Rattle.type_index.specs.Indexes.{IsIndexOf}
-use Rattle.type_index.specs.SideSets.{SideSet}
+use Rattle.type_cache.specs.SideSets.{SideSet}
 use Rattle.cert_check.specs.declared.checks.Checker.{Checker}
 use Rattle.cert_check.specs.declared.entry.Entry.{Entry}
 use Rattle.cert_check.specs.declared.verdict.CertVerdict.{CertVerdict}

@@ -6,8 +6,9 @@ use Rattle.atam.specs.TileSystem.{TileSystem}
 use Rattle.atam.specs.Assembly.{bond}
 use Rattle.attach_rule.specs.declared.facing.FacingGlues.{FacingGlues}
 use Rattle.attach_rule.specs.Facing.{FacesSite}
-use Rattle.type_index.specs.Findings.{AreFindings, FoundBefore, IsKeyOf}
-use Rattle.type_index.specs.SideSets.{has}
+use Rattle.type_index.specs.Codes.{IsKeyOf}
+use Rattle.type_cache.specs.Findings.{AreFindings, FoundBefore}
+use Rattle.type_cache.specs.SideSets.{has}
 use Rattle.cert_check.specs.declared.entry.Entry.{Entry}
 use Rattle.cert_check.specs.declared.looks.Look.{Look}
 use Rattle.cert_check.specs.Certificates.{states, places_of, is_waiting, IsHeldExactly, HasNoLooseBond, HasNoRival}

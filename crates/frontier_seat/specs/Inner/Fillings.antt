@@ -15,7 +15,7 @@ use Rattle.assembly.specs.Cells.{cell_count, site_at}
 use Rattle.assembly.specs.Grids.{TileGrid}
 use Rattle.grow_core.specs.Steps.{place}
 use Rattle.number_set.specs.Numbers.{Numbers, IsIn}
-use Rattle.type_index.specs.Clean.{CameExact}
+use Rattle.type_cache.specs.Clean.{CameExact}
 use Rattle.frontier_seat.specs.declared.in_order.Filler.{Filler}
 use Rattle.frontier_seat.specs.Orders.{LoggedClaims}
 use Rattle.frontier_seat.specs.Inner.Logs.{LoggedTiles}

@@ -10,7 +10,7 @@ use Rattle.assembly.specs.Cells.{cell_count, site_at}
 use Rattle.grow_core.specs.Steps.{place}
 use Rattle.site_table.specs.Seats.{IsSeatOf}
 use Rattle.number_set.specs.Numbers.{Numbers, IsIn, count_below}
-use Rattle.type_index.specs.Clean.{OpensExact}
+use Rattle.type_cache.specs.Clean.{OpensExact}
 use Rattle.frontier_seat.specs.declared.growing.Growing.{Growing}
 use Rattle.frontier_seat.specs.declared.grower.Grower.{Grower}
 use Rattle.frontier_seat.specs.declared.grower.Looked.{Looked}

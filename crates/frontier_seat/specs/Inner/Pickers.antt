@@ -6,7 +6,7 @@ use Rattle.atam.specs.declared.place.Place.{Place}
 use Rattle.atam.specs.TileSystem.{TileSystem}
 use Rattle.attach_rule.specs.Candidates.{AreCandidates}
 use Rattle.type_index.specs.Indexes.{IsIndexOf}
-use Rattle.type_index.specs.Findings.{AreFindings, IsHeldList}
+use Rattle.type_cache.specs.Findings.{AreFindings, IsHeldList}
 use Rattle.frontier_seat.specs.declared.picking.Picker.{Picker}
 
 -- the index is of the system, what is cached was found in it, and so was what is listed

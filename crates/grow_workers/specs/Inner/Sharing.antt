@@ -7,7 +7,7 @@ use Rattle.atam.specs.Growth.{IsClosedInBox}
 use Rattle.assembly.specs.Cells.{cell_count}
 use Rattle.assembly.specs.Grids.{TileGrid}
 use Rattle.tile_system.specs.declared.memory.NoMemory.{NoMemory}
-use Rattle.type_index.specs.Clean.{GrewExact}
+use Rattle.type_cache.specs.Clean.{GrewExact}
 use Rattle.type_index.specs.Indexes.{IsIndexOf}
 use Rattle.frontier_seat.specs.Orders.{AreCanonicalClaims, LoggedClaims}
 use Rattle.site_table.specs.Seats.{IsSeatOf, SeatValue}

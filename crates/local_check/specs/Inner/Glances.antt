@@ -7,9 +7,10 @@ use Rattle.atam.specs.TileSystem.{TileSystem}
 use Rattle.atam.specs.Assembly.{pull}
 use Rattle.attach_rule.specs.declared.facing.FacingGlues.{FacingGlues}
 use Rattle.attach_rule.specs.Facing.{FacesSite}
-use Rattle.type_index.specs.Findings.{AreFindings, FoundBefore, IsKeyOf}
-use Rattle.type_index.specs.SideSets.{SideSet, sides_beside}
-use Rattle.type_index.specs.Clean.{ComesClean}
+use Rattle.type_index.specs.Codes.{IsKeyOf}
+use Rattle.type_cache.specs.Findings.{AreFindings, FoundBefore}
+use Rattle.type_cache.specs.SideSets.{SideSet, sides_beside}
+use Rattle.type_cache.specs.Clean.{ComesClean}
 use Rattle.local_check.specs.declared.glances.Glance.{Glance}
 use Rattle.local_check.specs.declared.glances.LastGlance.{LastGlance}
 

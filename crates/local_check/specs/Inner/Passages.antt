@@ -9,7 +9,7 @@ use Rattle.atam.specs.Determinism.{HasExactInputs}
 use Rattle.atam.specs.declared.legality.Legality.TheVariants as legality
 use Rattle.assembly.specs.Grids.{TileGrid}
 use Rattle.replay_order.specs.Legalities.{IsLegalityAnswer}
-use Rattle.type_index.specs.Clean.{HasCleanPlaces}
+use Rattle.type_cache.specs.Clean.{HasCleanPlaces}
 use Rattle.type_index.specs.Indexes.{TypeLists, IsIndexOf}
 use Rattle.local_check.specs.Judgement.{IsFirstInexact}
 use Rattle.local_check.specs.declared.passage.Passed.{Passed}

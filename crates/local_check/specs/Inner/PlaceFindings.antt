@@ -7,8 +7,9 @@ use Rattle.atam.specs.TileSystem.{TileSystem}
 use Rattle.attach_rule.specs.declared.facing.FacingGlues.{FacingGlues}
 use Rattle.attach_rule.specs.Facing.{FacesSite}
 use Rattle.type_index.specs.HeldTypes.{FirstHeldBut}
-use Rattle.type_index.specs.Findings.{AreFindings, FoundBefore, IsKeyOf}
-use Rattle.type_index.specs.SideSets.{SideSet, intersection, difference, complement, glues_on}
+use Rattle.type_index.specs.Codes.{IsKeyOf}
+use Rattle.type_cache.specs.Findings.{AreFindings, FoundBefore}
+use Rattle.type_cache.specs.SideSets.{SideSet, intersection, difference, complement, glues_on}
 use Rattle.local_check.specs.declared.findings.PlaceFinding.{PlaceFinding}
 use Rattle.local_check.specs.declared.findings.LastFinding.{LastFinding}
 use Rattle.local_check.specs.Inner.Sides.{bound_sides, pull_on}

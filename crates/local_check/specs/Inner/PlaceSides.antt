@@ -1,8 +1,8 @@
 -- Both sets of sides of a place as a number below 256.
 use Rattle.std.specs.Prelude.{◌≡◌, ℕ, ◌+◌, ◌*◌, ◌/◌, ◌%◌, ◌<◌, List, map}
 use Rattle.std.proofs.Common.{◌∙◌, arith}
-use Rattle.type_index.specs.SideSets.{SideSet}
-use Rattle.type_index.specs.SideBits.{set_of, bits_of, bits_back}
+use Rattle.type_cache.specs.SideSets.{SideSet}
+use Rattle.type_cache.specs.SideBits.{set_of, bits_of, bits_back}
 
 -- the sides that interact with the seeds or with an earlier place, and the output sides
 pub record PlaceSides : Type 0 where

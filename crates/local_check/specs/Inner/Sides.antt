@@ -8,7 +8,7 @@ use Rattle.atam.specs.declared.place.Place.{Place}
 use Rattle.atam.specs.TileSystem.{TileSystem}
 use Rattle.atam.specs.Assembly.{bond}
 use Rattle.atam.specs.Determinism.{is_output}
-use Rattle.type_index.specs.SideSets.{SideSet, has, bond_if}
+use Rattle.type_cache.specs.SideSets.{SideSet, has, bond_if}
 
 -- the sides of a tile of the type at the site that interact with a tile beside them
 abbrev pub bound_sides : TileSystem → List Place → Site → TypeId → SideSet

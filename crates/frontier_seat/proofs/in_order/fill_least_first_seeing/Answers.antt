@@ -1,7 +1,7 @@
 use Rattle.std.proofs.Common.{◌∙◌, sym, subst}
 use Rattle.atam.specs.Canonical.{IsCanonical}
 use Rattle.atam.proofs.Opening.{Fits-part}
-use Rattle.type_index.specs.Clean.{CameExact}
+use Rattle.type_cache.specs.Clean.{CameExact}
 use Rattle.frontier_seat.proofs.Ordering.{canonical_order, full_growth}
 use Rattle.frontier_seat.proofs.in_order.fill_least_first_seeing.Goals as goal
 

@@ -1,4 +1,4 @@
-use Rattle.type_index.specs.Findings.{AreFindings}
+use Rattle.type_cache.specs.Findings.{AreFindings}
 use Rattle.index_tests.proofs.index.are_same_sites.Given as goal
 
 -- what the cache knows was found for the system

@@ -16,10 +16,10 @@ use Rattle.atam.proofs.Tiles.{SameTiles, SameTiles-from}
 use Rattle.assembly.specs.Cells.{cell_count, site_at}
 use Rattle.assembly.proofs.Putting.{part_take, same_empty, SamePlacements-more}
 use Rattle.replay_order.proofs.Sequences.{first_taken, first_weak, legal_more}
-use Rattle.type_index.specs.Clean.{AllCleanBelow}
+use Rattle.type_cache.specs.Clean.{AllCleanBelow}
 use Rattle.local_check.proofs.Judging.{exact_all, exact_more, inexact_whole}
 use Rattle.local_check.specs.Judgement.{FindsInexact}
-use Rattle.type_index.proofs.Settling.{comes_same}
+use Rattle.type_cache.proofs.Settling.{comes_same}
 use Rattle.local_check.proofs.Clean.{clean_all, clean_more}
 use Rattle.local_check.proofs.passage.pass.Goals as goal
 

@@ -1,7 +1,7 @@
 use Rattle.std.proofs.Common.{◌≡◌, ◌≤◌, true, length, take}
 use Rattle.atam.specs.Placements.{SamePlacements}
 use Rattle.atam.specs.Growth.{IsLegal}
-use Rattle.type_index.specs.Clean.{AllCleanBelow}
+use Rattle.type_cache.specs.Clean.{AllCleanBelow}
 use Rattle.local_check.specs.Inner.Ranges.{AllExactIn, FindsInexactIn}
 use Rattle.local_check.specs.Inner.Glances.{AreGlances}
 use Rattle.local_check.proofs.passage.pass.Given as goal

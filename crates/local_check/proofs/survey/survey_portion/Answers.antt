@@ -14,7 +14,7 @@ use Rattle.atam.proofs.Lists.{All-slice_get, seeds_within}
 use Rattle.atam.proofs.Opening.{Fits-part}
 use Rattle.attach_rule.specs.declared.facing.FacingGlues.{FacingGlues}
 use Rattle.attach_rule.specs.Facing.{FacesSite}
-use Rattle.type_index.specs.SideSets.{SideSet, has, intersection, difference, complement, sides_beside}
+use Rattle.type_cache.specs.SideSets.{SideSet, has, intersection, difference, complement, sides_beside}
 use Rattle.local_check.specs.Inner.PlaceFindings.{FindingTable, ArePlaceFindings}
 use Rattle.local_check.specs.Inner.PlaceSides.{PlaceSides, earlier_sets, output_sets}
 use Rattle.local_check.specs.Inner.Ranges.{FindsInexactIn, FindsRivalIn}

@@ -1,7 +1,7 @@
 use Rattle.std.proofs.Common.{◌∙◌, refl, sym, ap}
 use Rattle.atam.specs.declared.site.Side.TheVariants.{North, East, South, West}
 use Rattle.atam.specs.Sites.{neighbor}
-use Rattle.type_index.specs.SideSets.{SideSet, has}
+use Rattle.type_cache.specs.SideSets.{SideSet, has}
 use Rattle.type_index.specs.Codes.{code_of}
 use Rattle.cert_check.proofs.Looking.{kind_beside, glue_beside, waits_is}
 use Rattle.cert_check.proofs.looks.Look.of.Goals as goal

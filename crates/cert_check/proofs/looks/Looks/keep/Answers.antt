@@ -1,7 +1,7 @@
 use Rattle.std.proofs.Common.{◌≡◌, ◌∙◌, List, length, Option, Some, slice_get, sym, ap, subst, arith}
 use Rattle.std.proofs.lemmas.List.{length-set}
 use Rattle.atam.specs.declared.place.TypeId.{TypeId}
-use Rattle.type_index.specs.Findings.{AreFindings}
+use Rattle.type_cache.specs.Findings.{AreFindings}
 use Rattle.cert_check.specs.declared.looks.Look.{Look}
 use Rattle.cert_check.specs.Inner.Looks.{PassesLooking}
 use Rattle.cert_check.proofs.Looking.{looks_set}

@@ -5,8 +5,8 @@ use Rattle.atam.specs.Sites.{neighbor}
 use Rattle.atam.specs.Assembly.{glue_at}
 use Rattle.attach_rule.specs.declared.facing.FacingGlues.{FacingGlues}
 use Rattle.attach_rule.specs.Facing.{FacesSite}
-use Rattle.type_index.specs.Findings.{IsKeyOf}
-use Rattle.type_index.specs.SideSets.{SideSet}
+use Rattle.type_index.specs.Codes.{IsKeyOf}
+use Rattle.type_cache.specs.SideSets.{SideSet}
 use Rattle.local_check.specs.declared.findings.LastFinding.{LastFinding}
 use Rattle.local_check.specs.Inner.PlaceFindings.{FindingTable, IsFinding, ArePlaceFindings, IsKept}
 use Rattle.atam.proofs.Boxes.{near_inside}

@@ -6,11 +6,11 @@ use Rattle.atam.specs.declared.place.TypeId.{TypeId}
 use Rattle.attach_rule.specs.Facing.{FacesSite}
 use Rattle.attach_rule.specs.declared.facing.FacingGlues.{FacingGlues}
 use Rattle.type_index.specs.HeldTypes.{FirstHeldBut}
-use Rattle.type_index.specs.Findings.{AreFindings}
+use Rattle.type_cache.specs.Findings.{AreFindings}
 use Rattle.type_index.proofs.Keys.{same_key}
 use Rattle.local_check.specs.declared.findings.PlaceFinding.{PlaceFinding}
 use Rattle.local_check.specs.declared.findings.LastFinding.{LastFinding}
-use Rattle.type_index.specs.SideSets.{intersection, difference, complement, glues_on}
+use Rattle.type_cache.specs.SideSets.{intersection, difference, complement, glues_on}
 use Rattle.local_check.specs.Inner.PlaceFindings.{IsFinding, IsKnown}
 use Rattle.local_check.proofs.PlaceFindings.{known_set, same_facing}
 use Rattle.local_check.proofs.Sites.{slice_get-set}

@@ -5,7 +5,7 @@ use Rattle.atam.specs.Sites.{neighbor}
 use Rattle.atam.specs.Assembly.{glue_at}
 use Rattle.attach_rule.specs.declared.facing.FacingGlues.{FacingGlues}
 use Rattle.attach_rule.specs.Facing.{FacesSite}
-use Rattle.type_index.specs.Findings.{IsKeyOf}
+use Rattle.type_index.specs.Codes.{IsKeyOf}
 use Rattle.local_check.specs.Inner.Glances.{GlanceTable, AreGlances}
 use Rattle.atam.proofs.Boxes.{near_inside}
 use Rattle.local_check.proofs.glances.Glances.at.Goals as goal

@@ -1,5 +1,5 @@
 use Rattle.std.proofs.Common.{◌∙◌, not, sym, ap}
-use Rattle.type_index.proofs.Settling.{no_other_held, within_sides}
+use Rattle.type_cache.proofs.Settling.{no_other_held, within_sides}
 use Rattle.local_check.proofs.glances.Glances.is_clean.Goals as goal
 
 pub returns-clause-settled : goal.returns-clause-settled

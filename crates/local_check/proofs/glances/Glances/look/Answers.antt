@@ -4,7 +4,7 @@ use Rattle.atam.specs.declared.place.TypeId.{TypeId}
 use Rattle.attach_rule.specs.declared.facing.FacingGlues.{FacingGlues}
 use Rattle.attach_rule.specs.Facing.{FacesSite}
 use Rattle.attach_rule.proofs.Held.{sum_pull}
-use Rattle.type_index.specs.Findings.{AreFindings}
+use Rattle.type_cache.specs.Findings.{AreFindings}
 use Rattle.type_index.proofs.Keys.{same_key}
 use Rattle.local_check.specs.declared.glances.LastGlance.{LastGlance}
 use Rattle.local_check.specs.Inner.Glances.{IsGlanceFor, glance_of}

@@ -1,5 +1,5 @@
 use Rattle.std.proofs.Common.{◌≡◌, ◌+◌, ◌*◌, ◌/◌, ◌%◌, ◌∙◌, ap, arith}
-use Rattle.type_index.specs.SideBits.{set_of}
+use Rattle.type_cache.specs.SideBits.{set_of}
 use Rattle.local_check.proofs.place_sides.PlaceSides.of.Goals as goal
 
 pub returns : goal.returns

@@ -2,7 +2,7 @@ use Rattle.std.proofs.Common.{◌≡◌, ◌≤◌, ◌++◌, ◌∙◌, ℕ, Li
 use Rattle.std.proofs.lemmas.List.{length-map, map-append}
 use Rattle.atam.specs.declared.site.Site.{Site}
 use Rattle.atam.specs.declared.place.TypeId.{TypeId}
-use Rattle.type_index.specs.SideSets.{SideSet}
+use Rattle.type_cache.specs.SideSets.{SideSet}
 use Rattle.local_check.specs.Inner.PlaceSides.{PlaceSides, earlier_sets, output_sets}
 use Rattle.local_check.specs.Inner.Ranges.{FindsInexactIn, FindsRivalIn}
 use Rattle.local_check.specs.Inner.Sides.{AreEarlierFrom, AreOutputsFrom}

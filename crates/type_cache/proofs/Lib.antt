@@ -1,0 +1,4 @@
+pub mod Sums
+pub mod Keeping
+pub mod Settling
+pub mod SideNumbers

@@ -1,0 +1,23 @@
+use Rattle.std.proofs.Common.{sym, ◌∙◌}
+use Rattle.type_index.proofs.Keys.{faced, faced_faces}
+use Rattle.type_cache.specs.Findings.{found_in}
+use Rattle.type_cache.proofs.Sums.{candidates_held}
+use Rattle.type_cache.proofs.Settling.{opens_within}
+use Rattle.type_cache.proofs.cache.FacingCache.sight_beside.Goals as goal
+
+pub returns-clause-found : goal.returns-clause-found
+returns-clause-found g c =
+    let sys = c.args.sys.now in
+    let tiles = g.P.Placed.placements c.args.placed.now in
+    let glues = faced sys tiles c.args.site in
+    let faces = faced_faces sys tiles c.args.site in
+    rw c.found.ensures (candidates_held sys tiles c.args.site glues (found_in c.known-known.result) faces c.requires.empty (c.known-known.ensures.found glues (c.key_beside-key.ensures glues faces)).sum)
+
+pub returns-clause-clean : goal.returns-clause-clean
+returns-clause-clean g c said =
+    let sys = c.args.sys.now in
+    let tiles = g.P.Placed.placements c.args.placed.now in
+    let glues = faced sys tiles c.args.site in
+    let faces = faced_faces sys tiles c.args.site in
+    opens_within sys tiles c.args.site glues c.beside.result c.known-known.result.settled c.recall_valid.ensures.valid.some_tau faces
+    (c.known-known.ensures.found glues (c.key_beside-key.ensures glues faces)).settled (c.beside.ensures tiles c.args.site c.requires.beside) (sym c.is_within.ensures ∙ said)

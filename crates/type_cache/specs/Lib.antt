@@ -1,0 +1,4 @@
+pub mod SideSets
+pub mod SideBits
+pub mod Clean
+pub mod Findings
