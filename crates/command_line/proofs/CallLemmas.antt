@@ -14,7 +14,7 @@ use Rattle.command_line.specs.declared.commands.CommandName.{CommandName}
 use Rattle.command_line.specs.declared.commands.CommandName.TheVariants as name
 use Rattle.command_line.specs.declared.words_stop.WordsStop.{WordsStop}
 use Rattle.command_line.specs.declared.words_stop.WordsStop.TheVariants.{NoCommand, Usage, NoMemory}
-use Rattle.command_line.specs.Commands.{IsCallOf, IsTaken, IsUsage, Spells, SpellsArguments, SpellsNumbers, SpellsOptions, command_app, command_named, command_word, name_of, arguments_of, values_of}
+use Rattle.command_line.specs.Commands.{IsCallOf, IsTaken, IsUsage, Spells, SpellsArguments, SpellsNumbers, SpellsOptions, command_app, command_named, command_word, arguments_of, said_by}
 use Rattle.command_line.specs.Numbers.{AreInRange, NumberArgument, StatesValues, may_be_left_out, number_rule, option_words}
 use Rattle.command_line.specs.Inner.Found.{HasValues, IsExact}
 use Rattle.fan_out.proofs.Counts.{nearest_itself}
@@ -34,15 +34,15 @@ values_stated app words found (argument ∷ arguments) (value ∷ values) exact 
     (number_stated app words argument.id found value exact has.0, values_stated app words found arguments values exact has.1)
 
 -- a command that was read off a parse of the words is the one that they call for
-pub call_read : (words : List Text) (found : ArgMatches) (command : Command) (name : CommandName) → name_of command ≡ name → command_named words ≡ Some name
+pub call_read : (words : List Text) (found : ArgMatches) (command : Command) (name : CommandName) → (said_by command).0 ≡ name → command_named words ≡ Some name
     → fault_of (command_app name) words ≡ [] → IsExact (command_app name) words (found_of found)
-    → HasValues (arguments_of name) (values_of command) (found_of found) → IsCallOf words command
+    → HasValues (arguments_of name) (said_by command).1 (found_of found) → IsCallOf words command
 call_read words found command name is named accepted exact has = record {
   named = named ∙ ap (λ n. Some n) (sym is);
   accepted = ap (λ (n : CommandName). fault_of (command_app n) words) is ∙ accepted;
   stated =
-      let Stated : CommandName → Type 0 = λ n. StatesValues (command_app n) words (arguments_of n) (values_of command) in
-      subst Stated (sym is) (values_stated (command_app name) words found (arguments_of name) (values_of command) exact has);
+      let Stated : CommandName → Type 0 = λ n. StatesValues (command_app n) words (arguments_of n) (said_by command).1 in
+      subst Stated (sym is) (values_stated (command_app name) words found (arguments_of name) (said_by command).1 exact has);
 }
 
 -- clap states one value for each argument
@@ -56,7 +56,7 @@ values_once app words (argument ∷ arguments) (value ∷ values) (value_too ∷
     ap₂ (λ (v : ℕ) (vs : List ℕ). v ∷ vs) (states_once app words argument.id value value_too states.0 other.0) (values_once app words arguments values values_too states.1 other.1)
 
 -- commands that say the same are one; those are told apart that say a number of workers or of frames, which is known by its number
-same_said : (a b : Command) → name_of a ≡ name_of b → values_of a ≡ values_of b → a ≡ b
+same_said : (a b : Command) → (said_by a).0 ≡ (said_by b).0 → (said_by a).1 ≡ (said_by b).1 → a ≡ b
 same_said (Grow workers choice) (Grow others other) named values = cc (nearest_itself workers, nearest_itself others)
 same_said (Race workers choice) (Race others other) named values = cc (nearest_itself workers, nearest_itself others)
 same_said (Report workers choice) (Report others other) named values = cc (nearest_itself workers, nearest_itself others)
@@ -72,21 +72,21 @@ same_name : (words : List Text) (a b : CommandName) → command_named words ≡ 
 same_name words a b is is_other = ap (λ (o : Option CommandName). unwrap_or o a) (sym is ∙ is_other)
 
 -- words that state the values of two commands of one name
-one_command : (words : List Text) (a b : Command) → name_of a ≡ name_of b → StatesValues (command_app (name_of a)) words (arguments_of (name_of a)) (values_of a)
-    → StatesValues (command_app (name_of b)) words (arguments_of (name_of b)) (values_of b) → a ≡ b
+one_command : (words : List Text) (a b : Command) → (said_by a).0 ≡ (said_by b).0 → StatesValues (command_app (said_by a).0) words (arguments_of (said_by a).0) (said_by a).1
+    → StatesValues (command_app (said_by b).0) words (arguments_of (said_by b).0) (said_by b).1 → a ≡ b
 one_command words a b same states other =
-    let Stated : CommandName → Type 0 = λ n. StatesValues (command_app n) words (arguments_of n) (values_of b) in
-    let values = values_once (command_app (name_of a)) words (arguments_of (name_of a)) (values_of a) (values_of b) states (subst Stated (sym same) other) in
+    let Stated : CommandName → Type 0 = λ n. StatesValues (command_app n) words (arguments_of n) (said_by b).1 in
+    let values = values_once (command_app (said_by a).0) words (arguments_of (said_by a).0) (said_by a).1 (said_by b).1 states (subst Stated (sym same) other) in
     same_said a b same values
 
 -- words call for one command
 pub call_once : (words : List Text) (a b : Command) → IsCallOf words a → IsCallOf words b → a ≡ b
-call_once words a b call other = one_command words a b (same_name words (name_of a) (name_of b) call.named other.named) call.stated other.stated
+call_once words a b call other = one_command words a b (same_name words (said_by a).0 (said_by b).0 call.named other.named) call.stated other.stated
 
 -- and are then not refused
 pub call_not_usage : (words : List Text) (command : Command) → IsCallOf words command → IsUsage words → ⊥
 call_not_usage words command call usage =
-    let same = same_name words usage.name (name_of command) usage.named call.named in
+    let same = same_name words usage.name (said_by command).0 usage.named call.named in
     usage.refused (ap (λ (n : CommandName). fault_of (command_app n) words) same ∙ call.accepted)
 
 -- words that clap promises to take are not refused
@@ -184,18 +184,18 @@ numbers_said name words values more range is =
       stated = subst (λ (app : App). StatesValues app (command_word name ∷ map decimal values) (arguments_of name) values) (sym (app_is name)) taken.stated;
     })
 
-spelled : (words : List Text) (command : Command) → Spells words command → IsSpelled (name_of command) words (values_of command)
-spelled words command is = go (may_be_left_out (arguments_of (name_of command))) refl is.1
+spelled : (words : List Text) (command : Command) → Spells words command → IsSpelled (said_by command).0 words (said_by command).1
+spelled words command is = go (may_be_left_out (arguments_of (said_by command).0)) refl is.1
   where
-    go : (b : Bool) → may_be_left_out (arguments_of (name_of command)) ≡ b → SpellsArguments b (name_of command) words (values_of command) → IsSpelled (name_of command) words (values_of command)
-    go true left said = options_said (name_of command) words (values_of command) left is.0 said
-    go false more said = numbers_said (name_of command) words (values_of command) more is.0 said
+    go : (b : Bool) → may_be_left_out (arguments_of (said_by command).0) ≡ b → SpellsArguments b (said_by command).0 words (said_by command).1 → IsSpelled (said_by command).0 words (said_by command).1
+    go true left said = options_said (said_by command).0 words (said_by command).1 left is.0 said
+    go false more said = numbers_said (said_by command).0 words (said_by command).1 more is.0 said
 
-pub spelled_taken : (words : List Text) (command : Command) → Spells words command → IsTaken words (name_of command)
+pub spelled_taken : (words : List Text) (command : Command) → Spells words command → IsTaken words (said_by command).0
 spelled_taken words command is = (spelled words command is).taken
 
 -- they call for no other command
 pub call_spelled : (words : List Text) (called spelled : Command) → IsCallOf words called → Spells words spelled → called ≡ spelled
 call_spelled words called other call is =
-    let same = same_name words (name_of called) (name_of other) call.named (spelled_taken words other is).named in
+    let same = same_name words (said_by called).0 (said_by other).0 call.named (spelled_taken words other is).named in
     one_command words called other same call.stated (spelled words other is).stated

@@ -18,10 +18,11 @@ use Rattle.clap.specs.declared.builder.command.Command.TheViews.{out-Command}
 use Rattle.clap.specs.declared.builder.value_parser.ValueParser.TheVariants.{Unsigned}
 use Rattle.clap.specs.declared.parser.matches.ArgMatches.{ArgMatches}
 use Rattle.clap.proofs.WalkLemmas.{both, one_text-rows}
-use Rattle.command_line.specs.Numbers.{NumberArgument, States, defaults_of, number_of_text, number_rule}
+use Rattle.command_line.specs.Numbers.{NumberArgument, States, number_of_text, number_rule}
 use Rattle.command_line.specs.Inner.Found.{FindsInRange, FindsNumber, FindsText, IsExact}
 use Rattle.command_line.proofs.SimpleLemmas.{no_globals, plain_command, rule_at, set_option, wants_default}
 use Rattle.command_line.proofs.FoundLemmas.{IsSetOption, default_found, required_found}
+use Rattle.std.specs.Option.{option_to_list}
 
 -- of the rules, only the one at a place may have the id
 abbrev pub only_at : List Rule → ℕ → Text → Bool
@@ -121,7 +122,7 @@ module _ (c : Command) (m : ArgMatches) (app : App) (is : app_of c ≡ app) (par
       text_there : (d : Arg) (default : Option Text) → argument.default ≡ default
           → FindsText (found_of m) (slice_index_or (args_of c) place d).id.now (slice_index_or (args_of c) place d).ignore_case (Unsigned argument.least argument.most)
       text_there d (Some digits) given = default_found c m parsed (plain_command c simple free) (no_globals c simple) place d (Unsigned argument.least argument.most) (takes_one d)
-          (wants_default c place d (number_rule argument) under simple (here d) (subst (λ (o : Option Text). 0 < length (defaults_of o)) (sym given) (omega arith)))
+          (wants_default c place d (number_rule argument) under simple (here d) (subst (λ (o : Option Text). 0 < length (option_to_list o)) (sym given) (omega arith)))
       text_there d None none = required_found c m parsed (plain_command c simple free) (no_globals c simple) place d (Unsigned argument.least argument.most) (takes_one d)
           negates (ap (λ (rule : Rule). rule.required) (here d) ∙ ap (λ (o : Option Text). not (is_some o)) none)
 

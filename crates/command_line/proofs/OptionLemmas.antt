@@ -1,7 +1,7 @@
 -- Lists of words that give options their numbers, which clap takes.
 use Rattle.std.proofs.Common.{◌≡◌, ◌⊎◌, ◌∙◌, ◌&&◌, ◌||◌, ◌==◌, ◌++◌, inl, inr, ◌<◌, ◌≤◌, ◌^◌, ℕ, Bool, true, false, true≢false, List, [], ◌∷◌, Option, Some, None, is_some, not, map, fold, refl, ap, ap₂, sym, subst, arith, cond}
 use Rattle.std.specs.Prelude.{decimal, find, flat_map, if◌then◌else◌, nat_lt, option_and_then, option_map, unwrap_or}
-use Rattle.std.specs.Option.{option_or}
+use Rattle.std.specs.Option.{option_or, option_to_list}
 use Rattle.std.specs.List.{before_first, list_all, list_any}
 use Rattle.std.specs.Str.{bytes_eq}
 use Rattle.std.proofs.Math.Bool.{or-false}
@@ -21,7 +21,7 @@ use Rattle.clap.specs.declared.parser.matches.ValueSource.TheVariants.{DefaultVa
 use Rattle.clap.proofs.TakesLemmas.{leaf_takes}
 use Rattle.clap.proofs.WalkLemmas.{both, find-map}
 use Rattle.command_line.specs.Commands.{plain_app}
-use Rattle.command_line.specs.Numbers.{AreInRange, GivesOptions, IsDefault, NumberArgument, States, StatesValues, defaults_of, may_be_left_out, number_rule, option_words}
+use Rattle.command_line.specs.Numbers.{AreInRange, GivesOptions, IsDefault, NumberArgument, States, StatesValues, may_be_left_out, number_rule, option_words}
 use Rattle.command_line.proofs.TakenLemmas.{after, decimal_text, none_left, pass_more, value_passes, value_walked, waits}
 
 -- ---- the rules of options
@@ -40,7 +40,7 @@ number_entry argument long index defaults required = record (new_rule argument.i
 
 -- an option
 abbrev pub option_rule : NumberArgument → Rule
-option_rule argument = number_entry argument (Some argument.id) None (defaults_of argument.default) false
+option_rule argument = number_entry argument (Some argument.id) None (option_to_list argument.default) false
 
 one_filled : (argument : NumberArgument) (i : ℕ) → is_some argument.default ≡ true
     → (with_index i (filled (number_rule argument)) ≡ option_rule argument) × (index_after i (number_rule argument) ≡ i)
@@ -69,7 +69,7 @@ is_word id = not (is_empty id) && (not (has_byte 61 id) && bytes_eq (before_firs
 
 -- the number of an option may be given, and left out
 abbrev pub is_plain_option : NumberArgument → Bool
-is_plain_option argument = is_word argument.id && (nat_lt argument.most (2 ^ 64) && list_all (accepts false (Unsigned argument.least argument.most)) (defaults_of argument.default))
+is_plain_option argument = is_word argument.id && (nat_lt argument.most (2 ^ 64) && list_all (accepts false (Unsigned argument.least argument.most)) (option_to_list argument.default))
 
 -- and no two options have the same id
 abbrev pub are_plain_options : List NumberArgument → Bool
@@ -229,7 +229,7 @@ module _ (arguments : List NumberArgument) (top : Shape) (same : top.rules ≡ m
 
   told_held : IsHeld rules told (rows ++ given_row given ∷ [])
   told_held =
-      number_held rules given (Some given.0.id) None (defaults_of given.0.default) false (rule_by_id arguments given.0 fine.found) fine.above fine.below fine.fits held rows is new
+      number_held rules given (Some given.0.id) None (option_to_list given.0.default) false (rule_by_id arguments given.0 fine.found) fine.above fine.below fine.fits held rows is new
 
   -- the walk over the words after it
   told_further : (rest : List Text) → walk_passes top [] (after told) rest ≡ true → walk_passes top [] (after held) ((45 ∷ 45 ∷ given.0.id) ∷ text ∷ rest) ≡ true
@@ -298,7 +298,7 @@ options_pass [] plain = refl
 options_pass (argument ∷ arguments) plain =
     let p = both (is_plain_option argument) _ plain in
     let q = both _ _ (both (is_word argument.id) _ p.0).1 in
-    let here : default_passes (option_rule argument) ≡ true = ap (λ (b : Bool). is_empty (defaults_of argument.default) || b) q.1 ∙ or_true (is_empty (defaults_of argument.default)) in
+    let here : default_passes (option_rule argument) ≡ true = ap (λ (b : Bool). is_empty (option_to_list argument.default) || b) q.1 ∙ or_true (is_empty (option_to_list argument.default)) in
     ap₂ (λ (a b : Bool). a && b) here (options_pass arguments (both _ _ p.1).1)
 
 options_free : (arguments : List NumberArgument) → list_all (λ rule. rule.is_free) (map option_rule arguments) ≡ true

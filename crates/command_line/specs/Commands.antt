@@ -58,10 +58,6 @@ row_of name.Verify = (codes "verify", workers_option ∷ [])
 row_of name.Counter = (codes "counter", bits_argument ∷ start_argument ∷ [])
 row_of name.Load = (codes "load", load_argument ∷ [])
 
--- all commands
-abbrev pub command_names : List CommandName
-command_names = name.Grow ∷ name.Race ∷ name.Report ∷ name.Watch ∷ name.Batch ∷ name.Check ∷ name.Replay ∷ name.Schedule ∷ name.Format ∷ name.Upgrade ∷ name.Turing ∷ name.Quadrant ∷ name.Picture ∷ name.Certify ∷ name.Verify ∷ name.Counter ∷ name.Load ∷ []
-
 -- what a command says: its name, and the values of its arguments, in their order
 abbrev pub said_by : Command → CommandName × List ℕ
 said_by (Grow workers choice) = (name.Grow, workers.count ∷ choice ∷ [])
@@ -90,24 +86,15 @@ command_word name = (row_of name).0
 abbrev pub arguments_of : CommandName → List NumberArgument
 arguments_of name = (row_of name).1
 
--- the name of a command
-abbrev pub name_of : Command → CommandName
-name_of command = (said_by command).0
-
--- the values of its arguments, in their order
-abbrev pub values_of : Command → List ℕ
-values_of command = (said_by command).1
-
 -- ---- what words call for
-
--- the command that a word names
-abbrev pub command_named_by : Text → Option CommandName
-command_named_by word = find (λ name. bytes_eq (command_word name) word) command_names
 
 -- the command that the first word names
 abbrev pub command_named : List Text → Option CommandName
 command_named [] = None
-command_named (word ∷ words) = command_named_by word
+command_named (word ∷ words) = find (λ name. bytes_eq (command_word name) word)
+    (name.Grow ∷ name.Race ∷ name.Report ∷ name.Watch ∷ name.Batch ∷ name.Check ∷ name.Replay
+    ∷ name.Schedule ∷ name.Format ∷ name.Upgrade ∷ name.Turing ∷ name.Quadrant ∷ name.Picture
+    ∷ name.Certify ∷ name.Verify ∷ name.Counter ∷ name.Load ∷ [])
 
 -- a command without arguments, as clap reads it: clap's help flag is off, and there is no version flag
 abbrev pub plain_app : Text → App
@@ -119,9 +106,10 @@ command_app name = fold (λ app argument. with_rule app (number_rule argument)) 
 
 -- the first word names the command, clap finds no fault in the list, and states the values of the arguments
 pub record IsCallOf (words : List Text) (command : Command) : Type 0 where
-  pub named : command_named words ≡ Some (name_of command)
-  pub accepted : fault_of (command_app (name_of command)) words ≡ []
-  pub stated : StatesValues (command_app (name_of command)) words (arguments_of (name_of command)) (values_of command)
+  pub named : command_named words ≡ Some (said_by command).0
+  pub accepted : fault_of (command_app (said_by command).0) words ≡ []
+  pub stated : StatesValues (command_app (said_by command).0) words
+      (arguments_of (said_by command).0) (said_by command).1
 
 -- the first word names the command, and clap promises to take the list
 pub record IsTaken (words : List Text) (name : CommandName) : Type 0 where
@@ -156,8 +144,9 @@ SpellsArguments false = SpellsNumbers
 
 -- the plainest words for a command
 abbrev pub Spells : List Text → Command → Type 0
-Spells words command = AreInRange (arguments_of (name_of command)) (values_of command)
-    × SpellsArguments (may_be_left_out (arguments_of (name_of command))) (name_of command) words (values_of command)
+Spells words command = AreInRange (arguments_of (said_by command).0) (said_by command).1
+    × SpellsArguments (may_be_left_out (arguments_of (said_by command).0)) (said_by command).0 words
+    (said_by command).1
 
 -- ---- refusals
 

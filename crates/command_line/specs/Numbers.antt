@@ -1,10 +1,11 @@
 -- Arguments that take a number, and what clap states for them.
-use Rattle.std.specs.Prelude.{◌≡◌, ◌⊎◌, ◌≤◌, ◌++◌, ℕ, List, [], ◌∷◌, Bool, Option, Some, None, codes, decimal, is_some, not, option_map}
+use Rattle.std.specs.Prelude.{◌≡◌, ◌⊎◌, ◌≤◌, ◌++◌, ℕ, List, [], ◌∷◌, Bool, Option, Some, codes, decimal, is_some, not, option_map}
 use Rattle.std.specs.List.{list_all}
 use Rattle.std.specs.Str.Parse.{digits_value, without_leading_plus}
 use Rattle.clap.specs.Words.{App, Rule, Text, matches_of, new_rule, one_of}
 use Rattle.clap.specs.declared.builder.action.ArgAction.TheVariants.{Set}
 use Rattle.clap.specs.declared.builder.value_parser.ValueParser.TheVariants.{Unsigned}
+use Rattle.std.specs.Option.{option_to_list}
 
 -- an argument that takes a number: an option `--id N`, with the digits that stand for it where it is left out, or, where there are none, a word of its own, which is required; and the range of its numbers
 pub record NumberArgument : Type 0 where
@@ -44,18 +45,13 @@ GivesOptions (argument ∷ arguments) (number ∷ numbers) given = (IsDefault ar
 abbrev pub option_words : NumberArgument × ℕ → List Text
 option_words given = (codes "--" ++ given.0.id) ∷ decimal given.1 ∷ []
 
--- a default, as clap keeps it
-abbrev pub defaults_of : Option Text → List Text
-defaults_of None = []
-defaults_of (Some digits) = digits ∷ []
-
 -- the argument, as clap reads it
 abbrev pub number_rule : NumberArgument → Rule
 number_rule argument = record (new_rule argument.id) {
   long = option_map (λ digits. argument.id) argument.default;
   action = Some Set;
   parser = Some (Unsigned argument.least argument.most);
-  defaults = defaults_of argument.default;
+  defaults = option_to_list argument.default;
   required = not (is_some argument.default);
 }
 

@@ -1,7 +1,7 @@
 // The table of commands: their words, their arguments, and what a parse makes of them.
-ghost use Rattle.std.specs.Prelude.{◌≡◌, ◌^◌, ◌-◌, false, codes, IfOk};
+ghost use Rattle.std.specs.Prelude.{◌≡◌, ◌^◌, ◌-◌, false, codes, IfOk, ◌∷◌, []};
 ghost use Rattle.clap.specs.Words.{app_of, found_of, rule_of};
-ghost use Rattle.command_line.specs.Commands.{arguments_of, bits_argument, choice_option, command_app, command_named_by, command_word, frames_option, load_argument, name_of, plain_app, start_argument, values_of, workers_option};
+ghost use Rattle.command_line.specs.Commands.{arguments_of, bits_argument, choice_option, command_app, command_named, command_word, frames_option, load_argument, plain_app, start_argument, workers_option, said_by};
 ghost use Rattle.command_line.specs.Numbers.{AreInRange, number_rule};
 ghost use Rattle.command_line.specs.Inner.Found.{FindsInRange, FindsNumber, FindsNumbers, HasValues};
 
@@ -149,7 +149,7 @@ impl CommandName {
 
 // The command that a word names.
 pub fn command_named_by(word: &str) -> Option<CommandName>
-    ensures { result ≡ command_named_by word.now }
+    ensures { result ≡ command_named (word.now ∷ []) }
 {
     NAMES.iter().copied().find(|name| name.word() == word)
 }
@@ -184,9 +184,9 @@ pub fn clap_command<'a>(alloc: Global, name: CommandName) -> Result<clap::Comman
 // The command of a name, with the values that a parse found for its arguments.
 pub fn command_found(name: CommandName, found: &ArgMatches) -> Command
     requires { FindsNumbers (arguments_of name) (found_of found.now) }
-    ensures name { name_of result ≡ name }
-    ensures values { HasValues (arguments_of name) (values_of result) (found_of found.now) }
-    ensures range { AreInRange (arguments_of name) (values_of result) }
+    ensures name { (said_by result).0 ≡ name }
+    ensures values { HasValues (arguments_of name) (said_by result).1 (found_of found.now) }
+    ensures range { AreInRange (arguments_of name) (said_by result).1 }
 {
     match name {
         CommandName::Grow => Command::Grow {

@@ -4,7 +4,7 @@ ghost use Rattle.clap.specs.Words.{Text, fault_of};
 ghost use Rattle.command_line.specs.declared.commands.Command.{Command};
 ghost use Rattle.command_line.specs.declared.commands.CommandName.{CommandName};
 ghost use Rattle.command_line.specs.Numbers.{may_be_left_out};
-ghost use Rattle.command_line.specs.Commands.{IsCallOf, IsTaken, IsUsage, Spells, arguments_of, command_word, name_of, plain_app};
+ghost use Rattle.command_line.specs.Commands.{IsCallOf, IsTaken, IsUsage, Spells, arguments_of, command_word, plain_app, said_by};
 
 /// The same words call for one command at most, and not where they are refused.
 pub fn law_one_reading()
@@ -23,7 +23,7 @@ pub fn law_plain_words()
     ensures wanting { (name : CommandName) →
         may_be_left_out (arguments_of name) ≡ false → IsUsage (command_word name ∷ []) }
     ensures taken { (words : List Text) (command : Command) →
-        Spells words command → IsTaken words (name_of command) }
+        Spells words command → IsTaken words (said_by command).0 }
     ensures spelled { (words : List Text) (a b : Command) →
         IsCallOf words a → Spells words b → a ≡ b }
 {}

@@ -1,6 +1,6 @@
 // From a list of words to a command.
 ghost use Rattle.std.specs.Prelude.{◌≡◌, ◌≢◌, ◌↔◌, Ok, Err, None, Some, map, string_bytes, IfOk};
-ghost use Rattle.command_line.specs.Commands.{IsCallOf, IsUsage, IsTakenUnlessMemory, command_named, name_of, arguments_of, values_of};
+ghost use Rattle.command_line.specs.Commands.{IsCallOf, IsUsage, IsTakenUnlessMemory, command_named, arguments_of, said_by};
 ghost use Rattle.command_line.specs.Numbers.{AreInRange};
 
 use crate::commands::{Command, CommandName, command_found, command_named_by};
@@ -14,7 +14,7 @@ use std::alloc::Global;
 pub fn command_of(alloc: Global, words: &[String]) -> Result<Command, WordsStop>
     ensures called { IfOk result (IsCallOf (map string_bytes words.now)) }
     ensures range { IfOk result (λ command.
-        AreInRange (arguments_of (name_of command)) (values_of command)) }
+        AreInRange (arguments_of (said_by command).0) (said_by command).1) }
     ensures no_command { (result ≡ Err WordsStop.NoCommand)
         ↔ (command_named (map string_bytes words.now) ≡ None) }
     ensures usage { result ≡ Err WordsStop.Usage → IsUsage (map string_bytes words.now) }
@@ -43,7 +43,7 @@ fn read_words(alloc: Global, name: CommandName, words: &[String]) -> Result<Comm
     requires { command_named (map string_bytes words.now) ≡ Some name }
     ensures called { IfOk result (IsCallOf (map string_bytes words.now)) }
     ensures range { IfOk result (λ command.
-        AreInRange (arguments_of (name_of command)) (values_of command)) }
+        AreInRange (arguments_of (said_by command).0) (said_by command).1) }
     ensures named { result ≢ Err WordsStop.NoCommand }
     ensures usage { result ≡ Err WordsStop.Usage → IsUsage (map string_bytes words.now) }
     ensures taken { IsTakenUnlessMemory (map string_bytes words.now) result }
