@@ -1,7 +1,7 @@
 // The line of a report.
-ghost use Rattle.std.specs.Prelude.{◌≡◌, IfOk, string_bytes};
+ghost use Rattle.std.specs.Prelude.{◌≡◌, IfOk, codes, string_bytes, if◌then◌else◌};
 ghost use Rattle.serde_json.specs.View.{items_of, items_view, view};
-ghost use Rattle.report.specs.Reports.{closed_word, report_line, verdict_word};
+ghost use Rattle.report.specs.Reports.{report_line};
 ghost use Rattle.report.specs.Inner.Values.{number_data, report_data};
 
 use serde_json::{Value, json};
@@ -70,13 +70,13 @@ fn numbers(alloc: Global, won: &[u32]) -> Result<Vec<Value>, AllocError>
 }
 
 fn closed_word(clipped: bool) -> &'static str
-    ensures { result.now ≡ closed_word clipped }
+    ensures { result.now ≡ (if clipped then codes "clipped" else codes "terminal") }
 {
     if clipped { "clipped" } else { "terminal" }
 }
 
 fn verdict_word(unique: bool) -> &'static str
-    ensures { result.now ≡ verdict_word unique }
+    ensures { result.now ≡ (if unique then codes "yes" else codes "no") }
 {
     if unique { "yes" } else { "no" }
 }

@@ -1,10 +1,9 @@
 -- A report as a value of JSON.
-use Rattle.std.specs.Prelude.{ℕ, Bool, List, length, codes, map}
+use Rattle.std.specs.Prelude.{ℕ, Bool, List, length, codes, map, if◌then◌else◌}
 use Rattle.serde_json.specs.Data.{Data, string, number, unsigned, array, object, member, no_members}
 use Rattle.serde_json.specs.View.{items_of}
 use Rattle.atam.specs.Sites.{height_of, width_of}
 use Rattle.atam.specs.TileSystem.{TileSystem}
-use Rattle.report.specs.Reports.{closed_word, verdict_word}
 
 abbrev pub number_data : List ℕ → List Data
 number_data = map (λ n. number (unsigned n))
@@ -25,4 +24,6 @@ object_data closed glues height tau tiles types unique width won =
 
 abbrev pub report_data : TileSystem → ℕ → List ℕ → Bool → Bool → Data
 report_data sys tiles won clipped unique =
-    object_data (closed_word clipped) (length sys.glues) (height_of sys.area) sys.tau tiles (length sys.types) (verdict_word unique) (width_of sys.area) won
+    object_data (if clipped then codes "clipped" else codes "terminal") (length sys.glues)
+    (height_of sys.area) sys.tau tiles (length sys.types)
+    (if unique then codes "yes" else codes "no") (width_of sys.area) won
