@@ -9,7 +9,7 @@ use Rattle.atam.specs.declared.site.Site.{Site}
 use Rattle.atam.specs.declared.area.BoxArea.{BoxArea}
 use Rattle.atam.specs.Sites.{width_of, height_of, site_in}
 use Rattle.assembly.specs.Grids.{TileGrid}
-use Rattle.picture.specs.Pictures.{site_character, sites_text, row_line}
+use Rattle.picture.specs.Pictures.{site_character, row_line}
 
 -- the character of one site
 abbrev pub cell_text : TileGrid → ℕ → ℕ → List ℕ
@@ -29,7 +29,7 @@ singles : (f : ℕ → ℕ) (xs : List ℕ) → flat_map (λ x. f x ∷ []) xs �
 singles f [] = refl
 singles f (x ∷ xs) = ap (λ l. f x ∷ l) (singles f xs)
 
-pub cells_are_sites : (grid : TileGrid) (row : ℕ) → flat_map (cell_text grid row) (columns grid) ≡ sites_text grid row
+pub cells_are_sites : (grid : TileGrid) (row : ℕ) → flat_map (cell_text grid row) (columns grid) ≡ map (λ column. site_character grid.tiles (site_in grid.area column row)) (range_with_len 0 (width_of grid.area))
 cells_are_sites grid row = singles (λ column. site_character grid.tiles (site_in grid.area column row)) (columns grid)
 
 -- in a copy of the grid's box, of so many columns or rows

@@ -40,15 +40,12 @@ abbrev pub legend : TileSystem → List Place → List ℕ
 legend sys tiles = flat_map (λ t. legend_line sys (record { 0 = t })) (filter (is_standing tiles) (range_with_len 0 62))
 
 -- the sites of a row from the west
-abbrev pub sites_text : TileGrid → ℕ → List ℕ
-sites_text grid row = map (λ column. site_character grid.tiles (site_in grid.area column row)) (range_with_len 0 (width_of grid.area))
-
 abbrev pub row_line : TileGrid → ℕ → List ℕ
-row_line grid row = sites_text grid row ++ 10 ∷ []
+row_line grid row =
+    map (λ column. site_character grid.tiles (site_in grid.area column row))
+    (range_with_len 0 (width_of grid.area)) ++ 10 ∷ []
 
 -- the highest row first
-abbrev pub rows_text : TileGrid → List ℕ
-rows_text grid = flat_map (row_line grid) (reverse (range_with_len 0 (height_of grid.area)))
-
 abbrev pub picture_text : TileSystem → TileGrid → List ℕ
-picture_text sys grid = head_line grid.area ++ (legend sys grid.tiles ++ rows_text grid)
+picture_text sys grid = head_line grid.area ++ (legend sys grid.tiles
+    ++ flat_map (row_line grid) (reverse (range_with_len 0 (height_of grid.area))))

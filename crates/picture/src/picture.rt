@@ -1,10 +1,11 @@
 // A grid is printed as its picture.
-ghost use Rattle.std.specs.Prelude.{◌<◌, All};
-ghost use Rattle.atam.specs.Sites.{HasCorners, height_of};
+ghost use Rattle.std.specs.Prelude.{◌<◌, All, flat_map, reverse, map};
+ghost use Rattle.atam.specs.Sites.{HasCorners, height_of, width_of, site_in};
 ghost use Rattle.atam.specs.TileSystem.{IsType};
 ghost use Rattle.tile_io.specs.Chunks.{PassesOn};
 ghost use Rattle.tile_io.specs.Prints.{Prints};
-ghost use Rattle.picture.specs.Pictures.{head_line, picture_text, row_line, rows_text, sites_text};
+ghost use Rattle.picture.specs.Pictures.{head_line, picture_text, row_line, site_character};
+ghost use Rattle.std.specs.List.{range_with_len};
 
 use crate::characters::site_character;
 use crate::legend::put_legend;
@@ -56,7 +57,7 @@ fn put_head<K: Sink>(area: BoxArea, chunk: &mut Chunk, sink: &mut K) -> Result<(
 // Adds the rows, from the highest on.
 fn put_rows<K: Sink>(grid: &Grid, chunk: &mut Chunk, sink: &mut K) -> Result<(), Failed>
     ensures { PassesOn K.written K.faults sink.old sink.new chunk.old chunk.new result
-        (rows_text grid.now) }
+        (flat_map (row_line grid.now) (reverse (range_with_len 0 (height_of grid.now.area)))) }
 {
     let height = grid.area().height();
     for index in 0..height {
@@ -79,7 +80,8 @@ fn put_row<K: Sink>(grid: &Grid, row: u32, chunk: &mut Chunk, sink: &mut K) -> R
 fn put_sites<K: Sink>(grid: &Grid, row: u32, chunk: &mut Chunk, sink: &mut K) -> Result<(), Failed>
     requires { row < height_of grid.now.area }
     ensures { PassesOn K.written K.faults sink.old sink.new chunk.old chunk.new result
-        (sites_text grid.now row) }
+        (map (λ column. site_character grid.now.tiles (site_in grid.now.area column row))
+        (range_with_len 0 (width_of grid.now.area))) }
 {
     let area = grid.area();
     for column in 0..area.width() {
