@@ -28,7 +28,7 @@ use Rattle.job_board.specs.declared.position.Position.TheVariants.{AtStart, Behi
 use Rattle.job_board.specs.declared.position.BatchItem.{BatchItem}
 use Rattle.job_board.specs.declared.position.BatchItem.TheVariants.{Header, JobLine}
 use Rattle.job_board.specs.BatchLines.{ReadsLine, batch_format, batch_table, row_at}
-use Rattle.job_board.specs.BatchText.{BeginsBatch, FailsInSystem, FailsNext, FaultBatch, HasSystemFault, HasTooManySites, IsFaultyBatch, IsReadBatch, LacksSystem, ReadsBatch, ReadsJob, ReadsJobs, sites_of}
+use Rattle.job_board.specs.BatchText.{BeginsBatch, FailsNext, FaultBatch, IsFaultyBatch, IsReadBatch, ReadsBatch, ReadsJob, ReadsJobs, sites_of, FailsSystem}
 use Rattle.job_board.specs.Inner.FoundLines.{IsFoundAt}
 use Rattle.job_board.specs.Inner.Reading.{FindsEnd}
 use Rattle.job_board.proofs.Reading.{ReadsJobs-more, batch_ends, batch_fails, no_header, sites_more, something_more}
@@ -133,12 +133,12 @@ one_batch text from jobs others batch other =
 -- behind all jobs of a batch
 none_at_end : (text : List ℕ) (at : Mark) (jobs : List Job) (number : ℕ) (cause : Cause) → FindsEnd text at jobs → FailsNext text at jobs number cause → ⊥
 none_at_end text at jobs number cause ends (inl fault) = not_both _ text at _ ends.end number cause ends.ends fault
-none_at_end text at jobs number cause ends (inr (inl lacks)) =
-    let none = ap (λ (l : List Job). length l) lacks.none in
+none_at_end text at jobs number cause ends (inr (inl (end, at_end, empty, number_is, cause_is))) =
+    let none = ap (λ (l : List Job). length l) empty in
     let some = ends.some in
     absurd (omega (arith, some, none))
-none_at_end text at jobs number cause ends (inr (inr fails)) =
-    let line = reads_once _ text at _ _ fails.behind ends.end fails.line ends.ends in
+none_at_end text at jobs number cause ends (inr (inr (choice, behind, job_line, fails))) =
+    let line = reads_once _ text at _ _ behind ends.end job_line ends.ends in
     absurd (cc line.0)
 
 -- the sites of a list of jobs and of one behind it
@@ -151,18 +151,17 @@ sites_within jobs rest job few =
 
 -- in a job's system
 none_in_system : (text : List ℕ) (at next : Mark) (jobs rest : List Job) (job : Job) (number : ℕ) (cause : Cause) → sites_of (jobs ++ job ∷ rest) ≤ MOST_SITES → ReadsJob text at (length jobs) job next →
-    FailsInSystem text at jobs number cause → ⊥
-none_in_system text at next jobs rest job number cause few reads fails =
-    let line = reads_once _ text at _ _ reads.behind fails.behind reads.line fails.line in
-    let here : ReadsAny text fails.behind job.sys next = subst (λ (mark : Mark). ReadsAny text mark job.sys next) line.1 reads.system in
-    elim fails.fails [
-      | inl lacks ↦ no_system text fails.behind next job.sys (lacks.end, lacks.none) here
-      | inr (inl fault) ↦ any_not_both text fails.behind next job.sys number cause here fault.fault
-      | inr (inr sites) ↦
-          let same = (any_one_system text fails.behind next sites.to job.sys sites.sys here sites.reads).0 in
+    (choice : ℕ) (behind : Mark) → ReadsLine (Behind (length jobs)) text at (Some (JobLine choice)) behind → FailsSystem text behind jobs number cause → ⊥
+none_in_system text at next jobs rest job number cause few reads choice behind job_line fails =
+    let line = reads_once _ text at _ _ reads.behind behind reads.line job_line in
+    let here : ReadsAny text behind job.sys next = subst (λ (mark : Mark). ReadsAny text mark job.sys next) line.1 reads.system in
+    elim fails [
+      | inl (end, none, number_is, cause_is) ↦ no_system text behind next job.sys (end, none) here
+      | inr (inl (some, fault)) ↦ any_not_both text behind next job.sys number cause here fault
+      | inr (inr (sys, to, system, many, number_is, cause_is)) ↦
+          let same = (any_one_system text behind next to job.sys sys here system).0 in
           let cells = ap (λ (s : TileSystem). cell_count s.area) same in
           let fits = sites_within jobs rest job few in
-          let many = sites.many in
           absurd (omega (arith, cells, fits, many))
     ]
 
@@ -171,10 +170,11 @@ none_before : (text : List ℕ) (at next : Mark) (jobs rest : List Job) (job : J
     FailsNext text at jobs number cause → ⊥
 none_before text at next jobs rest job number cause few reads (inl fault) =
     not_both _ text at _ reads.behind number cause reads.line fault
-none_before text at next jobs rest job number cause few reads (inr (inl lacks)) =
-    let line = reads_once _ text at _ _ reads.behind lacks.end reads.line lacks.ends in
+none_before text at next jobs rest job number cause few reads (inr (inl (end, at_end, empty, number_is, cause_is))) =
+    let line = reads_once _ text at _ _ reads.behind end reads.line at_end in
     absurd (cc line.0)
-none_before text at next jobs rest job number cause few reads (inr (inr fails)) = none_in_system text at next jobs rest job number cause few reads fails
+none_before text at next jobs rest job number cause few reads (inr (inr (choice, behind, line, fails))) =
+    none_in_system text at next jobs rest job number cause few reads choice behind line fails
 
 -- where a batch goes on, or ends
 none_within : (text : List ℕ) (from at : Mark) (jobs others more : List Job) (number : ℕ) (cause : Cause) (batch : ReadsBatch text from jobs) → jobs ≡ others ++ more →
@@ -192,20 +192,20 @@ none_within text from at jobs others (job ∷ rest) number cause batch whole (ne
 -- a batch has no fault
 pub batch_not_both : (text : List ℕ) (from : Mark) (jobs : List Job) (number : ℕ) (cause : Cause) → ReadsBatch text from jobs → FaultBatch text from number cause → ⊥
 batch_not_both text from jobs number cause batch (inl fault) = not_both _ text from _ batch.begins.start number cause batch.begins.header fault
-batch_not_both text from jobs number cause batch (inr behind) =
-    let start = (reads_once _ text from _ _ batch.begins.start behind.begins.start batch.begins.header behind.begins.header).1 in
-    let others : ReadsJobs text batch.begins.start 0 behind.jobs behind.at = subst (λ (mark : Mark). ReadsJobs text mark 0 behind.jobs behind.at) (sym start) behind.begins.each in
-    elim (compare text batch.begins.start batch.last behind.at 0 jobs behind.jobs batch.begins.each others) [
-      | inl goes ↦ none_within text from behind.at jobs behind.jobs goes.more number cause batch goes.whole goes.reads behind.fails
+batch_not_both text from jobs number cause batch (inr (before, at, begins, fails)) =
+    let start = (reads_once _ text from _ _ batch.begins.start begins.start batch.begins.header begins.header).1 in
+    let others : ReadsJobs text batch.begins.start 0 before at = subst (λ (mark : Mark). ReadsJobs text mark 0 before at) (sym start) begins.each in
+    elim (compare text batch.begins.start batch.last at 0 jobs before batch.begins.each others) [
+      | inl goes ↦ none_within text from at jobs before goes.more number cause batch goes.whole goes.reads fails
       | inr goes ↦
           let ends = batch_end text from jobs batch in
-          let none = none_behind text batch.last behind.at jobs goes.more goes.reads ends in
-          let same : behind.jobs ≡ jobs = goes.whole ∙ ap (λ (l : List Job). jobs ++ l) none ∙ append-nil jobs in
-          let here : behind.at ≡ batch.last = subst (λ (l : List Job). ReadsJobs text batch.last (0 + length jobs) l behind.at) none goes.reads in
-          let there : FindsEnd text behind.at behind.jobs =
-          subst (λ (mark : Mark). FindsEnd text mark behind.jobs) (sym here) (subst (λ (l : List Job). FindsEnd text batch.last l) (sym same) ends)
+          let none = none_behind text batch.last at jobs goes.more goes.reads ends in
+          let same : before ≡ jobs = goes.whole ∙ ap (λ (l : List Job). jobs ++ l) none ∙ append-nil jobs in
+          let here : at ≡ batch.last = subst (λ (l : List Job). ReadsJobs text batch.last (0 + length jobs) l at) none goes.reads in
+          let there : FindsEnd text at before =
+          subst (λ (mark : Mark). FindsEnd text mark before) (sym here) (subst (λ (l : List Job). FindsEnd text batch.last l) (sym same) ends)
           in
-          none_at_end text behind.at behind.jobs number cause there behind.fails
+          none_at_end text at before number cause there fails
     ]
 
 -- ---- one fault
@@ -214,44 +214,40 @@ abbrev SameFault : ℕ → ℕ → Cause → Cause → Type 0
 SameFault m n a b = (m ≡ n) × (a ≡ b)
 
 -- behind a job's line
-one_in_system : (text : List ℕ) (at : Mark) (jobs : List Job) (m n : ℕ) (a b : Cause) →
-    LacksSystem text at m a ⊎ HasSystemFault text at m a ⊎ HasTooManySites text at jobs m a → LacksSystem text at n b ⊎ HasSystemFault text at n b ⊎ HasTooManySites text at jobs n b → SameFault m n a b
-one_in_system text at jobs m n a b (inl lacks) (inl other) =
-    let end = (reads_once nothing_more text at _ _ lacks.end other.end lacks.none other.none).1 in
-    (lacks.number_is ∙ ap (λ (mark : Mark). mark.line) end ∙ sym other.number_is, lacks.cause_is ∙ sym other.cause_is)
-one_in_system text at jobs m n a b (inl lacks) (inr (inl fault)) = absurd (fault.some (lacks.end, lacks.none))
-one_in_system text at jobs m n a b (inl lacks) (inr (inr sites)) = absurd (no_system text at sites.to sites.sys (lacks.end, lacks.none) sites.reads)
-one_in_system text at jobs m n a b (inr (inl fault)) (inl lacks) = absurd (fault.some (lacks.end, lacks.none))
-one_in_system text at jobs m n a b (inr (inl fault)) (inr (inl other)) = any_one_fault text at m n a b fault.fault other.fault
-one_in_system text at jobs m n a b (inr (inl fault)) (inr (inr sites)) = absurd (any_not_both text at sites.to sites.sys m a sites.reads fault.fault)
-one_in_system text at jobs m n a b (inr (inr sites)) (inl lacks) = absurd (no_system text at sites.to sites.sys (lacks.end, lacks.none) sites.reads)
-one_in_system text at jobs m n a b (inr (inr sites)) (inr (inl fault)) = absurd (any_not_both text at sites.to sites.sys n b sites.reads fault.fault)
-one_in_system text at jobs m n a b (inr (inr sites)) (inr (inr other)) =
-    let end = ap (λ (mark : Mark). mark.line) (any_one_system text at sites.to other.to sites.sys other.sys sites.reads other.reads).1 in
-    let here = sites.number_is in
-    let there = other.number_is in
-    (omega (arith, end, here, there), sites.cause_is ∙ sym other.cause_is)
+one_in_system : (text : List ℕ) (at : Mark) (jobs : List Job) (m n : ℕ) (a b : Cause) → FailsSystem text at jobs m a → FailsSystem text at jobs n b → SameFault m n a b
+one_in_system text at jobs m n a b (inl (here, none, number_is, cause_is)) (inl (there, none_too, number_is_too, cause_is_too)) =
+    let end = (reads_once nothing_more text at _ _ here there none none_too).1 in
+    (number_is ∙ ap (λ (mark : Mark). mark.line) end ∙ sym number_is_too, cause_is ∙ sym cause_is_too)
+one_in_system text at jobs m n a b (inl (end, none, number_is, cause_is)) (inr (inl (some, fault))) = absurd (some (end, none))
+one_in_system text at jobs m n a b (inl (end, none, number_is, cause_is)) (inr (inr (sys, to, reads, many, number_is_too, cause_is_too))) = absurd (no_system text at to sys (end, none) reads)
+one_in_system text at jobs m n a b (inr (inl (some, fault))) (inl (end, none, number_is, cause_is)) = absurd (some (end, none))
+one_in_system text at jobs m n a b (inr (inl (some, fault))) (inr (inl (some_too, other))) = any_one_fault text at m n a b fault other
+one_in_system text at jobs m n a b (inr (inl (some, fault))) (inr (inr (sys, to, reads, many, number_is, cause_is))) = absurd (any_not_both text at to sys m a reads fault)
+one_in_system text at jobs m n a b (inr (inr (sys, to, reads, many, number_is, cause_is))) (inl (end, none, number_is_too, cause_is_too)) = absurd (no_system text at to sys (end, none) reads)
+one_in_system text at jobs m n a b (inr (inr (sys, to, reads, many, number_is, cause_is))) (inr (inl (some, fault))) = absurd (any_not_both text at to sys n b reads fault)
+one_in_system text at jobs m n a b (inr (inr (sys, to, reads, many, here, cause_is))) (inr (inr (other, up_to, reads_too, many_too, there, cause_is_too))) =
+    let end = ap (λ (mark : Mark). mark.line) (any_one_system text at to up_to sys other reads reads_too).1 in
+    (omega (arith, end, here, there), cause_is ∙ sym cause_is_too)
 
 -- behind jobs
 one_next : (text : List ℕ) (at : Mark) (jobs : List Job) (m n : ℕ) (a b : Cause) → FailsNext text at jobs m a → FailsNext text at jobs n b → SameFault m n a b
 one_next text at jobs m n a b (inl fault) (inl other) = fails_once (batch_format (Behind (length jobs))) text at m n a b fault other
-one_next text at jobs m n a b (inl fault) (inr (inl lacks)) = absurd (not_both _ text at _ lacks.end m a lacks.ends fault)
-one_next text at jobs m n a b (inl fault) (inr (inr fails)) = absurd (not_both _ text at _ fails.behind m a fails.line fault)
-one_next text at jobs m n a b (inr (inl lacks)) (inl fault) = absurd (not_both _ text at _ lacks.end n b lacks.ends fault)
-one_next text at jobs m n a b (inr (inl lacks)) (inr (inl other)) =
-    let end = (reads_once _ text at _ _ lacks.end other.end lacks.ends other.ends).1 in
-    (lacks.number_is ∙ ap (λ (mark : Mark). mark.line) end ∙ sym other.number_is, lacks.cause_is ∙ sym other.cause_is)
-one_next text at jobs m n a b (inr (inl lacks)) (inr (inr fails)) =
-    let line = reads_once _ text at _ _ fails.behind lacks.end fails.line lacks.ends in
+one_next text at jobs m n a b (inl fault) (inr (inl (end, ends, none, number_is, cause_is))) = absurd (not_both _ text at _ end m a ends fault)
+one_next text at jobs m n a b (inl fault) (inr (inr (choice, behind, line, fails))) = absurd (not_both _ text at _ behind m a line fault)
+one_next text at jobs m n a b (inr (inl (end, ends, none, number_is, cause_is))) (inl fault) = absurd (not_both _ text at _ end n b ends fault)
+one_next text at jobs m n a b (inr (inl (here, ends, none, number_is, cause_is))) (inr (inl (there, ends_too, none_too, number_is_too, cause_is_too))) =
+    let end = (reads_once _ text at _ _ here there ends ends_too).1 in
+    (number_is ∙ ap (λ (mark : Mark). mark.line) end ∙ sym number_is_too, cause_is ∙ sym cause_is_too)
+one_next text at jobs m n a b (inr (inl (end, ends, none, number_is, cause_is))) (inr (inr (choice, behind, job_line, fails))) =
+    let line = reads_once _ text at _ _ behind end job_line ends in
     absurd (cc line.0)
-one_next text at jobs m n a b (inr (inr fails)) (inl fault) = absurd (not_both _ text at _ fails.behind n b fails.line fault)
-one_next text at jobs m n a b (inr (inr fails)) (inr (inl lacks)) =
-    let line = reads_once _ text at _ _ fails.behind lacks.end fails.line lacks.ends in
+one_next text at jobs m n a b (inr (inr (choice, behind, line, fails))) (inl fault) = absurd (not_both _ text at _ behind n b line fault)
+one_next text at jobs m n a b (inr (inr (choice, behind, job_line, fails))) (inr (inl (end, ends, none, number_is, cause_is))) =
+    let line = reads_once _ text at _ _ behind end job_line ends in
     absurd (cc line.0)
-one_next text at jobs m n a b (inr (inr fails)) (inr (inr other)) =
-    let behind = (reads_once _ text at _ _ fails.behind other.behind fails.line other.line).1 in
-    let there = subst (λ (mark : Mark). LacksSystem text mark n b ⊎ HasSystemFault text mark n b ⊎ HasTooManySites text mark jobs n b) (sym behind) other.fails in
-    one_in_system text fails.behind jobs m n a b fails.fails there
+one_next text at jobs m n a b (inr (inr (choice, behind, line, fails))) (inr (inr (other, behind_too, line_too, fails_too))) =
+    let same = (reads_once _ text at _ _ behind behind_too line line_too).1 in
+    one_in_system text behind jobs m n a b fails (subst (λ (mark : Mark). FailsSystem text mark jobs n b) (sym same) fails_too)
 
 -- behind jobs, and behind those and some more
 one_behind : (text : List ℕ) (at last : Mark) (jobs others more : List Job) (m n : ℕ) (a b : Cause) → sites_of jobs ≤ MOST_SITES → jobs ≡ others ++ more → ReadsJobs text at (0 + length others) more last →
@@ -268,15 +264,15 @@ one_behind text at last jobs others (job ∷ more) m n a b few whole (next, firs
 -- a text has one fault
 pub batch_one_fault : (text : List ℕ) (from : Mark) (m n : ℕ) (a b : Cause) → FaultBatch text from m a → FaultBatch text from n b → SameFault m n a b
 batch_one_fault text from m n a b (inl fault) (inl other) = fails_once (batch_format AtStart) text from m n a b fault other
-batch_one_fault text from m n a b (inl fault) (inr behind) = absurd (not_both _ text from _ behind.begins.start m a behind.begins.header fault)
-batch_one_fault text from m n a b (inr behind) (inl fault) = absurd (not_both _ text from _ behind.begins.start n b behind.begins.header fault)
-batch_one_fault text from m n a b (inr behind) (inr other) =
-    let start = (reads_once _ text from _ _ behind.begins.start other.begins.start behind.begins.header other.begins.header).1 in
-    let each : ReadsJobs text behind.begins.start 0 other.jobs other.at = subst (λ (mark : Mark). ReadsJobs text mark 0 other.jobs other.at) (sym start) other.begins.each in
-    elim (compare text behind.begins.start behind.at other.at 0 behind.jobs other.jobs behind.begins.each each) [
-      | inl goes ↦ one_behind text other.at behind.at behind.jobs other.jobs goes.more m n a b behind.begins.few goes.whole goes.reads behind.fails other.fails
+batch_one_fault text from m n a b (inl fault) (inr (jobs, at, begins, fails)) = absurd (not_both _ text from _ begins.start m a begins.header fault)
+batch_one_fault text from m n a b (inr (jobs, at, begins, fails)) (inl fault) = absurd (not_both _ text from _ begins.start n b begins.header fault)
+batch_one_fault text from m n a b (inr (jobs, at, begins, fails)) (inr (jobs_too, at_too, begins_too, fails_too)) =
+    let start = (reads_once _ text from _ _ begins.start begins_too.start begins.header begins_too.header).1 in
+    let each : ReadsJobs text begins.start 0 jobs_too at_too = subst (λ (mark : Mark). ReadsJobs text mark 0 jobs_too at_too) (sym start) begins_too.each in
+    elim (compare text begins.start at at_too 0 jobs jobs_too begins.each each) [
+      | inl goes ↦ one_behind text at_too at jobs jobs_too goes.more m n a b begins.few goes.whole goes.reads fails fails_too
       | inr goes ↦
-          let same = one_behind text behind.at other.at other.jobs behind.jobs goes.more n m b a other.begins.few goes.whole goes.reads other.fails behind.fails in
+          let same = one_behind text at at_too jobs_too jobs goes.more n m b a begins_too.few goes.whole goes.reads fails_too fails in
           (sym same.0, sym same.1)
     ]
 
@@ -371,29 +367,29 @@ within_or_more (suc count) (suc most) = elim (within_or_more count most) [ inl w
 abbrev SystemOrFault : List ℕ → Mark → List Job → Type 0
 SystemOrFault text at jobs =
     ((sys : TileSystem) × (to : Mark) × ReadsAny text at sys to × (sites_of jobs + cell_count sys.area ≤ MOST_SITES))
-    ⊎ ((number : ℕ) × (cause : Cause) × (LacksSystem text at number cause ⊎ HasSystemFault text at number cause ⊎ HasTooManySites text at jobs number cause))
+    ⊎ ((number : ℕ) × (cause : Cause) × FailsSystem text at jobs number cause)
 
 sites_or_fault : (text : List ℕ) (at to : Mark) (jobs : List Job) (sys : TileSystem) → ReadsAny text at sys to → SystemOrFault text at jobs
 sites_or_fault text at to jobs sys reads = elim (within_or_more (sites_of jobs + cell_count sys.area) MOST_SITES) [
   | inl few ↦ inl (sys, to, reads, few)
   | inr many ↦
       let line = system_line text at to sys reads in
-      inr (to.line - 1, TooMany, inr (inr (record { sys = sys; to = to; reads = reads; many = many; number_is = omega (arith, line); cause_is = refl })))
+      inr (to.line - 1, TooMany, inr (inr (sys, to, reads, many, omega (arith, line), refl)))
 ]
 
 system_or_fault : (text : List ℕ) (at : Mark) (jobs : List Job) → IsRead nothing_more text at ⊎ IsFaulty nothing_more text at → SystemOrFault text at jobs
 system_or_fault text at jobs (inl ([], end, none)) =
-    inr (end.line, NoEnd, inl (record { end = end; none = none; number_is = refl; cause_is = refl }))
+    inr (end.line, NoEnd, inl (end, none, refl, refl))
 system_or_fault text at jobs (inl (item ∷ items, end, reads)) = absurd item
 system_or_fault text at jobs (inr (number, cause, more)) = elim (any_one text at) [
   | inl (sys, to, reads) ↦ sites_or_fault text at to jobs sys reads
-  | inr (line, why, fault) ↦ inr (line, why, inr (inl (record { some = something_more text at number cause more; fault = fault })))
+  | inr (line, why, fault) ↦ inr (line, why, inr (inl (something_more text at number cause more, fault)))
 ]
 
 -- behind the header and some jobs the input ends
 ends_here : (text : List ℕ) (from at end : Mark) (jobs : List Job) → BeginsBatch text from jobs at → ReadsLine (Behind (length jobs)) text at None end → IsReadBatch text from ⊎ IsFaultyBatch text from
 ends_here text from at end [] begins ends =
-    inr (end.line, NoEnd, batch_fails text from at [] end.line NoEnd begins (inr (inl (record { none = refl; end = end; ends = ends; number_is = refl; cause_is = refl }))))
+    inr (end.line, NoEnd, batch_fails text from at [] end.line NoEnd begins (inr (inl (end, ends, refl, refl, refl))))
 ends_here text from at end (job ∷ jobs) begins ends = inl (job ∷ jobs, batch_ends text from at (job ∷ jobs) begins (record { some = omega arith; end = end; ends = ends }))
 
 begins_more : (text : List ℕ) (from at to : Mark) (jobs : List Job) (job : Job) → BeginsBatch text from jobs at → ReadsJob text at (length jobs) job to → sites_of jobs + cell_count job.sys.area ≤ MOST_SITES →
@@ -416,7 +412,7 @@ by_line text from at to jobs (Some (JobLine choice)) begins reads is onward = el
   | inl (sys, next, system, few) ↦
       let job : Job = record { sys = sys; choice = choice } in
       onward is next job (begins_more text from at next jobs job begins (record { behind = to; line = reads; system = system }) few)
-  | inr (number, cause, fails) ↦ inr (number, cause, batch_fails text from at jobs number cause begins (inr (inr (record { choice = choice; behind = to; line = reads; fails = fails }))))
+  | inr (number, cause, fails) ↦ inr (number, cause, batch_fails text from at jobs number cause begins (inr (inr (choice, to, reads, fails))))
 ]
 
 by_next : (text : List ℕ) (from at : Mark) (jobs : List Job) → BeginsBatch text from jobs at →

@@ -1,5 +1,5 @@
 -- What is found in a batch step by step, and what that makes of it.
-use Rattle.std.proofs.Common.{◌≡◌, ◌≢◌, ◌⊎◌, ℕ, suc, ◌+◌, ◌<◌, ◌≤◌, List, [], ◌∷◌, ◌++◌, length, Some, None, Option, Err, refl, ap, sym, ◌∙◌, subst, arith, inl, inr, length-append}
+use Rattle.std.proofs.Common.{◌≡◌, ◌≢◌, ℕ, suc, ◌+◌, ◌<◌, ◌≤◌, List, [], ◌∷◌, ◌++◌, length, Some, None, Option, Err, refl, ap, sym, ◌∙◌, subst, arith, inl, inr, length-append}
 use Rattle.std.proofs.lemmas.List.Sums.{sum_by_push}
 use Rattle.tile_io.specs.declared.fault.Cause.{Cause}
 use Rattle.tile_io.specs.declared.fault.Cause.TheVariants.{NoEnd, TooMany}
@@ -21,7 +21,7 @@ use Rattle.job_board.specs.declared.position.Position.TheVariants.{AtStart, Behi
 use Rattle.job_board.specs.declared.position.BatchItem.{BatchItem}
 use Rattle.job_board.specs.declared.position.BatchItem.TheVariants.{Header, JobLine}
 use Rattle.job_board.specs.BatchLines.{batch_format, batch_table}
-use Rattle.job_board.specs.BatchText.{ReadsJob, ReadsJobs, BeginsBatch, ReadsBatch, FailsNext, FaultBatch, LacksSystem, HasSystemFault, HasTooManySites, sites_of}
+use Rattle.job_board.specs.BatchText.{ReadsJob, ReadsJobs, BeginsBatch, ReadsBatch, FailsNext, FaultBatch, sites_of, FailsSystem}
 use Rattle.job_board.specs.Inner.FoundLines.{FindsLine}
 use Rattle.job_board.specs.Inner.Reading.{BeginsAt, FindsJob, FindsEnd, FindsNext, FindsWithin, FindsSystem}
 
@@ -51,17 +51,17 @@ pub something_more : (text : List ℕ) (from : Mark) (number : ℕ) (cause : Cau
 something_more text from number cause more none = not_both nothing_more text from [] none.0 number cause none.1 more
 
 -- the input ends behind a job's line
-pub system_lacks : (text : List ℕ) (from : Mark) (number : ℕ) → HasNoMore text from → number ≡ from.line + length (lines_from text from) → LacksSystem text from number NoEnd
-system_lacks text from number none is = record { end = none.0; none = none.1; number_is = is ∙ sym (end_line text from none.0 none.1); cause_is = refl }
+pub system_lacks : (text : List ℕ) (from : Mark) (jobs : List Job) (number : ℕ) → HasNoMore text from → number ≡ from.line + length (lines_from text from) → FailsSystem text from jobs number NoEnd
+system_lacks text from jobs number none is = inl (none.0, none.1, is ∙ sym (end_line text from none.0 none.1), refl)
 
 -- a system's fault, and too many sites
 pub system_fails : (text : List ℕ) (from : Mark) (jobs : List Job) (number : ℕ) (cause : Cause) → ¬ HasNoMore text from → FaultAny text from number cause →
-    LacksSystem text from number cause ⊎ HasSystemFault text from number cause ⊎ HasTooManySites text from jobs number cause
-system_fails text from jobs number cause more fault = inr (inl (record { some = more; fault = fault }))
+    FailsSystem text from jobs number cause
+system_fails text from jobs number cause more fault = inr (inl (more, fault))
 
 pub sites_fail : (text : List ℕ) (from to : Mark) (jobs : List Job) (sys : TileSystem) (number : ℕ) → ReadsAny text from sys to → MOST_SITES < sites_of jobs + cell_count sys.area → number + 1 ≡ to.line →
-    LacksSystem text from number TooMany ⊎ HasSystemFault text from number TooMany ⊎ HasTooManySites text from jobs number TooMany
-sites_fail text from to jobs sys number reads many is = inr (inr (record { sys = sys; to = to; reads = reads; many = many; number_is = is; cause_is = refl }))
+    FailsSystem text from jobs number TooMany
+sites_fail text from to jobs sys number reads many is = inr (inr (sys, to, reads, many, is, refl))
 
 -- a job's line, and then its system
 pub job_found : (text : List ℕ) (from behind to : Mark) (jobs : List Job) (choice : ℕ) (sys : TileSystem) (count : ℕ) → FindsLine (Behind (length jobs)) text from (Some (JobLine choice)) behind →
@@ -76,12 +76,12 @@ job_found text from behind to jobs choice sys count line within = record {
 
 pub job_fails : (text : List ℕ) (from behind : Mark) (jobs : List Job) (choice : ℕ) (stop : TextStop) → FindsLine (Behind (length jobs)) text from (Some (JobLine choice)) behind →
     FindsSystem text behind jobs (Err stop) → FindsNext text from jobs (Err stop)
-job_fails text from behind jobs choice (Fault fault) line fails = inr (inr (record { choice = choice; behind = behind; line = line.reads; fails = fails }))
+job_fails text from behind jobs choice (Fault fault) line fails = inr (inr (choice, behind, line.reads, fails))
 job_fails text from behind jobs choice NoMemory line fails = tt
 
 -- no job was found, and there is none
 pub jobs_lack : (text : List ℕ) (from end : Mark) (jobs : List Job) → jobs ≡ [] → FindsLine (Behind (length jobs)) text from None end → FailsNext text from jobs end.line NoEnd
-jobs_lack text from end jobs none line = inr (inl (record { none = none; end = end; ends = line.reads; number_is = refl; cause_is = refl }))
+jobs_lack text from end jobs none line = inr (inl (end, line.reads, none, refl, refl))
 
 pub some_job : (jobs : List Job) → jobs ≢ [] → 1 ≤ length jobs
 some_job [] some = absurd (some refl)
@@ -120,4 +120,4 @@ pub batch_ends : (text : List ℕ) (from last : Mark) (jobs : List Job) → Begi
 batch_ends text from last jobs begins finds = record { last = last; begins = begins; some = finds.some; end = finds.end; ends = finds.ends }
 
 pub batch_fails : (text : List ℕ) (from at : Mark) (jobs : List Job) (number : ℕ) (cause : Cause) → BeginsBatch text from jobs at → FailsNext text at jobs number cause → FaultBatch text from number cause
-batch_fails text from at jobs number cause begins fails = inr (record { jobs = jobs; at = at; begins = begins; fails = fails })
+batch_fails text from at jobs number cause begins fails = inr (jobs, at, begins, fails)

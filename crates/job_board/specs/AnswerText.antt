@@ -28,12 +28,8 @@ answers_from number [] outcomes = []
 answers_from number (job ∷ jobs) [] = []
 answers_from number (job ∷ jobs) (outcome ∷ outcomes) = answer_text number job outcome ++ answers_from (number + 1) jobs outcomes
 
--- how many jobs there are, and how many of the answers are a yes
-abbrev pub done_line : ℕ → ℕ → List ℕ
-done_line jobs yeses = line_of (codes "done" ∷ decimal jobs ∷ codes "yes" ∷ decimal yeses ∷ [])
-
-abbrev pub yes_count : List Outcome → ℕ
-yes_count outcomes = length (filter (λ outcome. is_unique outcome.verdict) outcomes)
-
+-- and then how many jobs there are, and how many of the answers are a yes
 abbrev pub batch_text : List Job → List Outcome → List ℕ
-batch_text jobs outcomes = answers_from 0 jobs outcomes ++ done_line (length jobs) (yes_count outcomes)
+batch_text jobs outcomes = answers_from 0 jobs outcomes
+    ++ line_of (codes "done" ∷ decimal (length jobs)
+    ∷ codes "yes" ∷ decimal (length (filter (λ outcome. is_unique outcome.verdict) outcomes)) ∷ [])

@@ -6,7 +6,6 @@ use Rattle.tile_io.specs.declared.fault.Cause.TheVariants.{NoHeader}
 use Rattle.tile_io.specs.declared.mark.Mark.{Mark}
 use Rattle.tile_io.specs.Formats.{Format, Reads}
 use Rattle.tile_io.specs.Checks.{◌>>=◌, require, field, count_in, Keyword, Table, table_format, row}
-use Rattle.job_board.specs.declared.limits.TheConstants.{MOST_JOBS, GREATEST_CHOICE}
 use Rattle.job_board.specs.declared.position.Position.{Position}
 use Rattle.job_board.specs.declared.position.Position.TheVariants.{AtStart, Behind}
 use Rattle.job_board.specs.declared.position.BatchItem.{BatchItem}
@@ -18,9 +17,9 @@ abbrev pub row_at : Position → Keyword (List BatchItem) BatchItem
 row_at AtStart = row (codes "batch") (λ n. n == 2) is_none (λ earlier words. true) (λ earlier words. do
   _ ← require (bytes_eq (field words 1) (codes "1")) NoHeader
   Ok Header)
-row_at (Behind jobs) = row (codes "job") (λ n. n == 2) is_none (λ earlier words. nat_lt jobs MOST_JOBS)
+row_at (Behind jobs) = row (codes "job") (λ n. n == 2) is_none (λ earlier words. nat_lt jobs 1024)
     (λ earlier words. do
-      choice ← count_in 0 GREATEST_CHOICE (field words 1)
+      choice ← count_in 0 4294967295 (field words 1)
       Ok (JobLine choice))
 
 abbrev pub is_start : Position → Bool

@@ -47,57 +47,33 @@ pub record ReadsBatch (text : List ℕ) (from : Mark) (jobs : List Job) : Type 0
   pub end : Mark
   pub ends : ReadsLine (Behind (length jobs)) text last None end
 
--- behind the line of a job the input ends with no header of a system
-pub record LacksSystem (text : List ℕ) (from : Mark) (number : ℕ) (cause : Cause) : Type 0 where
-  pub end : Mark
-  pub none : Reads nothing_more text from [] end
-  pub number_is : number ≡ end.line
-  pub cause_is : cause ≡ NoEnd
+-- What may fail behind the line of a job: the input ends with no header of a system; or something
+-- stands there, and has this fault as the text of a system; or it is the text of one, with whose
+-- box, told of by its end line, there are too many sites.
+abbrev pub FailsSystem : List ℕ → Mark → List Job → ℕ → Cause → Type 0
+FailsSystem text from jobs number cause =
+    ((end : Mark) × Reads nothing_more text from [] end × (number ≡ end.line) × (cause ≡ NoEnd))
+    ⊎ ((¬ HasNoMore text from) × FaultAny text from number cause)
+    ⊎ ((sys : TileSystem) × (to : Mark) × ReadsAny text from sys to
+    × (MOST_SITES < sites_of jobs + cell_count sys.area)
+    × (number + 1 ≡ to.line) × (cause ≡ TooMany))
 
--- something stands there, and it has this fault as the text of a system
-pub record HasSystemFault (text : List ℕ) (from : Mark) (number : ℕ) (cause : Cause) : Type 0 where
-  pub some : ¬ HasNoMore text from
-  pub fault : FaultAny text from number cause
-
--- it is the text of a system, with whose box, told of by its end line, there are too many sites
-pub record HasTooManySites (text : List ℕ) (from : Mark) (jobs : List Job) (number : ℕ) (cause : Cause) : Type 0 where
-  pub sys : TileSystem
-  pub to : Mark
-  pub reads : ReadsAny text from sys to
-  pub many : MOST_SITES < sites_of jobs + cell_count sys.area
-  pub number_is : number + 1 ≡ to.line
-  pub cause_is : cause ≡ TooMany
-
--- a job's line, and then one of these
-pub record FailsInSystem (text : List ℕ) (from : Mark) (jobs : List Job) (number : ℕ) (cause : Cause) : Type 0 where
-  pub choice : ℕ
-  pub behind : Mark
-  pub line : ReadsLine (Behind (length jobs)) text from (Some (JobLine choice)) behind
-  pub fails : LacksSystem text behind number cause ⊎ HasSystemFault text behind number cause ⊎ HasTooManySites text behind jobs number cause
-
--- the input ends with no job
-pub record LacksJobs (text : List ℕ) (from : Mark) (jobs : List Job) (number : ℕ) (cause : Cause) : Type 0 where
-  pub none : jobs ≡ []
-  pub end : Mark
-  pub ends : ReadsLine (Behind (length jobs)) text from None end
-  pub number_is : number ≡ end.line
-  pub cause_is : cause ≡ NoEnd
-
--- what may fail behind jobs
+-- what may fail behind jobs: the next line; or the input ends with no job; or there is the line of
+-- a job, and its system fails
 abbrev pub FailsNext : List ℕ → Mark → List Job → ℕ → Cause → Type 0
 FailsNext text from jobs number cause =
-    Fault (batch_format (Behind (length jobs))) text from number cause ⊎ LacksJobs text from jobs number cause ⊎ FailsInSystem text from jobs number cause
+    Fault (batch_format (Behind (length jobs))) text from number cause
+    ⊎ ((end : Mark) × ReadsLine (Behind (length jobs)) text from None end
+    × (jobs ≡ []) × (number ≡ end.line) × (cause ≡ NoEnd))
+    ⊎ ((choice : ℕ) × (behind : Mark)
+    × ReadsLine (Behind (length jobs)) text from (Some (JobLine choice)) behind
+    × FailsSystem text behind jobs number cause)
 
--- the header and some jobs, and then one of these
-pub record FailsBehind (text : List ℕ) (from : Mark) (number : ℕ) (cause : Cause) : Type 0 where
-  pub jobs : List Job
-  pub at : Mark
-  pub begins : BeginsBatch text from jobs at
-  pub fails : FailsNext text at jobs number cause
-
--- the first fault of a batch
+-- the first fault of a batch: in its header, or behind that and some jobs
 abbrev pub FaultBatch : List ℕ → Mark → ℕ → Cause → Type 0
-FaultBatch text from number cause = Fault (batch_format AtStart) text from number cause ⊎ FailsBehind text from number cause
+FaultBatch text from number cause = Fault (batch_format AtStart) text from number cause
+    ⊎ ((jobs : List Job) × (at : Mark) × BeginsBatch text from jobs at
+    × FailsNext text at jobs number cause)
 
 -- the text is a batch of some jobs
 abbrev pub IsReadBatch : List ℕ → Mark → Type 0

@@ -1,12 +1,13 @@
 // The lines of the answers to a batch.
-ghost use Rattle.std.specs.Prelude.{◌≡◌, All, IfSome, length};
+ghost use Rattle.std.specs.Prelude.{◌≡◌, All, IfSome, length, ◌∷◌, [], codes, decimal, filter};
 ghost use Rattle.atam.specs.TileSystem.{IsType};
 ghost use Rattle.tile_io.specs.Chunks.{PassesOn};
 ghost use Rattle.tile_io.specs.Prints.{Prints};
 ghost use Rattle.atam.specs.Verdicts.{NamesTypes};
 ghost use Rattle.job_board.specs.Answers.{AnswerEach, Answers};
-ghost use Rattle.job_board.specs.AnswerText.{answer_text, answers_from, batch_text, done_line};
-ghost use Rattle.job_board.specs.AnswerText.{growth_text, yes_count};
+ghost use Rattle.job_board.specs.AnswerText.{answer_text, answers_from, batch_text, is_unique};
+ghost use Rattle.job_board.specs.AnswerText.{growth_text};
+ghost use Rattle.tile_io.specs.Lines.{line_of};
 
 use crate::job::Job;
 use crate::outcome::{Outcome, is_unique};
@@ -100,7 +101,7 @@ fn put_outcome<K: Sink>(
 // Adds the last line.
 fn put_done<K: Sink>(jobs: usize, yes: usize, chunk: &mut Chunk, sink: &mut K) -> Result<(), Failed>
     ensures { PassesOn K.written K.faults sink.old sink.new chunk.old chunk.new result
-        (done_line jobs yes) }
+        (line_of (codes "done" ∷ decimal jobs ∷ codes "yes" ∷ decimal yes ∷ [])) }
 {
     let mut first = Buffer::new();
     let mut second = Buffer::new();
@@ -111,7 +112,7 @@ fn put_done<K: Sink>(jobs: usize, yes: usize, chunk: &mut Chunk, sink: &mut K) -
 
 // How many of the verdicts are a yes.
 fn count_yes(outcomes: &[Outcome]) -> usize
-    ensures { result ≡ yes_count outcomes.now }
+    ensures { result ≡ length (filter (λ outcome. is_unique outcome.verdict) outcomes.now) }
 {
     let mut count = 0;
     for outcome in outcomes {

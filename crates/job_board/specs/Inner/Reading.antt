@@ -1,5 +1,5 @@
 -- What is found in a batch step by step.
-use Rattle.std.specs.Prelude.{◌≡◌, ◌⊎◌, ◌+◌, ◌<◌, ◌≤◌, ℕ, List, length, Option, Some, None, Result, Ok, Err}
+use Rattle.std.specs.Prelude.{◌≡◌, ◌+◌, ◌<◌, ◌≤◌, ℕ, List, length, Option, Some, None, Result, Ok, Err}
 use Rattle.tile_io.specs.declared.fault.TextStop.{TextStop}
 use Rattle.tile_io.specs.declared.fault.TextStop.TheVariants as stops
 use Rattle.tile_io.specs.declared.mark.Mark.{Mark}
@@ -12,7 +12,7 @@ use Rattle.job_board.specs.declared.limits.TheConstants.{MOST_JOBS, MOST_SITES}
 use Rattle.job_board.specs.declared.position.Position.TheVariants.{AtStart, Behind}
 use Rattle.job_board.specs.declared.position.BatchItem.TheVariants.{Header}
 use Rattle.job_board.specs.BatchLines.{ReadsLine}
-use Rattle.job_board.specs.BatchText.{ReadsJob, FailsNext, LacksSystem, HasSystemFault, HasTooManySites, sites_of}
+use Rattle.job_board.specs.BatchText.{ReadsJob, FailsNext, sites_of, FailsSystem}
 
 -- the header
 pub record BeginsAt (text : List ℕ) (from to : Mark) : Type 0 where
@@ -49,5 +49,5 @@ pub record FindsWithin (text : List ℕ) (from : Mark) (jobs : List Job) (sys : 
 abbrev pub FindsSystem : List ℕ → Mark → List Job → Result (TileSystem × Mark × ℕ) TextStop → Type 0
 FindsSystem text from jobs (Ok found) = FindsWithin text from jobs found.0 found.1 found.2
 FindsSystem text from jobs (Err (stops.Fault fault)) =
-    LacksSystem text from fault.line fault.cause ⊎ HasSystemFault text from fault.line fault.cause ⊎ HasTooManySites text from jobs fault.line fault.cause
+    FailsSystem text from jobs fault.line fault.cause
 FindsSystem text from jobs (Err stops.NoMemory) = Unit {0}
