@@ -7,7 +7,7 @@ use Rattle.std.proofs.lemmas.List.Elements.{All-from_recursion}
 use Rattle.std.proofs.lemmas.Slice.Eq.{bytes_eq-Decides}
 use Rattle.tile_io.specs.declared.fault.Cause.TheVariants.{BadName}
 use Rattle.tile_io.specs.Lines.{words_of, BeginsWithLine}
-use Rattle.tile_io.specs.Checks.{◌>>=◌, are_digits, number_in, number_value, without_minus, check_line, field}
+use Rattle.tile_io.specs.Checks.{◌>>=◌, are_digits, number_in, number_value, without_minus, check_line, field, count_in}
 use Rattle.tile_io.specs.FrontDigits.{StartsWithDigits}
 use Rattle.tile_io.proofs.Checking.{bind_ok}
 use Rattle.tile_io.proofs.Digits.{number_within, unsigned}
@@ -27,7 +27,7 @@ use Rattle.seq_text.proofs.PlainLines.{number_word, number_short}
 use Rattle.cert_check.specs.declared.entry.Entry.{Entry}
 use Rattle.cert_check.specs.Certificates.{places_of}
 use Rattle.cert_text.specs.CertificateLines.{side_words, sides_word}
-use Rattle.cert_text.specs.CertificateText.{sides_field, rank_field, entry_fields, mark_row, certificate_table}
+use Rattle.cert_text.specs.CertificateText.{sides_field, entry_fields, mark_row, certificate_table}
 use Rattle.cert_text.specs.Inner.Plain.{IsPlainMark, BeginsPlain}
 use Rattle.cert_text.proofs.SidesWords.{sides_told}
 
@@ -46,7 +46,7 @@ sides_are_word word sides e =
     subst Short (sym same) (told.word, told.short)
 
 -- so is a rank
-rank_is_word : (word : List ℕ) (rank : ℕ) → rank_field word ≡ Ok rank → IsWord word × (length word ≤ 11)
+rank_is_word : (word : List ℕ) (rank : ℕ) → count_in 0 4294967295 word ≡ Ok rank → IsWord word × (length word ≤ 11)
 rank_is_word word rank e =
     let one = bind_ok (number_in (pos 0) (pos 4294967295) word) (λ n. Ok (nat_abs n)) rank e in
     (number_word (pos 0) (pos 4294967295) word one.0 one.1, number_short (pos 0) (pos 4294967295) word one.0 one.1)
@@ -107,7 +107,7 @@ pub record BeginsWithMark (sys : TileSystem) (earlier : List Entry) (text : List
 
 -- the checks of a `mark` line in its plain form
 module _ (sys : TileSystem) (earlier : List Entry) (m : Site) (name sides rank : List ℕ) (t : TypeId) (s r : ℕ) (named : is_name name ≡ true) (found : type_named sys.types name ≡ Some t.0) (of_sides : sides_field sides ≡ Ok s)
-    (of_rank : rank_field rank ≡ Ok r) (inside : is_in_box sys.area m ≡ true) (free : is_none (tile_at (places_of earlier) m) ≡ true) where
+    (of_rank : count_in 0 4294967295 rank ≡ Ok r) (inside : is_in_box sys.area m ≡ true) (free : is_none (tile_at (places_of earlier) m) ≡ true) where
   entry : Entry
   entry = record { place = record { site = m; tile = t }; sides = s; rank = r }
 
@@ -149,7 +149,7 @@ module _ (text : List ℕ) (m : Site) (name sides fields rank behind : List ℕ)
   front_size = let whole : length text ≡ length front_line + length (10 ∷ behind) = ap length front_whole ∙ length-append front_line (10 ∷ behind) in omega (arith, whole)
 
   -- end the line
-  pub front_begins : (r : ℕ) → rank_field rank ≡ Ok r → BeginsPlain text m name sides r (length text - length behind)
+  pub front_begins : (r : ℕ) → count_in 0 4294967295 rank ≡ Ok r → BeginsPlain text m name sides r (length text - length behind)
   unfolding front_line
   front_begins r read =
       let size : length text ≡ length front_line + 1 + length behind = front_size in
@@ -167,7 +167,7 @@ module _ (text : List ℕ) (m : Site) (name sides fields rank behind : List ℕ)
   front_within = let size : length text ≡ length front_line + 1 + length behind = front_size in omega (arith, size)
 
 -- so few digits read as a rank
-pub rank_reads : (bytes rest : List ℕ) (rank : ℕ) (h : StartsWithDigits 10 8 bytes rank rest) → rank < 10 ^ 8 → rank_field h.word ≡ Ok rank
+pub rank_reads : (bytes rest : List ℕ) (rank : ℕ) (h : StartsWithDigits 10 8 bytes rank rest) → rank < 10 ^ 8 → count_in 0 4294967295 h.word ≡ Ok rank
 rank_reads bytes rest rank h small =
     let no_minus = unsigned h.word h.digits in
     let digits : are_digits (without_minus h.word) ≡ true = rw no_minus h.digits in

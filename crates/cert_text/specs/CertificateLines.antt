@@ -36,23 +36,21 @@ side_letter East = codes "E"
 side_letter South = codes "S"
 side_letter West = codes "W"
 
--- the number of the check that fails, and the site where it fails; and what fails there
-abbrev pub failed_at : List ℕ → Site → List ℕ
-failed_at check m = line_of (codes "verified" ∷ codes "no" ∷ check ∷ signed_decimal m.x ∷ signed_decimal m.y ∷ [])
-
-abbrev pub failed_by : List ℕ → Site → List ℕ → List ℕ
-failed_by check m what = line_of (codes "verified" ∷ codes "no" ∷ check ∷ signed_decimal m.x ∷ signed_decimal m.y ∷ what ∷ [])
+-- the number of the check that fails, the site where it fails, and what fails there, if that is told
+abbrev pub failed_check : List ℕ → Site → List (List ℕ) → List ℕ
+failed_check check m what =
+    line_of (codes "verified" ∷ codes "no" ∷ check ∷ signed_decimal m.x ∷ signed_decimal m.y ∷ what)
 
 -- yes, or the first check that fails: with the sum of the stated bonds, the side of an unanswered bond, the type of a rival, or a type that attaches
 abbrev pub verified_line : TileSystem → CertVerdict → List ℕ
 verified_line sys Yes = line_of (codes "verified" ∷ codes "yes" ∷ [])
-verified_line sys (NoSeed m) = failed_at (codes "1") m
-verified_line sys (SeedSides m) = failed_at (codes "2") m
-verified_line sys (BadInput m) = failed_at (codes "3") m
-verified_line sys (NotExact m sum) = failed_by (codes "4") m (decimal sum)
-verified_line sys (LooseBond m d) = failed_by (codes "5") m (side_letter d)
-verified_line sys (Rival m t) = failed_by (codes "6") m (type_name sys t)
-verified_line sys (NotTerminal m t) = failed_by (codes "7") m (type_name sys t)
+verified_line sys (NoSeed m) = failed_check (codes "1") m []
+verified_line sys (SeedSides m) = failed_check (codes "2") m []
+verified_line sys (BadInput m) = failed_check (codes "3") m []
+verified_line sys (NotExact m sum) = failed_check (codes "4") m (decimal sum ∷ [])
+verified_line sys (LooseBond m d) = failed_check (codes "5") m (side_letter d ∷ [])
+verified_line sys (Rival m t) = failed_check (codes "6") m (type_name sys t ∷ [])
+verified_line sys (NotTerminal m t) = failed_check (codes "7") m (type_name sys t ∷ [])
 
 -- a type that the verdict names is one of the system
 abbrev pub NamesKnownType : TileSystem → CertVerdict → Type 0

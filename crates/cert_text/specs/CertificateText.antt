@@ -18,16 +18,12 @@ use Rattle.cert_text.specs.CertificateLines.{side_words}
 abbrev pub sides_field : List ℕ → Result ℕ Cause
 sides_field word = ok_or (position (bytes_eq word) side_words) BadName
 
--- the rank
-abbrev pub rank_field : List ℕ → Result ℕ Cause
-rank_field word = count_in 0 4294967295 word
-
--- the fields of a `mark` line
+-- the fields of a `mark` line, the last of which is the rank
 unfoldable pub entry_fields : TileSystem → List (List ℕ) → Result Entry Cause
 entry_fields sys words = do
   p ← place_field (names_of sys) (field words 1) (field words 2) (field words 3)
   sides ← sides_field (field words 4)
-  rank ← rank_field (field words 5)
+  rank ← count_in 0 4294967295 (field words 5)
   Ok (record { place = p; sides = sides; rank = rank })
 
 -- the row of the table: the lines stand in any order, the site is in the box, and no earlier entry

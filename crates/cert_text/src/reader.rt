@@ -10,9 +10,10 @@ ghost use Rattle.tile_io.specs.Blocks.{ReadsInBlocks};
 ghost use Rattle.tile_io.specs.NextLine.{IsMark};
 ghost use Rattle.tile_io.specs.Formats.{ReadsOrStops};
 ghost use Rattle.cert_check.specs.Certificates.{places_of};
-ghost use Rattle.cert_text.specs.CertificateText.{ReadsCertificate, certificate_format, entry_fields, mark_row, rank_field};
+ghost use Rattle.cert_text.specs.CertificateText.{ReadsCertificate, certificate_format, entry_fields, mark_row};
 ghost use Rattle.cert_text.specs.Inner.Plain.{BeginsPlain};
 ghost use Rattle.cert_text.specs.Inner.SoFar.{AreKept};
+ghost use Rattle.tile_io.specs.Checks.{count_in};
 
 use crate::keyword::LineKind;
 use crate::plain::{PlainMark, plain_mark};
@@ -279,7 +280,7 @@ fn read_entry(sys: &System, words: &LineWords) -> Result<Entry, Cause>
 
 // The rank of an entry.
 fn read_rank(word: &[u8]) -> Result<u32, Cause>
-    ensures { result ≡ rank_field word.now }
+    ensures { result ≡ count_in 0 4294967295 word.now }
 {
     read_count(word, 0, u32::MAX)
 }

@@ -1,7 +1,7 @@
 // The line of the verdict on a certificate.
-ghost use Rattle.std.specs.Prelude.{◌≡◌};
+ghost use Rattle.std.specs.Prelude.{◌≡◌, ◌∷◌, []};
 ghost use Rattle.tile_io.specs.Prints.{Prints};
-ghost use Rattle.cert_text.specs.CertificateLines.{NamesKnownType, failed_at, failed_by, verified_line};
+ghost use Rattle.cert_text.specs.CertificateLines.{NamesKnownType, failed_check, verified_line};
 
 use crate::sides::side_letter;
 use cert_check::CertVerdict;
@@ -36,7 +36,8 @@ pub fn print_cert_verdict<K: Sink>(
 
 // Writes the line of a check that fails at a site.
 fn print_site<K: Sink>(check: &[u8], site: Site, sink: &mut K) -> Result<(), Failed>
-    ensures { Prints K.written K.faults sink.old sink.new result (failed_at check.now site) }
+    ensures { Prints K.written K.faults sink.old sink.new result
+        (failed_check check.now site []) }
 {
     let mut x = Buffer::new();
     let mut y = Buffer::new();
@@ -48,7 +49,7 @@ fn print_site<K: Sink>(check: &[u8], site: Site, sink: &mut K) -> Result<(), Fai
 // The same, with what fails there.
 fn print_failed<K: Sink>(check: &[u8], site: Site, what: &[u8], sink: &mut K) -> Result<(), Failed>
     ensures { Prints K.written K.faults sink.old sink.new result
-        (failed_by check.now site what.now) }
+        (failed_check check.now site (what.now ∷ [])) }
 {
     let mut x = Buffer::new();
     let mut y = Buffer::new();

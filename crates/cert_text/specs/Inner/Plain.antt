@@ -1,8 +1,7 @@
 -- A `mark` line in its plain form.
 use Rattle.std.specs.Prelude.{◌≡◌, ℕ, ◌+◌, List, length, ◌∷◌, ◌++◌, codes, Ok}
-use Rattle.tile_io.specs.Checks.{coordinate}
+use Rattle.tile_io.specs.Checks.{coordinate, count_in}
 use Rattle.atam.specs.declared.site.Site.{Site}
-use Rattle.cert_text.specs.CertificateText.{rank_field}
 
 -- the keyword, the coordinates of a site and two words, each with a space behind it, and then the rest
 pub record IsPlainMark (line : List ℕ) (m : Site) (name sides rank : List ℕ) : Type 0 where
@@ -20,4 +19,4 @@ pub record BeginsPlain (text : List ℕ) (m : Site) (name sides : List ℕ) (ran
   pub plain : IsPlainMark line m name sides last
   pub whole : text ≡ line ++ 10 ∷ behind
   pub count_is : count ≡ length line + 1
-  pub rank_read : rank_field last ≡ Ok rank
+  pub rank_read : count_in 0 4294967295 last ≡ Ok rank

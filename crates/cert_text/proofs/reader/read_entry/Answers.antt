@@ -1,9 +1,9 @@
 use Rattle.std.proofs.Common.{◌≡◌, Ok, Err, refl, sym, ap, ◌∙◌, rules}
-use Rattle.tile_io.specs.Checks.{field}
+use Rattle.tile_io.specs.Checks.{field, count_in}
 use Rattle.tile_text.specs.Fields.{place_field}
 use Rattle.seq_text.specs.GrowthText.{names_of}
 use Rattle.seq_text.proofs.Fields.{type_found}
-use Rattle.cert_text.specs.CertificateText.{entry_fields, rank_field, sides_field}
+use Rattle.cert_text.specs.CertificateText.{entry_fields, sides_field}
 use Rattle.cert_text.proofs.reader.read_entry.Goals as goal
 
 pub returns-in_err-place-clause-entry : goal.returns-in_err-place-clause-entry
@@ -35,7 +35,7 @@ returns-in_err-rank-clause-entry c =
     let read : place_field (names_of sys) (field words 1) (field words 2) (field words 3) ≡ Ok c.in_ok-place.place =
     rw (sym c.word.ensures, sym c.word-2.ensures, sym c.word-name.ensures) (sym (c.in_ok-place.ensures.place (names_of sys) (c.find_type-found.ensures.index ∙ type_found sys c.word-name.result.now))) in
     let sides : sides_field (field words 4) ≡ Ok c.in_ok-sides.sides = ap sides_field (sym c.word-3.ensures) ∙ sym c.in_ok-sides.ensures.value in
-    let rank : rank_field (field words 5) ≡ Err c.in_err-rank.field-0.0 = ap rank_field (sym c.word-4.ensures) ∙ sym c.in_err-rank.ensures in
+    let rank : count_in 0 4294967295 (field words 5) ≡ Err c.in_err-rank.field-0.0 = ap (count_in 0 4294967295) (sym c.word-4.ensures) ∙ sym c.in_err-rank.ensures in
     let bad : Err c.in_err-rank.field-0.0 ≡ entry_fields sys words = rw (read, sides, rank) refl in
     search (rules, bad)
 
@@ -47,5 +47,5 @@ returns-clause-entry c =
     let read : place_field (names_of sys) (field words 1) (field words 2) (field words 3) ≡ Ok c.in_ok-place.place =
     rw (sym c.word.ensures, sym c.word-2.ensures, sym c.word-name.ensures) (sym (c.in_ok-place.ensures.place (names_of sys) (c.find_type-found.ensures.index ∙ type_found sys c.word-name.result.now))) in
     let sides : sides_field (field words 4) ≡ Ok c.in_ok-sides.sides = ap sides_field (sym c.word-3.ensures) ∙ sym c.in_ok-sides.ensures.value in
-    let rank : rank_field (field words 5) ≡ Ok c.in_ok-rank.rank = ap rank_field (sym c.word-4.ensures) ∙ sym c.in_ok-rank.ensures in
+    let rank : count_in 0 4294967295 (field words 5) ≡ Ok c.in_ok-rank.rank = ap (count_in 0 4294967295) (sym c.word-4.ensures) ∙ sym c.in_ok-rank.ensures in
     rw (read, sides, rank) refl
