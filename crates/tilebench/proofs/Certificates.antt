@@ -38,7 +38,9 @@ use Rattle.tilebench.specs.Inner.Certifications.{IsCertification, certification_
 use Rattle.tilebench.specs.Inner.Reorderings.{IsReordering, is_whole, reordering_text}
 use Rattle.tilebench.specs.Commands.Verify.{IsVerifyAnswer, is_verified}
 use Rattle.job_board.specs.AnswerText.{is_unique}
-use Rattle.tilebench.specs.Inputs.{IsAssemblyOf, IsSystemThenCertificate, IsSystemThenPlacements}
+use Rattle.tilebench.specs.Inputs.{IsAssemblyOf, IsSystemThen}
+use Rattle.seq_text.specs.GrowthText.{ReadsPlacements}
+use Rattle.cert_text.specs.CertificateText.{ReadsCertificate}
 
 -- what keeps tiles from having an order is told
 no_order_told : (sys : TileSystem) (tiles : List Place) (reordering : Reordering) → IsReordering sys tiles reordering → is_whole reordering ≡ false → TellsNoOrder sys tiles (reordering_text sys reordering)
@@ -54,14 +56,14 @@ certificate_told sys tiles (Refuted verdict) certified = inl (verdict, certified
 certificate_told sys tiles (Unordered reordering) certified = inr (no_order_told sys tiles reordering certified.0 certified.1)
 
 -- and it is the answer
-pub certify_answer : (input : List ℕ) (sys : TileSystem) (places tiles : List Place) (certification : Certification) → IsSystemThenPlacements input sys places → IsAssemblyOf places tiles →
+pub certify_answer : (input : List ℕ) (sys : TileSystem) (places tiles : List Place) (certification : Certification) → IsSystemThen ReadsPlacements input sys places → IsAssemblyOf places tiles →
     IsCertification sys tiles certification → IsCertifyAnswer input (is_given certification) (certification_text sys certification)
 certify_answer input sys places tiles certification read assembly certified =
     record { sys = sys; places = places; read = read; tiles = tiles; assembly = assembly; told = certificate_told sys tiles certification certified }
 
 -- behind the spelling of the system the lines of a certificate read as its entries
 certificate_back : (sys : TileSystem) (order : List Place) (entries : List Entry) → IsValid sys → Fits sys order → IsCertificateOf sys order entries → AreEntries entries →
-    IsSystemThenCertificate (spelling sys ++ mark_lines sys entries) sys entries
+    IsSystemThen ReadsCertificate (spelling sys ++ mark_lines sys entries) sys entries
 certificate_back sys order entries valid fits certificate known =
     let own_fits : Fits sys (places_of entries) = subst (Fits sys) (sym certificate.places) fits in
     let few : length (places_of entries) ≤ 1048576 =
@@ -135,7 +137,7 @@ verified_yes (Rival m t) e = absurd (cc e)
 verified_yes (NotTerminal m t) e = absurd (cc e)
 
 -- the line of the verdict on what was read is the answer
-pub verify_answer : (input : List ℕ) (sys : TileSystem) (entries : List Entry) (verdict : CertVerdict) → IsSystemThenCertificate input sys entries → IsVerdict sys entries verdict →
+pub verify_answer : (input : List ℕ) (sys : TileSystem) (entries : List Entry) (verdict : CertVerdict) → IsSystemThen ReadsCertificate input sys entries → IsVerdict sys entries verdict →
     verdict ≡ Yes ↔ ((s : List Place) × IsCertified sys entries s) → IsVerifyAnswer input (is_verified verdict) (verified_line sys verdict)
 verify_answer input sys entries verdict read judged certified = record {
   sys = sys;

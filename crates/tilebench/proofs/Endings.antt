@@ -11,7 +11,7 @@ use Rattle.tilebench.specs.declared.stop.Stop.TheVariants.{Words, Counter, Text,
 use Rattle.tilebench.specs.Gains.{Gains}
 use Rattle.tilebench.specs.Headline.{Ends}
 use Rattle.counter_compile.specs.declared.stop.CounterStop.{CounterStop}
-use Rattle.tilebench.specs.Refusals.{refused_counter, refused_text}
+use Rattle.tilebench.specs.Refusals.{counter_stop_name, refused_text, refused_words}
 use Rattle.tilebench.specs.Statuses.{IsAnswered, answer_status}
 use Rattle.tilebench.specs.Rows.{AnswersLeft, RoomRow, FailsLeft}
 use Rattle.tilebench.specs.Inner.Gives.{GivesFromSource}
@@ -86,7 +86,7 @@ module _ {S K E : Type 0} (read_faults : S → ℕ) (written : K → Option (Lis
     fault_line : (fault : TextFault) → Fails fault → IsFaultLine Fails (refused_text fault)
     fault_line fault fails = record { fault = fault; is = fails; told = refl }
 
-    numbers_line : (stop : CounterStop) → Refuses stop → IsNumbersLine Refuses (refused_counter stop)
+    numbers_line : (stop : CounterStop) → Refuses stop → IsNumbersLine Refuses (refused_words (counter_stop_name stop))
     numbers_line stop refuses = record { stop = stop; is = refuses; told = refl }
 
     pub run_ended : (result : Result (A × Option GrownValue) Stop) (ran : Ran) → Given result → Told result ran → Ended ran.status ran.grown
@@ -104,10 +104,10 @@ module _ {S K E : Type 0} (read_faults : S → ℕ) (written : K → Option (Lis
         (inr (record { text = refused_text fault; said = inl (fault_line fault given.0); front = cut.front; fault = cut.fault }, same), refl)
     run_ended (Err (Counter stop)) ran given (inl whole, none, same) =
         ended_as ran status.Words None whole.is none
-        ((record { text = refused_counter stop; said = numbers_line stop given.0; whole = whole.whole }, same, given.1), refl)
+        ((record { text = refused_words (counter_stop_name stop); said = numbers_line stop given.0; whole = whole.whole }, same, given.1), refl)
     run_ended (Err (Counter stop)) ran given (inr cut, none, same) =
         ended_as ran status.WriteFault None cut.is none
-        (inr (record { text = refused_counter stop; said = inr (numbers_line stop given.0); front = cut.front; fault = cut.fault }, same), refl)
+        (inr (record { text = refused_words (counter_stop_name stop); said = inr (numbers_line stop given.0); front = cut.front; fault = cut.fault }, same), refl)
     run_ended (Err ReadFault) ran given ((is, same_err), none, same_out) = ended_as ran status.ReadFault None is none ((given, same_out, same_err), refl)
     run_ended (Err NoMemory) ran given ((is, same_err), none, same_out) = ended_as ran status.NoMemory None is none ((same_out, same_err), refl)
     run_ended (Err (Words stop)) ran given told = absurd given
@@ -123,7 +123,7 @@ module _ {S K E : Type 0} (read_faults : S → ℕ) (written : K → Option (Lis
     pub run_err_later : (result : Result (A × Option GrownValue) Stop) (ran : Ran) → Given result → Told result ran → err_faults err ≤ err_faults err_after
     run_err_later (Ok found) ran given (writes, same) = let equal : err_faults err_after ≡ err_faults err = ap err_faults same in omega arith
     run_err_later (Err (Text fault)) ran given (writes, none, same) = written_later told err_faults err err_after status.Text ran.status (refused_text fault) writes
-    run_err_later (Err (Counter stop)) ran given (writes, none, same) = written_later told err_faults err err_after status.Words ran.status (refused_counter stop) writes
+    run_err_later (Err (Counter stop)) ran given (writes, none, same) = written_later told err_faults err err_after status.Words ran.status (refused_words (counter_stop_name stop)) writes
     run_err_later (Err ReadFault) ran given ((is, same_err), none, same_out) = let equal : err_faults err_after ≡ err_faults err = ap err_faults same_err in omega arith
     run_err_later (Err NoMemory) ran given ((is, same_err), none, same_out) = let equal : err_faults err_after ≡ err_faults err = ap err_faults same_err in omega arith
     run_err_later (Err (Words stop)) ran given told = absurd given
@@ -175,6 +175,6 @@ module _ {S K E A : Type 0} (left : S → Option (List ℕ)) (read_faults : S �
           err_later = run_err_later read_faults written out_faults told err_faults source after out out_after err err_after positive text printable answers row.refuses fails result ran given tells;
           complete = λ ready source_quiet out_quiet err_quiet.
               run_complete read_faults written out_faults told err_faults source after out out_after err err_after positive text printable answers row.refuses fails
-              (λ fault faulty. held_or_faulty row.takes row.fails one_of_two (left source) (left after) fault (ready.takes faulty.reads) faulty.fails)
+              (λ fault faulty. held_or_faulty row.takes row.fails one_of_two (left source) (left after) fault (ready.takes faulty.0) faulty.1)
               ready.accepts source_quiet out_quiet err_quiet result ran given tells;
         }

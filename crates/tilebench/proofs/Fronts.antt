@@ -24,7 +24,7 @@ use Rattle.tilebench.specs.Inputs.{FailsWithin, IsWholeInput}
 use Rattle.tilebench.specs.Inner.Fronts.{IsFront, FailsAtFront}
 use Rattle.tilebench.specs.Inner.Gives.{AnswersFrom, Gives, GivesBehind, GivesRead}
 use Rattle.tilebench.specs.Inner.Stops.{stop_of_input, stop_of_read}
-use Rattle.tilebench.specs.Rows.{IsInputOf, RoomRow}
+use Rattle.tilebench.specs.Rows.{RoomRow}
 
 -- what was taken is this, behind nothing
 taken_all : (before after : Option (List ℕ)) (whole : List ℕ) → TakesOn before after [] whole → Consumes before after whole
@@ -49,7 +49,7 @@ module _ {S : Type 0} (left : S → Option (List ℕ)) (faults : S → ℕ) wher
     unread_behind Fails before source after front read.TooLong taken h =
         let all = h.0.0 in
         let long : length all ≡ 67108865 = h.0.2 in
-        (inl (record { taken = all; read = taken_all before (left after) all (taken_behind before (left source) (left after) front all taken h.0.1); long = omega (arith, long); told = refl }), h.1)
+        (inl (all, taken_all before (left after) all (taken_behind before (left source) (left after) front all taken h.0.1), omega (arith, long), refl), h.1)
     unread_behind Fails before source after front read.NoMemory taken h = h.1
 
     -- counts of faults are seen from the source before, where they did not fall
@@ -69,7 +69,7 @@ module _ {S : Type 0} (left : S → Option (List ℕ)) (faults : S → ℕ) wher
       -- a fault of the system
       pub front_stop : (source after : S) (stop : Stop) → GivesRead left faults IsFront FailsAtFront source after (Err stop) → GivesRead left faults Holds (FailsWithin ReadsAny FaultAny format) source after (Err stop)
       front_stop source after (Text fault) (inl long, later) = (inl long, later)
-      front_stop source after (Text fault) (inr faulty, later) = (inr (record { input = faulty.input; whole = faulty.whole; fails = inl faulty.fails }), later)
+      front_stop source after (Text fault) (inr faulty, later) = (inr (faulty.0, faulty.1, inl faulty.2), later)
       front_stop source after ReadFault h = h
       front_stop source after NoMemory h = h
       front_stop source after (Words stop) h = h
@@ -84,7 +84,7 @@ module _ {S : Type 0} (left : S → Option (List ℕ)) (faults : S → ℕ) wher
           let is = h.0.1 in
           let Reads : List ℕ → Type 0 = λ l. ReadsAny l first_mark sys end in
           let onward = subst Reads (sym is.taken.2) (any_on text is.taken.0 first_mark end sys (omega arith) reads) in
-          (inr (record { input = whole; whole = whole_input before (left source) (left after) text whole taken is; fails = inr (sys, record { end = end; reads = onward; rest = h.0.2 }) }), h.1)
+          (inr (whole, whole_input before (left source) (left after) text whole taken is, inr (sys, record { end = end; reads = onward; rest = h.0.2 })), h.1)
 
       pub blocks_stop : (source middle after : S) (front : SystemFront) (stop : InputStop) → IsFront (left source) (left middle) front → faults source ≤ faults middle →
           StopsInBlocks left faults (format front.sys) front.begun.text.items front.end middle after stop → GivesRead left faults Holds (FailsWithin ReadsAny FaultAny format) source after (Err (stop_of_input stop))
@@ -94,7 +94,7 @@ module _ {S : Type 0} (left : S → Option (List ℕ)) (faults : S → ℕ) wher
   -- the front of a whole text is faulty
   pub front_faulty : (before : Option (List ℕ)) (source after : S) (whole : List ℕ) (stop : Stop) → IsWholeInput before (left after) whole → faults source ≤ faults after →
       Gives {T = TileSystem × Mark} (λ found. ReadsAny whole first_mark found.0 found.1) (FailsAtFront whole) (Err stop) → GivesBehind before left faults IsFront FailsAtFront source after (Err stop)
-  front_faulty before source after whole (Text fault) is later h = (inr (record { input = whole; whole = is; fails = h }), later)
+  front_faulty before source after whole (Text fault) is later h = (inr (whole, is, h), later)
   front_faulty before source after whole NoMemory is later h = later
   front_faulty before source after whole ReadFault is later h = absurd h
   front_faulty before source after whole (Words stop) is later h = absurd h
@@ -103,15 +103,11 @@ module _ {S : Type 0} (left : S → Option (List ℕ)) (faults : S → ℕ) wher
   -- a stop of the reading is one of the command
   module _ {A T : Type 0} (positive : A → Bool) (text : A → List ℕ) (printable : A → Type 0) (row : RoomRow) (reads : row.reads ≡ true) (Holds : Option (List ℕ) → Option (List ℕ) → T → Type 0) where
     pub reading_stop : (source after : S) (stop : Stop) → GivesRead left faults Holds row.fails source after (Err stop) → AnswersFrom left faults positive text printable row source after (Err stop)
-    reading_stop source after (Text fault) h = (record { reads = reads; fails = h.0 }, h.1)
+    reading_stop source after (Text fault) h = ((reads, h.0), h.1)
     reading_stop source after ReadFault h = h
     reading_stop source after NoMemory h = h
     reading_stop source after (Words stop) h = h
     reading_stop source after (Counter stop) h = absurd h
-
-  -- an input of a command that reads
-  pub input_of : (row : RoomRow) → row.reads ≡ true → (before after : Option (List ℕ)) (input : List ℕ) → IsWholeInput before after input → IsInputOf row before after input
-  input_of row reads before after input is = record { whole = λ _. is; unread = λ no. absurd (cc (sym reads ∙ no)) }
 
 module _ {S : Type 0} (left : S → Option (List ℕ)) (source middle : S) (front : SystemFront) (is : IsFront (left source) (left middle) front) where
   -- the mark behind the front's system is one of each text that begins so

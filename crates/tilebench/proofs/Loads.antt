@@ -38,7 +38,7 @@ use Rattle.unique_law.proofs.OneOutcome.{one_full_growth, yes_in_some_order}
 use Rattle.tilebench.specs.declared.growth.Growth.{Growth}
 use Rattle.job_board.specs.AnswerText.{is_unique}
 use Rattle.tilebench.specs.Growths.{IsGrowth}
-use Rattle.tilebench.specs.Commands.Load.{IsLoadAnswer, load_bits, load_start, load_system, load_tiles, numbers_after_start, summary}
+use Rattle.tilebench.specs.Commands.Load.{IsLoadAnswer, load_bits, load_start, load_system, load_tiles, load_text}
 use Rattle.tilebench.specs.Inner.Rooms.{GrowsTo, outcome_of}
 use Rattle.tilebench.proofs.Headlines.{growth_of_deterministic}
 
@@ -64,7 +64,7 @@ load_accepted number =
     let some : 1 ≤ 2 ^ bits = let power = pow_pos bits in omega (arith, power) in
     let range : 0 < min (2 ^ bits) 512 = omega (arith, some) in
     let less = mod_below (number / 31) (min (2 ^ bits) 512) range in
-    let both = few_after (2 ^ bits) (numbers_after_start number) some less in
+    let both = few_after (2 ^ bits) (number / 31 % min (2 ^ bits) 512) some less in
     let few : number % 31 < 31 = mod_below number 31 (omega arith) in
     accepted_when bits (load_start number) (omega arith) (omega (arith, few)) both.0 both.1
 
@@ -205,7 +205,7 @@ module _ (sys : TileSystem) (seeds : HasDistinctSites sys.seeds) (found : HasDet
 
 pub load_told : (number bits start tiles : ℕ) (sys : TileSystem) (table : GrownValue) (growth : Growth) → bits ≡ load_bits number → start ≡ load_start number → sys ≡ counter_system bits start →
     IsGrownBy sys 4 table → GrowsTo sys table.grid.tiles growth → tiles ≡ length table.grid.tiles →
-    IsLoadAnswer number (Some table) (is_unique growth.verdict) (summary number bits start tiles growth.sys growth.outside growth.verdict)
+    IsLoadAnswer number (Some table) (is_unique growth.verdict) (load_text number bits start tiles growth.sys growth.outside growth.verdict)
 load_told number bits start tiles sys table growth bits_are start_is is_system grew grows count =
     let Bits = load_bits number in
     let Start = load_start number in
@@ -232,11 +232,11 @@ load_told number bits start tiles sys table growth bits_are start_is is_system g
       all = all;
       closed = shut;
       unique = verdict;
-      printed = ap (λ (b : ℕ). summary number b start tiles growth.sys growth.outside growth.verdict) bits_are
-          ∙ ap (λ (s : ℕ). summary number Bits s tiles growth.sys growth.outside growth.verdict) start_is
-          ∙ ap (λ (n : ℕ). summary number Bits Start n growth.sys growth.outside growth.verdict) many
-          ∙ ap (λ (s : TileSystem). summary number Bits Start (load_tiles number) s growth.outside growth.verdict) there
-          ∙ ap (λ (o : Option (Site × TypeId)). summary number Bits Start (load_tiles number) Sys o growth.verdict) shut
-          ∙ ap (λ (v : Verdict). summary number Bits Start (load_tiles number) Sys None v) verdict;
+      printed = ap (λ (b : ℕ). load_text number b start tiles growth.sys growth.outside growth.verdict) bits_are
+          ∙ ap (λ (s : ℕ). load_text number Bits s tiles growth.sys growth.outside growth.verdict) start_is
+          ∙ ap (λ (n : ℕ). load_text number Bits Start n growth.sys growth.outside growth.verdict) many
+          ∙ ap (λ (s : TileSystem). load_text number Bits Start (load_tiles number) s growth.outside growth.verdict) there
+          ∙ ap (λ (o : Option (Site × TypeId)). load_text number Bits Start (load_tiles number) Sys o growth.verdict) shut
+          ∙ ap (λ (v : Verdict). load_text number Bits Start (load_tiles number) Sys None v) verdict;
       answer = ap is_unique verdict;
     }

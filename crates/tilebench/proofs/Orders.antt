@@ -22,13 +22,14 @@ use Rattle.tile_io.specs.declared.fault.TextStop.{TextStop}
 use Rattle.tile_io.specs.Formats.{Format, ReadsOrStops}
 use Rattle.tile_text.specs.SystemText.{ReadsAny, FaultAny}
 use Rattle.tile_text.proofs.Eithers.{any_valid}
-use Rattle.tilebench.specs.Inputs.{FailsWithin, IsAssemblyOf, IsSystemThenPlacements}
+use Rattle.tilebench.specs.Inputs.{FailsWithin, IsAssemblyOf, IsSystemThen}
 use Rattle.tilebench.specs.Inner.Gives.{Gives}
 use Rattle.tilebench.specs.Inner.Stops.{stop_of_text}
 use Rattle.tile_io.specs.declared.fault.TextStop.TheVariants as stops
+use Rattle.seq_text.specs.GrowthText.{ReadsPlacements}
 
 -- the reordering of what was read is told
-order_told : (input : List ℕ) (sys : TileSystem) (places tiles : List Place) (reordering : Reordering) → IsSystemThenPlacements input sys places →
+order_told : (input : List ℕ) (sys : TileSystem) (places tiles : List Place) (reordering : Reordering) → IsSystemThen ReadsPlacements input sys places →
     IsReordering sys tiles reordering → TellsReordering sys tiles (is_whole reordering) (reordering_text sys reordering)
 order_told input sys places tiles (SeedMissing site) read reordered = inl (site, reordered, refl)
 order_told input sys places tiles (Stuck left least) read reordered = inr (left, least, reordered, refl)
@@ -44,7 +45,7 @@ order_told input sys places tiles (Whole order) read whole =
     }
 
 -- and is the answer
-pub replay_answer : (input : List ℕ) (sys : TileSystem) (places tiles : List Place) (reordering : Reordering) → IsSystemThenPlacements input sys places → IsAssemblyOf places tiles →
+pub replay_answer : (input : List ℕ) (sys : TileSystem) (places tiles : List Place) (reordering : Reordering) → IsSystemThen ReadsPlacements input sys places → IsAssemblyOf places tiles →
     IsReordering sys tiles reordering → IsReplayAnswer input (is_whole reordering) (reordering_text sys reordering)
 replay_answer input sys places tiles reordering read assembly reordered =
     record { sys = sys; places = places; read = read; tiles = tiles; assembly = assembly; told = order_told input sys places tiles reordering read reordered }

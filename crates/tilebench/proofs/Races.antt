@@ -1,6 +1,6 @@
 -- What workers win, one after another and together.
 use Rattle.std.proofs.Common.{◌≡◌, ◌≢◌, All, Bool, true, ◌∙◌, ◌<◌, ◌≤◌, ◌+◌, ◌-◌, ◌++◌, ℕ, zero, suc, List, [], ◌∷◌, length, drop, Some, refl, sym, ap, subst, arith, inl, inr, add-one}
-use Rattle.std.specs.Prelude.{slice_get, slice_index, sum, sum_by}
+use Rattle.std.specs.Prelude.{slice_get, slice_index, sum, sum_by, map, is_some}
 use Rattle.std.proofs.lemmas.Bool.{cases_lt}
 use Rattle.std.proofs.lemmas.List.Sums.{sum_by-append, sum_by-cons}
 use Rattle.atam.specs.declared.area.BoxArea.{BoxArea}
@@ -9,15 +9,17 @@ use Rattle.atam.specs.TileSystem.{TileSystem}
 use Rattle.site_table.specs.Seats.{GrownValue}
 use Rattle.grow_workers.specs.Workers.{IsGrownBy, worker_number}
 use Rattle.tilebench.specs.declared.wins.Win.{Win}
-use Rattle.tilebench.specs.Wins.{AreShares, AreWins, won_by}
+use Rattle.tilebench.specs.Wins.{AreShares, AreWins}
 use Rattle.tilebench.specs.Commands.Race.{IsRaceText, race_text}
 use Rattle.tilebench.specs.declared.growth.Growth.{Growth}
 use Rattle.job_board.specs.AnswerText.{is_unique}
 use Rattle.tilebench.specs.Growths.{IsGrowth}
-use Rattle.tilebench.specs.Commands.Report.{IsReportText, report_of}
+use Rattle.tilebench.specs.Commands.Report.{IsReportText}
 use Rattle.tilebench.specs.Inner.Races.{won_together}
 use Rattle.tilebench.specs.Inner.Rooms.{GrowsTo, outcome_of}
 use Rattle.tilebench.proofs.Growths.{producible_fits}
+use Rattle.report.specs.Reports.{report_line}
+use Rattle.tile_io.specs.Lines.{line_of}
 
 -- an element before the last, and the last
 push_before : (wins : List Win) (win : Win) (k : ℕ) → k < length wins → slice_get (wins ++ win ∷ []) k ≡ slice_get wins k
@@ -30,23 +32,23 @@ push_last [] win = refl
 push_last (x ∷ wins) win = push_last wins win
 
 -- one worker more
-pub wins_more : (counts : List ℕ) (wins : List Win) (n : ℕ) (win : Win) → length wins ≡ n → win ≡ record { worker = n; count = won_by counts n } →
-    ((w : ℕ) → w < n → slice_get wins w ≡ Some (record { worker = w; count = won_by counts w })) →
-    (w : ℕ) → w < n + 1 → slice_get (wins ++ win ∷ []) w ≡ Some (record { worker = w; count = won_by counts w })
+pub wins_more : (counts : List ℕ) (wins : List Win) (n : ℕ) (win : Win) → length wins ≡ n → win ≡ record { worker = n; count = slice_index counts (worker_number n) } →
+    ((w : ℕ) → w < n → slice_get wins w ≡ Some (record { worker = w; count = slice_index counts (worker_number w) })) →
+    (w : ℕ) → w < n + 1 → slice_get (wins ++ win ∷ []) w ≡ Some (record { worker = w; count = slice_index counts (worker_number w) })
 wins_more counts wins n win many is each w below = elim (cases_lt w n) [
   | inl earlier ↦ push_before wins win w (omega (arith, many, earlier)) ∙ each w earlier
   | inr last ↦
       let at : w ≡ length wins = omega (arith, many, below, last) in
       let at_n : w ≡ n = omega (arith, below, last) in
       ap (slice_get (wins ++ win ∷ [])) at ∙ push_last wins win ∙ ap (λ (o : Win). Some o) is
-      ∙ ap (λ (k : ℕ). Some (record { worker = k; count = won_by counts k })) (sym at_n)
+      ∙ ap (λ (k : ℕ). Some (record { worker = k; count = slice_index counts (worker_number k) })) (sym at_n)
 ]
 
-pub together_more : (counts : List ℕ) (wins : List Win) (n : ℕ) (win : Win) → win.count ≡ won_by counts n → sum_by (λ (w : Win). w.count) wins ≡ won_together counts n →
+pub together_more : (counts : List ℕ) (wins : List Win) (n : ℕ) (win : Win) → win.count ≡ slice_index counts (worker_number n) → sum_by (λ (w : Win). w.count) wins ≡ won_together counts n →
     sum_by (λ (w : Win). w.count) (wins ++ win ∷ []) ≡ won_together counts (n + 1)
 together_more counts wins n win is together =
     let sums = sum_by-append (λ (w : Win). w.count) wins (win ∷ []) in
-    let next : won_together counts (n + 1) ≡ won_together counts n + won_by counts n = ap (won_together counts) (add-one n) in
+    let next : won_together counts (n + 1) ≡ won_together counts n + slice_index counts (worker_number n) = ap (won_together counts) (add-one n) in
     omega (arith, sums, next, is, together)
 
 -- a sum without its first elements
@@ -133,12 +135,14 @@ race_told workers sys table area wins total some few grew same inside won togeth
 -- the report of a growth tells what it grew into, and the wins of all workers
 pub report_told : (workers : ℕ) (sys : TileSystem) (table : GrownValue) (growth : Growth) (wins : List Win) (tiles : ℕ) (text : List ℕ) (is_yes : Bool) → 1 ≤ workers → workers ≤ 16 →
     IsGrownBy sys workers table → GrowsTo sys table.grid.tiles growth → AreWins workers table.won wins → sum_by (λ (win : Win). win.count) wins ≡ won_together table.won workers →
-    tiles ≡ length table.grid.tiles → text ≡ report_of growth.sys tiles (outcome_of growth) wins → is_yes ≡ is_unique growth.verdict → IsReportText workers sys table is_yes text
-report_told workers sys table growth wins tiles text is_yes some few grew grows won together count printed answer = record {
-  outcome = outcome_of growth;
-  grown = subst (λ (s : TileSystem). IsGrowth s table.grid.tiles (outcome_of growth)) grows.same grows.grown;
-  wins = wins;
-  shares = shares_of workers sys table wins some few grew won together;
-  printed = printed ∙ ap (λ (s : TileSystem). report_of s tiles (outcome_of growth) wins) grows.same ∙ ap (λ (n : ℕ). report_of sys n (outcome_of growth) wins) count;
-  answer = answer;
-}
+    tiles ≡ length table.grid.tiles → text ≡ line_of (report_line growth.sys tiles (map (λ (win : Win). win.count) wins) (is_some growth.outside) (is_unique growth.verdict) ∷ []) → is_yes ≡ is_unique growth.verdict → IsReportText workers sys table is_yes text
+report_told workers sys table growth wins tiles text is_yes some few grew grows won together count printed answer =
+    let line : TileSystem → ℕ → List ℕ = λ s n. line_of (report_line s n (map (λ (win : Win). win.count) wins) (is_some growth.outside) (is_unique growth.verdict) ∷ []) in
+    record {
+      outcome = outcome_of growth;
+      grown = subst (λ (s : TileSystem). IsGrowth s table.grid.tiles (outcome_of growth)) grows.same grows.grown;
+      wins = wins;
+      shares = shares_of workers sys table wins some few grew won together;
+      printed = printed ∙ ap (λ (s : TileSystem). line s tiles) grows.same ∙ ap (λ (n : ℕ). line sys n) count;
+      answer = answer;
+    }

@@ -29,7 +29,8 @@ use Rattle.tile_text.proofs.PrintLemmas.{has_version}
 use Rattle.tile_text.proofs.SystemSpelled.{printed_any}
 use Rattle.seq_text.specs.PrintedGrowths.{MayBeOpen, MayBePrinted, MayBeTold, growth_lines}
 use Rattle.seq_text.proofs.Printed.{printed_reads, behind_system}
-use Rattle.tilebench.specs.Inputs.{IsSystemThenPlacements, IsSystemThenSequence}
+use Rattle.tilebench.specs.Inputs.{IsSystemThen}
+use Rattle.seq_text.specs.GrowthText.{ReadsSequence, ReadsPlacements}
 
 module _ (sys : TileSystem) (valid : IsValid sys) where
   -- ---- a pull is a number of the machine
@@ -94,9 +95,9 @@ module _ (sys : TileSystem) (valid : IsValid sys) where
   -- ---- and so it reads back
 
   pub sequence_back : (places : List Place) (closed : Option (Option (Site × TypeId))) (verdict : Option Verdict) (text : List ℕ) → MayBePrinted sys places closed verdict →
-      text ≡ growth_lines sys places closed verdict → IsSystemThenSequence (spelling sys ++ text) sys places
+      text ≡ growth_lines sys places closed verdict → IsSystemThen ReadsSequence (spelling sys ++ text) sys places
   sequence_back places closed verdict text may is =
-      let Back : List ℕ → Type 0 = λ lines. IsSystemThenSequence (spelling sys ++ lines) sys places in
+      let Back : List ℕ → Type 0 = λ lines. IsSystemThen ReadsSequence (spelling sys ++ lines) sys places in
       let lines = growth_lines sys places closed verdict in
       subst Back (sym is) (record {
         end = end_of_print (version_of sys) sys first_mark;
@@ -105,9 +106,9 @@ module _ (sys : TileSystem) (valid : IsValid sys) where
       })
 
   pub placements_back : (places : List Place) (closed : Option (Option (Site × TypeId))) (verdict : Option Verdict) (text : List ℕ) → MayBePrinted sys places closed verdict →
-      HasDistinctSites places → text ≡ growth_lines sys places closed verdict → IsSystemThenPlacements (spelling sys ++ text) sys places
+      HasDistinctSites places → text ≡ growth_lines sys places closed verdict → IsSystemThen ReadsPlacements (spelling sys ++ text) sys places
   placements_back places closed verdict text may distinct is =
-      let Back : List ℕ → Type 0 = λ lines. IsSystemThenPlacements (spelling sys ++ lines) sys places in
+      let Back : List ℕ → Type 0 = λ lines. IsSystemThen ReadsPlacements (spelling sys ++ lines) sys places in
       let lines = growth_lines sys places closed verdict in
       subst Back (sym is) (record {
         end = end_of_print (version_of sys) sys first_mark;

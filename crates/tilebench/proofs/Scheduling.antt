@@ -17,10 +17,15 @@ use Rattle.atam.specs.declared.event.CoreStop.{CoreStop}
 use Rattle.atam.specs.declared.event.CoreStop.TheVariants.{NoMemory}
 use Rattle.grow_core.specs.Core.{CoreState, places, CoreInvariant}
 use Rattle.grow_core.specs.Steps.{place, CoreStep, CoreRun, no_such_scout, no_other_scout, same_scout, looks_outside, claims_outside, unsupported, one_number, no_memory, saw_none, saw_tile, won, held, divided, joined, stopped, stepped}
-use Rattle.seq_text.specs.SeenLines.{HasLine}
+use Rattle.seq_text.specs.SeenLines.{HasLine, seen_lines}
 use Rattle.tilebench.specs.declared.commands.schedule.Scheduled.{Scheduled}
-use Rattle.tilebench.specs.Commands.Schedule.{IsRunOf, IsScheduleAnswer, IsSystemThenEvents, are_answered, schedule_text}
+use Rattle.tilebench.specs.Commands.Schedule.{IsRunOf, IsScheduleAnswer}
+use Rattle.tilebench.specs.Inputs.{IsSystemThen}
 use Rattle.tilebench.specs.Inner.Rooms.{Schedules, replies_of}
+use Rattle.seq_text.specs.ScheduleText.{ReadsEvents}
+use Rattle.seq_text.specs.GrowthLines.{place_lines}
+use Rattle.std.specs.List.{list_all}
+use Rattle.std.specs.Prelude.{◌++◌, is_ok}
 
 -- one more event
 run_more : (sys : TileSystem) (s t u : CoreState) (answered : List (Event × Result Seen CoreStop)) (event : Event) (reply : Result Seen CoreStop) →
@@ -84,12 +89,12 @@ core_fits sys s sound = record {
 }
 
 -- what the events of a schedule came to is the answer to its text
-pub schedule_answer : (input : List ℕ) (sys : TileSystem) (events : List Event) (scheduled : Scheduled) → IsSystemThenEvents input sys events → Schedules sys events scheduled →
-    IsScheduleAnswer input (are_answered scheduled.replies.items) (schedule_text scheduled.sys (replies_of scheduled))
+pub schedule_answer : (input : List ℕ) (sys : TileSystem) (events : List Event) (scheduled : Scheduled) → IsSystemThen ReadsEvents input sys events → Schedules sys events scheduled →
+    IsScheduleAnswer input (list_all is_ok scheduled.replies.items) (seen_lines scheduled.sys scheduled.replies.items ++ place_lines scheduled.sys scheduled.order)
 schedule_answer input sys events scheduled read done = record {
   sys = scheduled.sys;
   events = events;
-  read = subst (λ (s : TileSystem). IsSystemThenEvents input s events) (sym done.same) read;
+  read = subst (λ (s : TileSystem). IsSystemThen ReadsEvents input s events) (sym done.same) read;
   schedule = replies_of scheduled;
   replied = done.replied;
   printed = refl;

@@ -2,7 +2,8 @@
 use Rattle.std.proofs.Common.{◌≡◌, ◌≤◌, ◌+◌, ◌++◌, ◌∙◌, ℕ, List, length, Option, Some, None, ap, subst, arith, inl, inr, append-nil, length-append}
 use Rattle.std.specs.Io.KnownBytes.{Consumes, IsAtEnd}
 use Rattle.tile_io.specs.declared.fault.TextFault.{TextFault}
-use Rattle.tilebench.specs.Inputs.{FailsInput, HoldsInput}
+use Rattle.tile_io.specs.declared.limits.TheConstants.{MOST_INPUT}
+use Rattle.tilebench.specs.Inputs.{FailsInput}
 
 -- what was taken of known bytes is at most these
 taken_within : (left : List ℕ) (left_after : Option (List ℕ)) (taken : List ℕ) → Consumes (Some left) left_after taken → length taken ≤ length left
@@ -18,12 +19,12 @@ taken_all left (Some rest) taken read at_end = read ∙ ap (λ l. taken ++ l) at
 
 -- where an input is held that is taken, no fault of it is told
 module _ (Takes : List ℕ → Type 0) (Fails : List ℕ → TextFault → Type 0) (one_of_two : (input : List ℕ) (fault : TextFault) → Takes input → Fails input fault → ⊥) where
-  pub held_or_faulty : (left left_after : Option (List ℕ)) (fault : TextFault) → HoldsInput Takes left → FailsInput Fails left left_after fault → ⊥
-  held_or_faulty left left_after fault holds (inl long) =
-      let read : Consumes (Some holds.input) left_after long.taken = subst (λ (known : Option (List ℕ)). Consumes known left_after long.taken) holds.known long.read in
-      let few = taken_within holds.input left_after long.taken read in
-      omega (arith, few, long.long, holds.short)
-  held_or_faulty left left_after fault holds (inr faulty) =
-      let read : Consumes (Some holds.input) left_after faulty.input = subst (λ (known : Option (List ℕ)). Consumes known left_after faulty.input) holds.known faulty.whole.read in
-      let same = taken_all holds.input left_after faulty.input read faulty.whole.at_end in
-      one_of_two faulty.input fault (subst Takes same holds.takes) faulty.fails
+  pub held_or_faulty : (left left_after : Option (List ℕ)) (fault : TextFault) → ((input : List ℕ) × (left ≡ Some input) × (length input ≤ MOST_INPUT) × Takes input) → FailsInput Fails left left_after fault → ⊥
+  held_or_faulty left left_after fault (input, known, short, takes) (inl (taken, consumes, long, told)) =
+      let read : Consumes (Some input) left_after taken = subst (λ (known : Option (List ℕ)). Consumes known left_after taken) known consumes in
+      let few = taken_within input left_after taken read in
+      omega (arith, few, long, short)
+  held_or_faulty left left_after fault (input, known, short, takes) (inr (whole, is, fails)) =
+      let read : Consumes (Some input) left_after whole = subst (λ (known : Option (List ℕ)). Consumes known left_after whole) known is.read in
+      let same = taken_all input left_after whole read is.at_end in
+      one_of_two whole fault (subst Takes same takes) fails

@@ -15,7 +15,7 @@ use Rattle.tile_text.proofs.PrintLemmas.{has_version}
 use Rattle.tile_text.proofs.SystemSpelled.{printed_any}
 use Rattle.seq_text.proofs.Printed.{behind_text}
 use Rattle.tilebench.specs.Inputs.{IsAlone}
-use Rattle.tilebench.specs.Spelled.{SpellsNewest, SpellsSystem}
+use Rattle.tilebench.specs.Spelled.{SpellsSystem}
 
 no_lines : lines_of [] ≡ []
 unfolding lines_of
@@ -41,8 +41,8 @@ alone_back version sys valid has =
       rest = nothing_left (text ++ []) end (behind_text version sys []);
     })
 
-pub spelled : (sys : TileSystem) → IsValid sys → SpellsSystem sys (spelling sys)
+pub spelled : (sys : TileSystem) → IsValid sys → SpellsSystem spelling sys (spelling sys)
 spelled sys valid = record { printed = refl; valid = valid; reads_back = alone_back (version_of sys) sys valid (has_version sys) }
 
-pub spelled_newest : (sys : TileSystem) → IsValid sys → SpellsNewest sys (newest_spelling sys)
+pub spelled_newest : (sys : TileSystem) → IsValid sys → SpellsSystem newest_spelling sys (newest_spelling sys)
 spelled_newest sys valid = record { printed = refl; valid = valid; reads_back = alone_back Two sys valid tt }

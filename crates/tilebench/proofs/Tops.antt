@@ -8,45 +8,43 @@ use Rattle.command_line.specs.declared.commands.CommandName.{CommandName}
 use Rattle.command_line.specs.declared.frame_count.FrameCount.{FrameCount}
 use Rattle.command_line.specs.declared.words_stop.WordsStop.{WordsStop}
 use Rattle.command_line.specs.declared.words_stop.WordsStop.TheVariants.{NoCommand, Usage, NoMemory}
-use Rattle.command_line.specs.Commands.{IsCallOf, IsTaken, IsUsage, command_named, name_of}
+use Rattle.command_line.specs.Commands.{IsCallOf, IsTaken, IsUsage, command_named, words_stop_name, said_by}
 use Rattle.command_line.proofs.CallLemmas.{call_once, taken_not_usage}
 use Rattle.site_table.specs.Seats.{GrownValue}
 use Rattle.tilebench.specs.declared.status.Ran.{Ran}
 use Rattle.tilebench.specs.declared.status.Status.{Status}
 use Rattle.tilebench.specs.declared.status.Status.TheVariants as status
 use Rattle.tilebench.specs.Gains.{Gains}
-use Rattle.tilebench.specs.Headline.{Ends, IsAnswer, IsBatchHeadline, IsDue, IsHeadline, IsTextRefusal, IsWatchedHeadline, IsWordsRefusal}
+use Rattle.tilebench.specs.Headline.{Ends, IsAnswer, IsBatchHeadline, IsDue, IsHeadline, IsTextRefusal, IsWatchedHeadline, IsWordsRefusal, no_command, numbers, usage}
 use Rattle.tilebench.specs.Inputs.{AnswersInput}
 use Rattle.tilebench.specs.Rows.{AnswersLeft, FailsLeft}
 use Rattle.tilebench.specs.Commands.{room_of}
-use Rattle.tilebench.specs.Commands.Batch.{batch_row}
-use Rattle.tilebench.specs.Commands.Grow.{grow_row}
-use Rattle.tilebench.specs.Commands.Watch.{watch_row}
-use Rattle.tilebench.specs.Refusals.{IsReadingCall, IsRefusedAs, refused_words}
+use Rattle.tilebench.specs.Refusals.{IsReadingCall, refused_words}
 use Rattle.tilebench.specs.Inner.Stops.{stop_of_words}
 use Rattle.tilebench.specs.Statuses.{IsAnswered, answer_status}
 use Rattle.tilebench.specs.Inner.Runs.{EndsCommand, IsFaultLine, IsNumbersLine}
 use Rattle.tilebench.specs.Inner.Tells.{Refuses, Writes}
 use Rattle.tilebench.proofs.Endings.{Ends-map, written_later}
 use Rattle.tilebench.proofs.Headlines.{batch_headline, headline, watched_headline}
+use Rattle.tilebench.specs.Inner.CommandRows.{batch_row, grow_row, watch_row}
 
 -- the growth answer to what was left of the source
-headline_of : (workers : ℕ) (grown : Option GrownValue) (left left_after : Option (List ℕ)) (is_yes : Bool) (text : List ℕ) →
+headline_of : (workers : WorkerCount) (grown : Option GrownValue) (left left_after : Option (List ℕ)) (is_yes : Bool) (text : List ℕ) →
     AnswersLeft (grow_row workers) grown left left_after is_yes text → AnswersInput IsHeadline left left_after is_yes text
 headline_of workers grown left left_after is_yes text answer =
-    record { input = answer.input; whole = answer.read.whole refl; answer = headline workers grown answer.input is_yes text answer.answer }
+    record { input = answer.input; whole = answer.whole refl; answer = headline workers.count grown answer.input is_yes text answer.answer }
 
 -- and that of a watched growth
-watched_headline_of : (workers frames : ℕ) (grown : Option GrownValue) (left left_after : Option (List ℕ)) (is_yes : Bool) (text : List ℕ) →
-    AnswersLeft (watch_row workers frames) grown left left_after is_yes text → AnswersInput (IsWatchedHeadline frames) left left_after is_yes text
+watched_headline_of : (workers : WorkerCount) (frames : FrameCount) (grown : Option GrownValue) (left left_after : Option (List ℕ)) (is_yes : Bool) (text : List ℕ) →
+    AnswersLeft (watch_row workers frames) grown left left_after is_yes text → AnswersInput (IsWatchedHeadline frames.count) left left_after is_yes text
 watched_headline_of workers frames grown left left_after is_yes text answer =
-    record { input = answer.input; whole = answer.read.whole refl; answer = watched_headline workers frames grown answer.input is_yes text answer.answer }
+    record { input = answer.input; whole = answer.whole refl; answer = watched_headline workers.count frames.count grown answer.input is_yes text answer.answer }
 
 -- and that of a batch
-batch_headline_of : (grown : Option GrownValue) (left left_after : Option (List ℕ)) (is_yes : Bool) (text : List ℕ) →
-    AnswersLeft batch_row grown left left_after is_yes text → AnswersInput IsBatchHeadline left left_after is_yes text
-batch_headline_of grown left left_after is_yes text answer =
-    record { input = answer.input; whole = answer.read.whole refl; answer = batch_headline answer.input is_yes text answer.answer.told }
+batch_headline_of : (workers : WorkerCount) (grown : Option GrownValue) (left left_after : Option (List ℕ)) (is_yes : Bool) (text : List ℕ) →
+    AnswersLeft (batch_row workers) grown left left_after is_yes text → AnswersInput IsBatchHeadline left left_after is_yes text
+batch_headline_of workers grown left left_after is_yes text answer =
+    record { input = answer.input; whole = answer.whole refl; answer = batch_headline answer.input is_yes text answer.answer.told }
 
 module _ {S K E : Type 0} (left : S → Option (List ℕ)) (read_faults : S → ℕ) (written : K → Option (List ℕ)) (out_faults : K → ℕ) (told : E → Option (List ℕ)) (err_faults : E → ℕ)
     (words : List (List ℕ)) (source after : S) (out out_after : K) (err err_after : E) where
@@ -64,7 +62,7 @@ module _ {S K E : Type 0} (left : S → Option (List ℕ)) (read_faults : S → 
         (IsFaultLine (FailsLeft (room_of command) (left source) (left after))) (IsTextRefusal words (left source) (left after)) (IsNumbersLine (room_of command).refuses) (IsWordsRefusal words)
         (λ grown is_yes text answer. record { command = command; called = called; answer = answer })
         (λ text line. record { command = command; called = called; fault = line.fault; fails = line.is; told = line.told })
-        (λ text line. inr (record { command = command; called = called; stop = line.stop; refuses = line.is; told = line.told })) ran.status ran.grown run.ends
+        (λ text line. numbers command line.stop called line.is line.told) ran.status ran.grown run.ends
 
     abbrev Run : Status → Type 0
     Run s = Ends read_faults written out_faults told err_faults (λ grown. AnswersLeft (room_of command) grown (left source) (left after))
@@ -90,20 +88,20 @@ module _ {S K E : Type 0} (left : S → Option (List ℕ)) (read_faults : S → 
 
     pub call_grown : (workers : WorkerCount) (choice : ℕ) (is_yes : Bool) → IsCallOf words (Grow workers choice) → ran.status ≡ answer_status is_yes →
         Gains written out_faults (AnswersInput IsHeadline (left source) (left after) is_yes) out out_after
-    call_grown workers choice is_yes = call_said (Grow workers choice) (AnswersInput IsHeadline (left source) (left after)) (headline_of workers.count ran.grown (left source) (left after)) is_yes
+    call_grown workers choice is_yes = call_said (Grow workers choice) (AnswersInput IsHeadline (left source) (left after)) (headline_of workers ran.grown (left source) (left after)) is_yes
 
     pub call_watched : (workers : WorkerCount) (choice : ℕ) (frames : FrameCount) (is_yes : Bool) → IsCallOf words (Watch workers choice frames) → ran.status ≡ answer_status is_yes →
         Gains written out_faults (AnswersInput (IsWatchedHeadline frames.count) (left source) (left after) is_yes) out out_after
     call_watched workers choice frames is_yes =
-        call_said (Watch workers choice frames) (AnswersInput (IsWatchedHeadline frames.count) (left source) (left after)) (watched_headline_of workers.count frames.count ran.grown (left source) (left after)) is_yes
+        call_said (Watch workers choice frames) (AnswersInput (IsWatchedHeadline frames.count) (left source) (left after)) (watched_headline_of workers frames ran.grown (left source) (left after)) is_yes
 
     pub call_batched : (workers : WorkerCount) (is_yes : Bool) → IsCallOf words (Batch workers) → ran.status ≡ answer_status is_yes →
         Gains written out_faults (AnswersInput IsBatchHeadline (left source) (left after) is_yes) out out_after
     call_batched workers is_yes =
-        call_said (Batch workers) (AnswersInput IsBatchHeadline (left source) (left after)) (batch_headline_of ran.grown (left source) (left after)) is_yes
+        call_said (Batch workers) (AnswersInput IsBatchHeadline (left source) (left after)) (batch_headline_of workers ran.grown (left source) (left after)) is_yes
 
     pub call_named : command_named words ≡ None → ⊥
-    call_named unnamed = let other : None ≡ Some (name_of command) = sym unnamed ∙ called.named in cc
+    call_named unnamed = let other : None ≡ Some (said_by command).0 = sym unnamed ∙ called.named in cc
 
     pub call_complete : IsDue words (left source) → ¬ Rose (read_faults source) (read_faults after) → ¬ Rose (out_faults out) (out_faults out_after) →
         ¬ Rose (err_faults err) (err_faults err_after) → IsAnswered ran.status ⊎ (ran.status ≡ status.NoMemory)
@@ -131,19 +129,17 @@ module _ {S K E : Type 0} (left : S → Option (List ℕ)) (read_faults : S → 
   abbrev Unanswered : Status → Type 0
   Unanswered s = Ended source s None
 
-  words_ended : (stop : WordsStop) → IsRefusedAs words stop → (s : Status) → Writes told err_faults err err_after status.Words s (refused_words stop) → out_after ≡ out → Ended source s None
-  words_ended stop refused s (inl whole) same =
-      subst Unanswered (sym whole.is)
-      ((record { text = refused_words stop; said = inl (record { stop = stop; refused = refused; told = refl }); whole = whole.whole }, same, refl), refl)
-  words_ended stop refused s (inr cut) same =
-      subst Unanswered (sym cut.is)
-      (inr (record { text = refused_words stop; said = inr (inl (record { stop = stop; refused = refused; told = refl })); front = cut.front; fault = cut.fault }, same), refl)
+  words_ended : (text : List ℕ) → IsWordsRefusal words text → (s : Status) → Writes told err_faults err err_after status.Words s text → out_after ≡ out → Ended source s None
+  words_ended text refused s (inl whole) same =
+      subst Unanswered (sym whole.is) ((record { text = text; said = refused; whole = whole.whole }, same, refl), refl)
+  words_ended text refused s (inr cut) same =
+      subst Unanswered (sym cut.is) (inr (record { text = text; said = inr refused; front = cut.front; fault = cut.fault }, same), refl)
 
   pub stop_ended : (stop : WordsStop) → (stop ≡ NoCommand → command_named words ≡ None) → (stop ≡ Usage → IsUsage words) → (s : Status) →
       Refuses told err_faults err err_after (stop_of_words stop) s → out_after ≡ out → Ended source s None
-  stop_ended NoCommand unnamed usage s refuses same = words_ended NoCommand (unnamed refl) s refuses same
-  stop_ended Usage unnamed usage s refuses same = words_ended Usage (usage refl) s refuses same
-  stop_ended NoMemory unnamed usage s (is, same_err) same = subst Unanswered (sym is) ((same, same_err), refl)
+  stop_ended NoCommand unnamed refused s refuses same = words_ended (refused_words (words_stop_name NoCommand)) (no_command (unnamed refl) refl) s refuses same
+  stop_ended Usage unnamed refused s refuses same = words_ended (refused_words (words_stop_name Usage)) (usage (refused refl) refl) s refuses same
+  stop_ended NoMemory unnamed refused s (is, same_err) same = subst Unanswered (sym is) ((same, same_err), refl)
 
 module _ {E : Type 0} (told : E → Option (List ℕ)) (err_faults : E → ℕ) (words : List (List ℕ)) (err err_after : E) where
   -- no stop at the words is told as an answer or a read fault
@@ -180,15 +176,15 @@ module _ {E : Type 0} (told : E → Option (List ℕ)) (err_faults : E → ℕ) 
   stop_unnamed NoMemory s refuses is = cc
 
   pub stop_later : (stop : WordsStop) (s : Status) → Refuses told err_faults err err_after (stop_of_words stop) s → err_faults err ≤ err_faults err_after
-  stop_later NoCommand s writes = written_later told err_faults err err_after status.Words s (refused_words NoCommand) writes
-  stop_later Usage s writes = written_later told err_faults err err_after status.Words s (refused_words Usage) writes
+  stop_later NoCommand s writes = written_later told err_faults err err_after status.Words s (refused_words (words_stop_name NoCommand)) writes
+  stop_later Usage s writes = written_later told err_faults err err_after status.Words s (refused_words (words_stop_name Usage)) writes
   stop_later NoMemory s (is, same) = let equal : err_faults err_after ≡ err_faults err = ap err_faults same in omega arith
 
   pub stop_complete : (stop : WordsStop) (s : Status) → (stop ≡ NoCommand → command_named words ≡ None) → (stop ≡ Usage → IsUsage words) →
       Refuses told err_faults err err_after (stop_of_words stop) s → (name : CommandName) → IsTaken words name → s ≡ status.NoMemory
-  stop_complete NoCommand s unnamed usage refuses name taken = let other : None ≡ Some name = sym (unnamed refl) ∙ taken.named in cc
-  stop_complete Usage s unnamed usage refuses name taken = absurd (taken_not_usage words name taken (usage refl))
-  stop_complete NoMemory s unnamed usage (is, same) name taken = is
+  stop_complete NoCommand s unnamed refused refuses name taken = let other : None ≡ Some name = sym (unnamed refl) ∙ taken.named in cc
+  stop_complete Usage s unnamed refused refuses name taken = absurd (taken_not_usage words name taken (refused refl))
+  stop_complete NoMemory s unnamed refused (is, same) name taken = is
 
 -- an error is of one stop
 pub same_stop : {T : Type 0} (stop other : WordsStop) → (let Stopped : WordsStop → Result T WordsStop = λ s. Err s in Stopped stop ≡ Stopped other) → stop ≡ other

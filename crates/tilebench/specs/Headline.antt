@@ -1,11 +1,11 @@
 -- What the top call promises.
-use Rattle.std.specs.Prelude.{◌≡◌, ◌↔◌, ◌⊎◌, ◌++◌, ℕ, Bool, true, false, List, All, Option, None, Some}
+use Rattle.std.specs.Prelude.{◌≡◌, ◌↔◌, ◌⊎◌, ◌++◌, ℕ, Bool, true, false, List, All, Option, None, Some, codes}
 use Rattle.std.specs.List.{AllZip, list_all}
 use Rattle.atam.specs.declared.verdict.Verdict.TheVariants.{NotTerminal}
 use Rattle.tilebench.specs.declared.status.Status.TheVariants.{Done, No, Words, Text, ReadFault, WriteFault, NoMemory}
-use Rattle.tilebench.specs.Terms.{Command, CommandName, CounterStop, WordsStop, IsCallOf, IsTaken, IsRefusedAs, refused_counter, refused_words, room_of}
+use Rattle.tilebench.specs.Terms.{Command, CommandName, CounterStop, IsCallOf, IsTaken, IsUsage, command_named, counter_stop_name, refused_words, room_of}
 use Rattle.tilebench.specs.Terms.{Status, TextFault, Rose, Gains, GainsFront, AnswersLeft, FailsLeft, IsReadyFor, refused_text}
-use Rattle.tilebench.specs.Terms.{GrownValue, Outcome, IsOutcome, IsSystemThenSequence, spelling, Place, TileSystem, ReadsAny, IsAlone, IsGrowth, IsLegal, SamePlacements, growth_text}
+use Rattle.tilebench.specs.Terms.{GrownValue, Outcome, IsOutcome, IsSystemThen, ReadsSequence, spelling, Place, TileSystem, ReadsAny, IsAlone, IsGrowth, IsLegal, SamePlacements, growth_text}
 use Rattle.tilebench.specs.Terms.{IsClosedInBox, IsLeastOpenOutside, IsLocallyDeterministic, IsDeterministicInBox, IsDeterministicInSomeOrder, GrowsInto, IsWatchAnswer}
 use Rattle.tilebench.specs.Terms.{InBox, IsDeterministicWithin, IsYesWithin, LiesInBox, Site, TypeId}
 use Rattle.tilebench.specs.Terms.{AnswerEach, Job, IsBatch, batch_text, is_unique}
@@ -16,22 +16,17 @@ pub record IsAnswer (words : List (List ℕ)) (left left_after : Option (List �
   pub called : IsCallOf words command
   pub answer : AnswersLeft (room_of command) grown left left_after is_yes text
 
--- A refusal of the list of words: the first names no command, or clap finds a fault in the list and does not promise to take it.
-pub record IsListRefusal (words : List (List ℕ)) (text : List ℕ) : Type 0 where
-  pub stop : WordsStop
-  pub refused : IsRefusedAs words stop
-  pub told : text ≡ refused_words stop
-
--- A refusal of the numbers among the words: these call for a command that refuses them.
-pub record IsNumbersRefusal (words : List (List ℕ)) (text : List ℕ) : Type 0 where
-  pub command : Command
-  pub called : IsCallOf words command
-  pub stop : CounterStop
-  pub refuses : (room_of command).refuses stop
-  pub told : text ≡ refused_counter stop
-
-abbrev pub IsWordsRefusal : List (List ℕ) → List ℕ → Type 0
-IsWordsRefusal words text = IsListRefusal words text ⊎ IsNumbersRefusal words text
+-- A refusal of the words, by its reason.
+pub data IsWordsRefusal (words : List (List ℕ)) (text : List ℕ) : Type 0 where
+  -- the first word names no command
+  no_command : command_named words ≡ None → text ≡ refused_words (codes "NoCommand") →
+      IsWordsRefusal words text
+  -- clap finds a fault in the list, and does not promise to take it
+  usage : IsUsage words → text ≡ refused_words (codes "Usage") → IsWordsRefusal words text
+  -- the words call for a command that refuses the numbers among them
+  numbers : (command : Command) (stop : CounterStop) → IsCallOf words command →
+      (room_of command).refuses stop → text ≡ refused_words (counter_stop_name stop) →
+      IsWordsRefusal words text
 
 -- A refusal of the input: the words call for a command, and this is the first fault of what was left of the source.
 pub record IsTextRefusal (words : List (List ℕ)) (left left_after : Option (List ℕ)) (text : List ℕ) : Type 0 where
@@ -79,7 +74,7 @@ pub record IsHeadline (input : List ℕ) (is_yes : Bool) (text : List ℕ) : Typ
   pub legal : IsLegal sys outcome.order
   pub same : SamePlacements outcome.order tiles
   -- and behind the spelling of the system they read as this sequence
-  pub reads_back : IsSystemThenSequence (spelling sys ++ text) sys outcome.order
+  pub reads_back : IsSystemThen ReadsSequence (spelling sys ++ text) sys outcome.order
   -- nothing extends the assembly in the box, nor outside it unless a site is named
   pub closed : IsClosedInBox sys tiles
   pub outside : IsLeastOpenOutside sys tiles outcome.outside

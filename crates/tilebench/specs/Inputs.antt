@@ -1,5 +1,5 @@
 -- The input of a command, and its faults.
-use Rattle.std.specs.Prelude.{◌≡◌, ◌⊎◌, ◌<◌, ◌≤◌, ℕ, Bool, List, length, Option, Some}
+use Rattle.std.specs.Prelude.{◌≡◌, ◌⊎◌, ◌<◌, ◌≤◌, ℕ, Bool, List, length, Option}
 use Rattle.std.specs.Io.KnownBytes.{Consumes, IsAtEnd}
 use Rattle.tile_io.specs.declared.fault.Cause.{Cause}
 use Rattle.tile_io.specs.declared.fault.Cause.TheVariants.{TooLong}
@@ -14,11 +14,8 @@ use Rattle.atam.specs.declared.place.Place.{Place}
 use Rattle.atam.specs.TileSystem.{TileSystem}
 use Rattle.atam.specs.Placements.{HasDistinctSites, SamePlacements}
 use Rattle.tile_text.specs.SystemText.{ReadsAny}
-use Rattle.seq_text.specs.GrowthText.{ReadsPlacements, ReadsSequence}
-use Rattle.cert_check.specs.declared.entry.Entry.{Entry}
-use Rattle.cert_text.specs.CertificateText.{ReadsCertificate}
 use Rattle.job_board.specs.declared.job.Job.{Job}
-use Rattle.job_board.specs.BatchText.{FaultBatch, ReadsBatch}
+use Rattle.job_board.specs.BatchText.{ReadsBatch}
 
 -- the input is the text of this value, as its kind of text is read, and then what may stand behind it
 pub record IsTextThen {Value : Type 0} (IsText : List ℕ → Mark → Value → Mark → Type 0) (IsRest : Value → Mark → Type 0) (input : List ℕ) (value : Value) : Type 0 where
@@ -30,20 +27,11 @@ pub record IsTextThen {Value : Type 0} (IsText : List ℕ → Mark → Value →
 abbrev pub IsAlone : {Value : Type 0} → (List ℕ → Mark → Value → Mark → Type 0) → List ℕ → Value → Type 0
 IsAlone IsText input value = IsTextThen IsText (λ value end. HasNoMore input end) input value
 
--- the input is the text of a system and then of a sequence
-abbrev pub IsSystemThenSequence : List ℕ → TileSystem → List Place → Type 0
-IsSystemThenSequence input sys sequence =
-    IsTextThen ReadsAny (λ s end. ReadsSequence s input end sequence) input sys
-
--- the input is the text of a system and then of these placements, with one line for a site at most
-abbrev pub IsSystemThenPlacements : List ℕ → TileSystem → List Place → Type 0
-IsSystemThenPlacements input sys places =
-    IsTextThen ReadsAny (λ s end. ReadsPlacements s input end places) input sys
-
--- the input is the text of a system and then of a certificate with these entries
-abbrev pub IsSystemThenCertificate : List ℕ → TileSystem → List Entry → Type 0
-IsSystemThenCertificate input sys entries =
-    IsTextThen ReadsAny (λ s end. ReadsCertificate s input end entries) input sys
+-- the input is the text of a system and then of this item of it, to its end: a sequence;
+-- placements, with one line for a site at most; the entries of a certificate; or events
+abbrev pub IsSystemThen : {Item : Type 0} → (TileSystem → List ℕ → Mark → Item → Type 0) →
+    List ℕ → TileSystem → Item → Type 0
+IsSystemThen Reads input sys item = IsTextThen ReadsAny (λ s end. Reads s input end item) input sys
 
 -- the assembly has exactly the placements, one at each site
 pub record IsAssemblyOf (places tiles : List Place) : Type 0 where
@@ -67,12 +55,6 @@ module _ {Value Item : Type 0} (IsText : List ℕ → Mark → Value → Mark �
 abbrev pub IsBatch : List ℕ → List Job → Type 0
 IsBatch input jobs = ReadsBatch input first_mark jobs
 
-abbrev pub IsReadableBatch : List ℕ → Type 0
-IsReadableBatch input = (jobs : List Job) × IsBatch input jobs
-
-abbrev pub FailsBatch : List ℕ → TextFault → Type 0
-FailsBatch input fault = FaultBatch input first_mark fault.line fault.cause
-
 -- what follows where nothing may
 abbrev pub alone : {Value : Type 0} → Value → Format ⊥
 alone value = nothing_more
@@ -89,25 +71,10 @@ pub record AnswersInput (Answers : List ℕ → Bool → List ℕ → Type 0) (l
   pub whole : IsWholeInput left left_after input
   pub answer : Answers input is_yes text
 
--- the first fault of all that was left of the source
-pub record HasFault (Fails : List ℕ → TextFault → Type 0) (left left_after : Option (List ℕ)) (fault : TextFault) : Type 0 where
-  pub input : List ℕ
-  pub whole : IsWholeInput left left_after input
-  pub fails : Fails input fault
-
--- the source was found to hold too much, which is told for line 0
-pub record IsTooLong (left left_after : Option (List ℕ)) (fault : TextFault) : Type 0 where
-  pub taken : List ℕ
-  pub read : Consumes left left_after taken
-  pub long : MOST_INPUT < length taken
-  pub told : fault ≡ record { line = 0; cause = TooLong }
-
+-- the source was found to hold too much, which is told for line 0; or this is the first fault of
+-- all that was left of it
 abbrev pub FailsInput : (List ℕ → TextFault → Type 0) → Option (List ℕ) → Option (List ℕ) → TextFault → Type 0
-FailsInput Fails left left_after fault = IsTooLong left left_after fault ⊎ HasFault Fails left left_after fault
-
--- what is left is known, short, and an input that is taken
-pub record HoldsInput (Takes : List ℕ → Type 0) (left : Option (List ℕ)) : Type 0 where
-  pub input : List ℕ
-  pub known : left ≡ Some input
-  pub short : length input ≤ MOST_INPUT
-  pub takes : Takes input
+FailsInput Fails left left_after fault =
+    ((taken : List ℕ) × Consumes left left_after taken × (MOST_INPUT < length taken)
+    × (fault ≡ record { line = 0; cause = TooLong }))
+    ⊎ ((input : List ℕ) × IsWholeInput left left_after input × Fails input fault)

@@ -1,29 +1,21 @@
 -- Refusals of the words and of the input.
-use Rattle.std.specs.Prelude.{◌≡◌, ℕ, true, List, [], ◌∷◌, codes, decimal, None}
+use Rattle.std.specs.Prelude.{◌≡◌, ℕ, true, List, [], ◌∷◌, codes, decimal}
 use Rattle.tile_io.specs.declared.fault.TextFault.{TextFault}
 use Rattle.tile_io.specs.Causes.{cause_name}
 use Rattle.tile_io.specs.Lines.{line_of}
 use Rattle.counter_compile.specs.declared.stop.CounterStop.{CounterStop}
 use Rattle.counter_compile.specs.declared.stop.CounterStop.TheVariants as counter
 use Rattle.command_line.specs.declared.commands.Command.{Command}
-use Rattle.command_line.specs.declared.words_stop.WordsStop.{WordsStop}
-use Rattle.command_line.specs.declared.words_stop.WordsStop.TheVariants as refusal
-use Rattle.command_line.specs.Commands.{IsCallOf, IsUsage, command_named, words_stop_name}
+use Rattle.command_line.specs.Commands.{IsCallOf}
 use Rattle.tilebench.specs.Commands.{room_of}
 
 -- the words call for a command that reads the input
 abbrev pub IsReadingCall : List (List ℕ) → Type 0
 IsReadingCall words = (command : Command) × IsCallOf words command × ((room_of command).reads ≡ true)
 
--- why the words are refused: the first names no command, or clap finds a fault in the list; want of memory is no refusal
-abbrev pub IsRefusedAs : List (List ℕ) → WordsStop → Type 0
-IsRefusedAs words refusal.NoCommand = command_named words ≡ None
-IsRefusedAs words refusal.Usage = IsUsage words
-IsRefusedAs words refusal.NoMemory = ⊥
-
--- the line that tells it
-abbrev pub refused_words : WordsStop → List ℕ
-refused_words stop = line_of (codes "refused" ∷ codes "words" ∷ words_stop_name stop ∷ [])
+-- the line that tells why the words are refused, by its name
+abbrev pub refused_words : List ℕ → List ℕ
+refused_words reason = line_of (codes "refused" ∷ codes "words" ∷ reason ∷ [])
 
 -- how the program calls a refusal of a counter's numbers
 abbrev pub counter_stop_name : CounterStop → List ℕ
@@ -31,10 +23,6 @@ counter_stop_name counter.BitsOutOfRange = codes "BitsOutOfRange"
 counter_stop_name counter.StartTooLarge = codes "StartTooLarge"
 counter_stop_name counter.TooTall = codes "TooTall"
 counter_stop_name counter.NoMemory = codes "NoMemory"
-
--- the line that tells it
-abbrev pub refused_counter : CounterStop → List ℕ
-refused_counter stop = line_of (codes "refused" ∷ codes "words" ∷ counter_stop_name stop ∷ [])
 
 -- the line that tells a fault of the input
 abbrev pub refused_text : TextFault → List ℕ

@@ -1,12 +1,13 @@
 -- A row of the table of commands: all that a command is to who runs it.
-use Rattle.std.specs.Prelude.{◌≡◌, ℕ, Bool, true, false, List, [], Option}
+use Rattle.std.specs.Prelude.{◌≡◌, ◌≤◌, ℕ, Bool, true, false, List, [], length, Option, Some}
 use Rattle.tile_io.specs.declared.fault.Cause.{Cause}
 use Rattle.tile_io.specs.declared.fault.TextFault.{TextFault}
 use Rattle.tile_io.specs.declared.mark.Mark.{Mark}
+use Rattle.tile_io.specs.declared.limits.TheConstants.{MOST_INPUT}
 use Rattle.tile_io.specs.Formats.{Format}
 use Rattle.site_table.specs.Seats.{GrownValue}
 use Rattle.counter_compile.specs.declared.stop.CounterStop.{CounterStop}
-use Rattle.tilebench.specs.Inputs.{FailsInput, FailsWithin, HoldsInput, IsReadable, IsWholeInput}
+use Rattle.tilebench.specs.Inputs.{FailsInput, FailsWithin, IsReadable, IsWholeInput}
 
 pub record RoomRow : Type 1 where
   -- whether it reads the source, to its end; the input of one that does not is empty
@@ -20,11 +21,7 @@ pub record RoomRow : Type 1 where
   -- why it refuses the numbers among its words
   pub refuses : CounterStop → Type 0
 
--- a command whose numbers are never refused
-abbrev pub refuses_none : CounterStop → Type 0
-refuses_none stop = ⊥
-
--- a command that reads the text of a value and then one of a format: what the text reads as and its faults, what follows it, and the answers
+-- a command that reads the text of a value and then one of a format, and refuses no numbers: what the text reads as and its faults, what follows it, and the answers
 abbrev pub reading : {Value Item : Type 0} →
     (List ℕ → Mark → Value → Mark → Type 0) → (List ℕ → Mark → ℕ → Cause → Type 0) → (Value → Format Item) →
     (Option GrownValue → List ℕ → Bool → List ℕ → Type 0) → RoomRow
@@ -33,7 +30,7 @@ reading IsText IsFault format Answers = record {
   answers = Answers;
   takes = IsReadable IsText format;
   fails = FailsWithin IsText IsFault format;
-  refuses = refuses_none;
+  refuses = λ stop. ⊥;
 }
 
 -- a command that reads nothing, and may refuse its numbers: the answers, and why it refuses
@@ -46,23 +43,20 @@ making Answers Refuses = record {
   refuses = Refuses;
 }
 
--- all that was left of the source is the input, or nothing was read
-pub record IsInputOf (row : RoomRow) (left left_after : Option (List ℕ)) (input : List ℕ) : Type 0 where
-  pub whole : row.reads ≡ true → IsWholeInput left left_after input
-  pub unread : row.reads ≡ false → (left_after ≡ left) × (input ≡ [])
-
--- an answer to what was left of the source, with the growth that it hands out
+-- an answer to what was left of the source, or with nothing read, with the growth that it hands out
 pub record AnswersLeft (row : RoomRow) (grown : Option GrownValue) (left left_after : Option (List ℕ)) (is_yes : Bool) (text : List ℕ) : Type 0 where
   pub input : List ℕ
-  pub read : IsInputOf row left left_after input
+  pub whole : row.reads ≡ true → IsWholeInput left left_after input
+  pub unread : row.reads ≡ false → (left_after ≡ left) × (input ≡ [])
   pub answer : row.answers grown input is_yes text
 
 -- the first fault of what was left of the source
-pub record FailsLeft (row : RoomRow) (left left_after : Option (List ℕ)) (fault : TextFault) : Type 0 where
-  pub reads : row.reads ≡ true
-  pub fails : FailsInput row.fails left left_after fault
+abbrev pub FailsLeft : RoomRow → Option (List ℕ) → Option (List ℕ) → TextFault → Type 0
+FailsLeft row left left_after fault =
+    (row.reads ≡ true) × FailsInput row.fails left left_after fault
 
--- what is left of the source is taken if it is read, and the numbers are not refused
+-- what is left of the source is known, short and taken if it is read, and no number is refused
 pub record IsReadyFor (row : RoomRow) (left : Option (List ℕ)) : Type 0 where
-  pub takes : row.reads ≡ true → HoldsInput row.takes left
+  pub takes : row.reads ≡ true → (input : List ℕ) × (left ≡ Some input)
+      × (length input ≤ MOST_INPUT) × row.takes input
   pub accepts : (stop : CounterStop) → ¬ row.refuses stop

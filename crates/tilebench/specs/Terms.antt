@@ -15,6 +15,7 @@ pub use Rattle.unique_law.specs.Outcomes.{Outcome, IsOutcome, IsDeterministicInS
 pub use Rattle.unique_law.specs.Within.{IsDeterministicWithin, IsYesWithin, LiesInBox}
 pub use Rattle.tile_text.specs.Spelling.{spelling}
 pub use Rattle.tile_text.specs.SystemText.{ReadsAny}
+pub use Rattle.seq_text.specs.GrowthText.{ReadsSequence}
 pub use Rattle.watch_frames.specs.FrameText.{IsWatchAnswer}
 pub use Rattle.job_board.specs.declared.job.Job.{Job}
 pub use Rattle.job_board.specs.Answers.{AnswerEach}
@@ -22,12 +23,11 @@ pub use Rattle.job_board.specs.AnswerText.{batch_text, growth_text, is_unique}
 pub use Rattle.counter_compile.specs.declared.stop.CounterStop.{CounterStop}
 pub use Rattle.command_line.specs.declared.commands.Command.{Command}
 pub use Rattle.command_line.specs.declared.commands.CommandName.{CommandName}
-pub use Rattle.command_line.specs.declared.words_stop.WordsStop.{WordsStop}
-pub use Rattle.command_line.specs.Commands.{IsCallOf, IsTaken}
+pub use Rattle.command_line.specs.Commands.{IsCallOf, IsTaken, IsUsage, command_named}
 pub use Rattle.tilebench.specs.declared.status.Status.{Status}
 pub use Rattle.tilebench.specs.Commands.{room_of}
 pub use Rattle.tilebench.specs.Rows.{AnswersLeft, FailsLeft, IsReadyFor}
 pub use Rattle.tilebench.specs.Growths.{IsGrowth}
-pub use Rattle.tilebench.specs.Inputs.{IsAlone, IsBatch, IsSystemThenSequence}
+pub use Rattle.tilebench.specs.Inputs.{IsAlone, IsBatch, IsSystemThen}
 pub use Rattle.tilebench.specs.Gains.{Gains, GainsFront}
-pub use Rattle.tilebench.specs.Refusals.{IsRefusedAs, refused_counter, refused_words, refused_text}
+pub use Rattle.tilebench.specs.Refusals.{counter_stop_name, refused_words, refused_text}

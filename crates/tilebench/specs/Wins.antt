@@ -5,14 +5,10 @@ use Rattle.site_table.specs.Seats.{GrownValue}
 use Rattle.grow_workers.specs.Workers.{worker_number}
 use Rattle.tilebench.specs.declared.wins.Win.{Win}
 
--- what a worker won, by the counts of the numbers
-abbrev pub won_by : List ℕ → ℕ → ℕ
-won_by counts w = slice_index counts (worker_number w)
-
--- each of so many workers in turn, with what it won
+-- each of so many workers in turn, with what it won, by the counts of the numbers
 pub record AreWins (workers : ℕ) (counts : List ℕ) (wins : List Win) : Type 0 where
   pub count : length wins ≡ workers
-  pub each : (w : ℕ) → w < workers → slice_get wins w ≡ Some (record { worker = w; count = won_by counts w })
+  pub each : (w : ℕ) → w < workers → slice_get wins w ≡ Some (record { worker = w; count = slice_index counts (worker_number w) })
 
 -- each worker in turn, with what it won, which is its count of what grew; together they won the tiles but for the seeds
 pub record AreShares (workers : ℕ) (sys : TileSystem) (table : GrownValue) (wins : List Win) : Type 0 where

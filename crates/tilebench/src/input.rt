@@ -17,12 +17,12 @@ ghost use Rattle.quadrant_compile.specs.Quadrants.{IsQuadrant};
 ghost use Rattle.job_board.specs.declared.limits.TheConstants.{MOST_JOBS};
 ghost use Rattle.atam.specs.declared.place.Place.{Place};
 ghost use Rattle.atam.specs.Assembly.{Fits};
-ghost use Rattle.seq_text.specs.GrowthText.{grid_format, sequence_format};
+ghost use Rattle.seq_text.specs.GrowthText.{grid_format, sequence_format, ReadsSequence, ReadsPlacements};
 ghost use Rattle.cert_check.specs.Certificates.{places_of};
-ghost use Rattle.cert_text.specs.CertificateText.{certificate_format};
-ghost use Rattle.tilebench.specs.Inputs.{FailsBatch, FailsWithin, IsAlone, IsAssemblyOf, IsBatch};
-ghost use Rattle.tilebench.specs.Inputs.{IsSystemThenCertificate, IsSystemThenPlacements};
-ghost use Rattle.tilebench.specs.Inputs.{IsSystemThenSequence, alone};
+ghost use Rattle.cert_text.specs.CertificateText.{certificate_format, ReadsCertificate};
+ghost use Rattle.tilebench.specs.Inputs.{FailsWithin, IsAlone, IsAssemblyOf, IsBatch};
+ghost use Rattle.tilebench.specs.Inputs.{IsSystemThen, alone};
+ghost use Rattle.job_board.specs.BatchText.{FaultBatch};
 
 use crate::stop::Stop;
 use assembly::{Grid, Sequence};
@@ -86,7 +86,8 @@ pub fn read_quadrant_alone(alloc: Global, input: &[u8]) -> Result<Quadrant, Stop
 /// The jobs of the batch whose text the input is.
 pub fn read_jobs(alloc: Global, input: &[u8]) -> Result<Vec<Job>, Stop>
     requires { length input.now ≤ MOST_INPUT }
-    ensures read { Gives (λ jobs. IsBatch input.now jobs.items) (FailsBatch input.now) result }
+    ensures read { Gives (λ jobs. IsBatch input.now jobs.items)
+        (λ fault. FaultBatch input.now first_mark fault.line fault.cause) result }
     ensures some { IfOk result (λ jobs. 1 ≤ length jobs.items) }
     ensures few { IfOk result (λ jobs. length jobs.items ≤ MOST_JOBS) }
 {
@@ -100,7 +101,7 @@ pub fn system_and_sequence<S: Source>(
     source: &mut S,
 ) -> Result<(System, Sequence), Stop>
     ensures read { GivesRead S.left S.faults
-        (HoldsWhole (λ input found. IsSystemThenSequence input found.0 found.1))
+        (HoldsWhole (λ input found. IsSystemThen ReadsSequence input found.0 found.1))
         (FailsWithin ReadsAny FaultAny sequence_format) source.old source.new result }
     ensures later { S.faults source.old ≤ S.faults source.new }
     ensures fits { IfOk result (λ found. Fits found.0 found.1) }
@@ -115,7 +116,7 @@ pub fn system_and_sequence<S: Source>(
 pub fn system_and_grid<S: Source>(alloc: Global, source: &mut S) -> Result<(System, Grid), Stop>
     ensures read { GivesRead S.left S.faults
         (HoldsWhole (λ input found. (places : List Place)
-        × IsSystemThenPlacements input found.0 places × IsAssemblyOf places found.1.tiles))
+        × IsSystemThen ReadsPlacements input found.0 places × IsAssemblyOf places found.1.tiles))
         (FailsWithin ReadsAny FaultAny grid_format) source.old source.new result }
     ensures later { S.faults source.old ≤ S.faults source.new }
     ensures area { IfOk result (λ found. found.1.area ≡ found.0.area) }
@@ -132,7 +133,7 @@ pub fn system_and_certificate<S: Source>(
     source: &mut S,
 ) -> Result<(System, Certificate), Stop>
     ensures read { GivesRead S.left S.faults
-        (HoldsWhole (λ input found. IsSystemThenCertificate input found.0 found.1))
+        (HoldsWhole (λ input found. IsSystemThen ReadsCertificate input found.0 found.1))
         (FailsWithin ReadsAny FaultAny certificate_format) source.old source.new result }
     ensures later { S.faults source.old ≤ S.faults source.new }
     ensures fits { IfOk result (λ found. Fits found.0 (places_of found.1)) }

@@ -2,9 +2,10 @@
 ghost use Rattle.std.specs.Prelude.{◌≡◌, IfOk};
 ghost use Rattle.tile_io.specs.Prints.{Prints};
 ghost use Rattle.tilebench.specs.Inner.Tells.{Tells, Refuses, WritesAnswer, written_status};
-ghost use Rattle.tilebench.specs.Refusals.{counter_stop_name, refused_counter, refused_text};
+ghost use Rattle.tilebench.specs.Refusals.{counter_stop_name, refused_text};
 ghost use Rattle.tilebench.specs.Refusals.{refused_words};
 ghost use Rattle.tilebench.specs.Statuses.{answer_status};
+ghost use Rattle.command_line.specs.Commands.{words_stop_name};
 
 use crate::room::Reply;
 use crate::status::{Ran, Status};
@@ -71,14 +72,16 @@ pub fn refuse<E: Sink>(stop: Stop, err: &mut E) -> Status
 
 // The line of a refusal of the words.
 fn print_words_stop<E: Sink>(stop: WordsStop, err: &mut E) -> Result<(), Failed>
-    ensures { Prints E.written E.faults err.old err.new result (refused_words stop) }
+    ensures { Prints E.written E.faults err.old err.new result
+        (refused_words (words_stop_name stop)) }
 {
     print_line(err, b"refused", &[b"words", stop.name().as_bytes()])
 }
 
 // The line of a refusal of a counter's numbers.
 fn print_counter_stop<E: Sink>(stop: CounterStop, err: &mut E) -> Result<(), Failed>
-    ensures { Prints E.written E.faults err.old err.new result (refused_counter stop) }
+    ensures { Prints E.written E.faults err.old err.new result
+        (refused_words (counter_stop_name stop)) }
 {
     print_line(
         err,

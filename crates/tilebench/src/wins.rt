@@ -1,7 +1,8 @@
 // What each worker of a growth won.
-ghost use Rattle.std.specs.Prelude.{◌≡◌, ◌<◌, ◌≤◌, sum_by, IfOk};
-ghost use Rattle.tilebench.specs.Wins.{AreWins, won_by};
+ghost use Rattle.std.specs.Prelude.{◌≡◌, ◌<◌, ◌≤◌, sum_by, IfOk, slice_index};
+ghost use Rattle.tilebench.specs.Wins.{AreWins};
 ghost use Rattle.tilebench.specs.Inner.Races.{won_together};
+ghost use Rattle.grow_workers.specs.Workers.{worker_number};
 
 use fan_out::WorkerCount;
 use grow_workers::worker_number;
@@ -34,7 +35,7 @@ pub fn wins_of(alloc: Global, workers: WorkerCount, grown: &Grown) -> Result<Vec
 // How many tiles a worker won, under its number.
 fn won_by(grown: &Grown, worker: u32) -> u32
     requires { worker < 64 }
-    ensures { result ≡ won_by grown.now.won worker }
+    ensures { result ≡ slice_index grown.now.won (worker_number worker) }
 {
     grown.won(worker_number(worker))
 }

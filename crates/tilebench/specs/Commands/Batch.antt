@@ -1,13 +1,11 @@
 -- `batch`: what many systems grow into, each within its own box.
-use Rattle.std.specs.Prelude.{◌≡◌, ℕ, Bool, true, List}
+use Rattle.std.specs.Prelude.{◌≡◌, ℕ, Bool, List}
 use Rattle.std.specs.List.{list_all}
 use Rattle.unique_law.specs.Outcomes.{Outcome}
 use Rattle.job_board.specs.declared.job.Job.{Job}
 use Rattle.job_board.specs.AnswerText.{batch_text, is_unique}
 use Rattle.job_board.specs.Answers.{AnswerEach}
-use Rattle.tilebench.specs.Growing.{TellsNoGrowth}
-use Rattle.tilebench.specs.Inputs.{FailsBatch, IsBatch, IsReadableBatch}
-use Rattle.tilebench.specs.Rows.{RoomRow, refuses_none}
+use Rattle.tilebench.specs.Inputs.{IsBatch}
 
 -- The input is the text of a batch, and this that of what answers its jobs: under the number of each job what its own system grew into. It is a yes where each verdict is.
 pub record IsBatchAnswer (input : List ℕ) (is_yes : Bool) (text : List ℕ) : Type 0 where
@@ -17,12 +15,3 @@ pub record IsBatchAnswer (input : List ℕ) (is_yes : Bool) (text : List ℕ) : 
   pub answered : AnswerEach jobs outcomes
   pub printed : text ≡ batch_text jobs outcomes
   pub answer : is_yes ≡ list_all (λ outcome. is_unique outcome.verdict) outcomes
-
-abbrev pub batch_row : RoomRow
-batch_row = record {
-  reads = true;
-  answers = TellsNoGrowth IsBatchAnswer;
-  takes = IsReadableBatch;
-  fails = FailsBatch;
-  refuses = refuses_none;
-}

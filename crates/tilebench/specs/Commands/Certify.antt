@@ -13,7 +13,9 @@ use Rattle.cert_check.specs.Certificates.{AreEntries, IsCertificateOf, IsGood}
 use Rattle.cert_text.specs.CertificateLines.{mark_lines}
 use Rattle.tilebench.specs.Commands.Replay.{TellsNoOrder}
 use Rattle.job_board.specs.AnswerText.{is_unique}
-use Rattle.tilebench.specs.Inputs.{IsAssemblyOf, IsSystemThenCertificate, IsSystemThenPlacements}
+use Rattle.tilebench.specs.Inputs.{IsAssemblyOf, IsSystemThen}
+use Rattle.seq_text.specs.GrowthText.{ReadsPlacements}
+use Rattle.cert_text.specs.CertificateText.{ReadsCertificate}
 
 -- The canonical order of the tiles is locally deterministic, and these entries are its certificate: at distinct sites, with no sides but the four. It is good, and behind the spelling of the system
 -- its lines read as these entries.
@@ -24,7 +26,7 @@ pub record IsCertificateOfTiles (sys : TileSystem) (tiles : List Place) (entries
   pub certificate : IsCertificateOf sys order entries
   pub known : AreEntries entries
   pub good : IsGood sys entries
-  pub reads_back : IsSystemThenCertificate (spelling sys ++ mark_lines sys entries) sys entries
+  pub reads_back : IsSystemThen ReadsCertificate (spelling sys ++ mark_lines sys entries) sys entries
 
 -- the verdict on it is this one, and a no
 pub record IsRefutedBy (sys : TileSystem) (tiles : List Place) (verdict : Verdict) : Type 0 where
@@ -46,7 +48,7 @@ TellsCertificate sys tiles false text =
 pub record IsCertifyAnswer (input : List ℕ) (is_yes : Bool) (text : List ℕ) : Type 0 where
   pub sys : TileSystem
   pub places : List Place
-  pub read : IsSystemThenPlacements input sys places
+  pub read : IsSystemThen ReadsPlacements input sys places
   pub tiles : List Place
   pub assembly : IsAssemblyOf places tiles
   pub told : TellsCertificate sys tiles is_yes text

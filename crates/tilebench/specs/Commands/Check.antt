@@ -1,18 +1,16 @@
 -- `check`: whether a sequence is legal, and the verdict on it.
-use Rattle.std.specs.Prelude.{◌≡◌, ℕ, Bool, true, false, List, ◌++◌}
+use Rattle.std.specs.Prelude.{◌≡◌, ℕ, Bool, false, List, ◌++◌}
 use Rattle.atam.specs.declared.place.Place.{Place}
 use Rattle.atam.specs.TileSystem.{TileSystem}
 use Rattle.atam.specs.declared.legality.Legality.TheVariants as legality
 use Rattle.local_check.specs.declared.once.Judged.{Judged}
 use Rattle.local_check.specs.declared.once.Judged.TheVariants.{Legal, Breach}
 use Rattle.local_check.specs.Judged.{IsJudged}
-use Rattle.seq_text.specs.GrowthText.{sequence_format}
 use Rattle.seq_text.specs.LegalityLines.{legality_line}
 use Rattle.seq_text.specs.VerdictLines.{verdict_line}
-use Rattle.tilebench.specs.Growing.{TellsNoGrowth}
 use Rattle.job_board.specs.AnswerText.{is_unique}
-use Rattle.tilebench.specs.Inputs.{IsSystemThenSequence}
-use Rattle.tilebench.specs.Rows.{RoomRow, refuses_none}
+use Rattle.tilebench.specs.Inputs.{IsSystemThen}
+use Rattle.seq_text.specs.GrowthText.{ReadsSequence}
 
 -- the text of the judgement on a sequence
 abbrev pub judgement_text : TileSystem → Judged → List ℕ
@@ -28,7 +26,7 @@ is_judged_unique (Breach breach) = false
 pub record IsCheckAnswer (input : List ℕ) (is_yes : Bool) (text : List ℕ) : Type 0 where
   pub sys : TileSystem
   pub sequence : List Place
-  pub read : IsSystemThenSequence input sys sequence
+  pub read : IsSystemThen ReadsSequence input sys sequence
   pub judgement : Judged
   pub judged : IsJudged sys sequence judgement
   pub printed : text ≡ judgement_text sys judgement

@@ -1,14 +1,10 @@
 -- `grow`: what a system grows into within its box.
-use Rattle.tile_text.specs.SystemText.{ReadsAny, FaultAny}
-use Rattle.std.specs.Prelude.{◌≡◌, ℕ, Bool, true, List}
+use Rattle.std.specs.Prelude.{◌≡◌, ℕ, Bool, List}
 use Rattle.atam.specs.TileSystem.{TileSystem}
 use Rattle.site_table.specs.Seats.{GrownValue}
 use Rattle.unique_law.specs.Outcomes.{Outcome}
-use Rattle.tilebench.specs.Growing.{TellsGrowth}
 use Rattle.job_board.specs.AnswerText.{growth_text, is_unique}
 use Rattle.tilebench.specs.Growths.{IsGrowth}
-use Rattle.tilebench.specs.Inputs.{alone}
-use Rattle.tilebench.specs.Rows.{RoomRow, refuses_none, reading}
 
 -- this is the text of what the system grew into, which are the tiles that are handed out
 pub record IsGrowthText (sys : TileSystem) (table : GrownValue) (is_yes : Bool) (text : List ℕ) : Type 0 where
@@ -16,6 +12,3 @@ pub record IsGrowthText (sys : TileSystem) (table : GrownValue) (is_yes : Bool) 
   pub grown : IsGrowth sys table.grid.tiles outcome
   pub printed : text ≡ growth_text sys outcome
   pub answer : is_yes ≡ is_unique outcome.verdict
-
-abbrev pub grow_row : ℕ → RoomRow
-grow_row workers = reading ReadsAny FaultAny alone (TellsGrowth IsGrowthText workers)

@@ -1,5 +1,5 @@
 -- `load`: a counter made from a number, and the summary of what it grows into.
-use Rattle.std.specs.Prelude.{◌≡◌, ℕ, ◌+◌, ◌-◌, ◌*◌, ◌/◌, ◌%◌, ◌^◌, min, Bool, true, false, List, [], ◌∷◌, ◌++◌, codes, decimal, length, Option, Some, None}
+use Rattle.std.specs.Prelude.{◌≡◌, ℕ, ◌+◌, ◌-◌, ◌*◌, ◌/◌, ◌%◌, ◌^◌, min, Bool, true, List, [], ◌∷◌, ◌++◌, codes, decimal, length, Option, Some, None}
 use Rattle.atam.specs.declared.site.Site.{Site}
 use Rattle.atam.specs.declared.place.TypeId.{TypeId}
 use Rattle.atam.specs.TileSystem.{TileSystem}
@@ -13,17 +13,13 @@ use Rattle.seq_text.specs.GrowthLines.{closed_line}
 use Rattle.seq_text.specs.VerdictLines.{verdict_line}
 use Rattle.unique_law.specs.Outcomes.{Outcome}
 use Rattle.tilebench.specs.Growths.{IsGrowth}
-use Rattle.tilebench.specs.Rows.{RoomRow, making, refuses_none}
 
 -- The counter of a load: 2 to 32 bits, and at most 512 numbers from its start to the last one of so many bits.
 abbrev pub load_bits : ℕ → ℕ
 load_bits number = 2 + number % 31
 
-abbrev pub numbers_after_start : ℕ → ℕ
-numbers_after_start number = number / 31 % min (2 ^ load_bits number) 512
-
 abbrev pub load_start : ℕ → ℕ
-load_start number = 2 ^ load_bits number - 1 - numbers_after_start number
+load_start number = 2 ^ load_bits number - 1 - number / 31 % min (2 ^ load_bits number) 512
 
 abbrev pub load_system : ℕ → TileSystem
 load_system number = counter_system (load_bits number) (load_start number)
@@ -33,18 +29,11 @@ abbrev pub load_tiles : ℕ → ℕ
 load_tiles number = load_bits number * row_count (load_bits number) (load_start number)
 
 -- the number with its counter's bits and start, the number of tiles, what is open outside the box, and the verdict
-abbrev pub counter_line : ℕ → ℕ → ℕ → List ℕ
-counter_line number bits start = line_of (codes "load" ∷ decimal number ∷ codes "bits" ∷ decimal bits ∷ codes "start" ∷ decimal start ∷ [])
-
-abbrev pub tiles_line : ℕ → List ℕ
-tiles_line tiles = line_of (codes "tiles" ∷ decimal tiles ∷ [])
-
-abbrev pub summary : ℕ → ℕ → ℕ → ℕ → TileSystem → Option (Site × TypeId) → Verdict → List ℕ
-summary number bits start tiles sys outside verdict = (counter_line number bits start ++ tiles_line tiles) ++ (closed_line sys outside ++ verdict_line sys verdict)
-
--- all tiles stand, nothing is open, and nothing else grows
-abbrev pub load_text : ℕ → List ℕ
-load_text number = summary number (load_bits number) (load_start number) (load_tiles number) (load_system number) None Yes
+abbrev pub load_text : ℕ → ℕ → ℕ → ℕ → TileSystem → Option (Site × TypeId) → Verdict → List ℕ
+load_text number bits start tiles sys outside verdict =
+    (line_of (codes "load" ∷ decimal number ∷ codes "bits" ∷ decimal bits
+    ∷ codes "start" ∷ decimal start ∷ []) ++ line_of (codes "tiles" ∷ decimal tiles ∷ []))
+    ++ (closed_line sys outside ++ verdict_line sys verdict)
 
 -- The counter of the number, which is not refused, was grown by four workers on a table, which is handed out. All its tiles stand, nothing is open outside its box, the verdict is yes,
 -- and the text is that of the number.
@@ -58,8 +47,6 @@ pub record IsLoadAnswer (number : ℕ) (grown : Option GrownValue) (is_yes : Boo
   pub all : length table.grid.tiles ≡ load_tiles number
   pub closed : outcome.outside ≡ None
   pub unique : outcome.verdict ≡ Yes
-  pub printed : text ≡ load_text number
+  pub printed : text ≡ load_text number (load_bits number) (load_start number) (load_tiles number)
+      (load_system number) None Yes
   pub answer : is_yes ≡ true
-
-abbrev pub load_row : ℕ → RoomRow
-load_row number = making (IsLoadAnswer number) refuses_none

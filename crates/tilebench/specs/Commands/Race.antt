@@ -1,14 +1,10 @@
 -- `race`: how many tiles each worker won.
-use Rattle.tile_text.specs.SystemText.{ReadsAny, FaultAny}
 use Rattle.std.specs.Prelude.{◌≡◌, ◌++◌, ℕ, Bool, true, List, [], ◌∷◌, codes, decimal, flat_map, sum_by}
 use Rattle.atam.specs.TileSystem.{TileSystem}
 use Rattle.atam.specs.Growth.{IsFullGrowth}
 use Rattle.tile_io.specs.Lines.{line_of}
 use Rattle.site_table.specs.Seats.{GrownValue}
 use Rattle.tilebench.specs.declared.wins.Win.{Win}
-use Rattle.tilebench.specs.Growing.{TellsGrowth}
-use Rattle.tilebench.specs.Inputs.{alone}
-use Rattle.tilebench.specs.Rows.{RoomRow, refuses_none, reading}
 use Rattle.tilebench.specs.Wins.{AreShares}
 
 abbrev pub win_line : Win → List ℕ
@@ -27,6 +23,3 @@ pub record IsRaceText (workers : ℕ) (sys : TileSystem) (table : GrownValue) (i
   pub sum_is : sum_by (λ win. win.count) wins ≡ total
   pub printed : text ≡ race_text wins total
   pub answer : is_yes ≡ true
-
-abbrev pub race_row : ℕ → RoomRow
-race_row workers = reading ReadsAny FaultAny alone (TellsGrowth (IsRaceText workers) workers)

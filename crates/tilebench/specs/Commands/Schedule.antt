@@ -1,6 +1,5 @@
 -- `schedule`: steps of several scouts, run on a growth core.
-use Rattle.tile_text.specs.SystemText.{ReadsAny}
-use Rattle.std.specs.Prelude.{◌≡◌, ◌++◌, ℕ, Bool, true, List, map, All, Result, is_ok}
+use Rattle.std.specs.Prelude.{◌≡◌, ◌++◌, ℕ, Bool, List, map, All, Result, is_ok}
 use Rattle.std.specs.List.{list_all}
 use Rattle.atam.specs.declared.place.Place.{Place}
 use Rattle.atam.specs.TileSystem.{TileSystem}
@@ -11,11 +10,9 @@ use Rattle.atam.specs.declared.event.CoreStop.{CoreStop}
 use Rattle.grow_core.specs.Core.{CoreState, places}
 use Rattle.grow_core.specs.Steps.{CoreRun, IsStart}
 use Rattle.seq_text.specs.GrowthLines.{place_lines}
-use Rattle.seq_text.specs.ScheduleText.{ReadsEvents, schedule_format}
+use Rattle.seq_text.specs.ScheduleText.{ReadsEvents}
 use Rattle.seq_text.specs.SeenLines.{seen_lines, HasLine}
-use Rattle.tilebench.specs.Growing.{TellsNoGrowth}
-use Rattle.tilebench.specs.Inputs.{IsTextThen}
-use Rattle.tilebench.specs.Rows.{RoomRow, refuses_none}
+use Rattle.tilebench.specs.Inputs.{IsSystemThen}
 
 -- the events one after another on the growth core, each with its reply
 pub record IsRunOf (sys : TileSystem) (start : CoreState) (events : List Event) (replies : List (Result Seen CoreStop)) (end : CoreState) : Type 0 where
@@ -38,24 +35,13 @@ pub record AreReplies (sys : TileSystem) (events : List Event) (schedule : Sched
   pub told : All (HasLine sys) schedule.replies
   pub canonical : IsCanonical sys (places end.tiles) schedule.order
 
--- their text
-abbrev pub schedule_text : TileSystem → ScheduleOutcome → List ℕ
-schedule_text sys schedule = seen_lines sys schedule.replies ++ place_lines sys schedule.order
-
--- no event was refused
-abbrev pub are_answered : List (Result Seen CoreStop) → Bool
-are_answered replies = list_all is_ok replies
-
--- the input is the text of a system and then of these events
-abbrev pub IsSystemThenEvents : List ℕ → TileSystem → List Event → Type 0
-IsSystemThenEvents input sys events = IsTextThen ReadsAny (λ s end. ReadsEvents s input end events) input sys
-
--- and this is the text of the replies to them
+-- the input is the text of a system and then of these events, and this is the text of the replies
+-- to them and of the tiles: a yes where no event was refused
 pub record IsScheduleAnswer (input : List ℕ) (is_yes : Bool) (text : List ℕ) : Type 0 where
   pub sys : TileSystem
   pub events : List Event
-  pub read : IsSystemThenEvents input sys events
+  pub read : IsSystemThen ReadsEvents input sys events
   pub schedule : ScheduleOutcome
   pub replied : AreReplies sys events schedule
-  pub printed : text ≡ schedule_text sys schedule
-  pub answer : is_yes ≡ are_answered schedule.replies
+  pub printed : text ≡ seen_lines sys schedule.replies ++ place_lines sys schedule.order
+  pub answer : is_yes ≡ list_all is_ok schedule.replies

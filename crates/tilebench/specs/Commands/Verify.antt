@@ -7,12 +7,9 @@ use Rattle.cert_check.specs.declared.verdict.CertVerdict.{CertVerdict}
 use Rattle.cert_check.specs.declared.verdict.CertVerdict.TheVariants.{Yes}
 use Rattle.cert_check.specs.Judgement.{IsVerdict}
 use Rattle.cert_check.specs.Laws.{IsCertified}
-use Rattle.tile_text.specs.SystemText.{FaultAny, ReadsAny}
 use Rattle.cert_text.specs.CertificateLines.{verified_line}
-use Rattle.cert_text.specs.CertificateText.{certificate_format}
-use Rattle.tilebench.specs.Growing.{TellsNoGrowth}
-use Rattle.tilebench.specs.Inputs.{IsSystemThenCertificate}
-use Rattle.tilebench.specs.Rows.{RoomRow, reading}
+use Rattle.tilebench.specs.Inputs.{IsSystemThen}
+use Rattle.cert_text.specs.CertificateText.{ReadsCertificate}
 
 -- it is a yes where no check fails
 abbrev pub is_verified : CertVerdict → Bool
@@ -23,13 +20,10 @@ is_verified _ = false
 pub record IsVerifyAnswer (input : List ℕ) (is_yes : Bool) (text : List ℕ) : Type 0 where
   pub sys : TileSystem
   pub entries : List Entry
-  pub read : IsSystemThenCertificate input sys entries
+  pub read : IsSystemThen ReadsCertificate input sys entries
   pub verdict : CertVerdict
   pub judged : IsVerdict sys entries verdict
   pub printed : text ≡ verified_line sys verdict
   pub answer : is_yes ≡ is_verified verdict
   -- a yes exactly where some locally deterministic sequence has exactly the entries' places, their sides as its input sides, and ranks that rise
   pub certified : is_yes ≡ true ↔ ((s : List Place) × IsCertified sys entries s)
-
-abbrev pub verify_row : RoomRow
-verify_row = reading ReadsAny FaultAny certificate_format (TellsNoGrowth IsVerifyAnswer)

@@ -1,5 +1,5 @@
 -- What the rooms of the commands hand from one step to the next: outcomes that can be printed.
-use Rattle.std.specs.Prelude.{◌≡◌, ℕ, List, [], ◌∷◌, string_bytes, All, IfSome}
+use Rattle.std.specs.Prelude.{◌≡◌, ℕ, List, [], ◌∷◌, string_bytes, All, IfSome, is_some, map}
 use Rattle.atam.specs.declared.place.Place.{Place}
 use Rattle.atam.specs.TileSystem.{TileSystem, IsType}
 use Rattle.atam.specs.Growth.{IsLeastOpenOutside}
@@ -24,7 +24,7 @@ use Rattle.tilebench.specs.declared.wins.Win.{Win}
 use Rattle.tilebench.specs.declared.commands.reports.Reported.{Reported}
 use Rattle.job_board.specs.AnswerText.{is_unique}
 use Rattle.tilebench.specs.Growths.{IsGrowth}
-use Rattle.tilebench.specs.Commands.Report.{report_of}
+use Rattle.report.specs.Reports.{report_line}
 use Rattle.tilebench.specs.Commands.Schedule.{AreReplies, ScheduleOutcome}
 
 -- the types of an outcome are those of the system
@@ -51,7 +51,8 @@ pub record GrowsTo (sys : TileSystem) (tiles : List Place) (growth : Growth) : T
 
 -- the report of a growth of so many tiles, and of what each worker won
 pub record Reports (growth : Growth) (tiles : ℕ) (wins : List Win) (reported : Reported) : Type 0 where
-  pub line : line_of (string_bytes reported.line ∷ []) ≡ report_of growth.sys tiles (outcome_of growth) wins
+  pub line : line_of (string_bytes reported.line ∷ []) ≡ line_of (report_line growth.sys tiles
+      (map (λ win. win.count) wins) (is_some growth.outside) (is_unique growth.verdict) ∷ [])
   pub unique : reported.unique ≡ is_unique growth.verdict
 
 -- the types of a judgement are those of the system

@@ -6,7 +6,7 @@ use Rattle.counter_compile.specs.declared.stop.CounterStop.{CounterStop}
 use Rattle.tilebench.specs.declared.status.Ran.{Ran}
 use Rattle.tilebench.specs.declared.status.Status.TheVariants.{ReadFault, NoMemory}
 use Rattle.tilebench.specs.Headline.{Ends}
-use Rattle.tilebench.specs.Refusals.{refused_counter, refused_text}
+use Rattle.tilebench.specs.Refusals.{counter_stop_name, refused_text, refused_words}
 use Rattle.tilebench.specs.Rows.{RoomRow, AnswersLeft, FailsLeft, IsReadyFor}
 use Rattle.tilebench.specs.Statuses.{IsAnswered}
 
@@ -20,7 +20,7 @@ pub record IsFaultLine (IsFault : TextFault → Type 0) (text : List ℕ) : Type
 pub record IsNumbersLine (Refuses : CounterStop → Type 0) (text : List ℕ) : Type 0 where
   pub stop : CounterStop
   pub is : Refuses stop
-  pub told : text ≡ refused_counter stop
+  pub told : text ≡ refused_words (counter_stop_name stop)
 
 module _ {S K E : Type 0} (left : S → Option (List ℕ)) (read_faults : S → ℕ) (written : K → Option (List ℕ)) (out_faults : K → ℕ) (told : E → Option (List ℕ)) (err_faults : E → ℕ)
     (row : RoomRow) where

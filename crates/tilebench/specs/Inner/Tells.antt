@@ -3,13 +3,14 @@ use Rattle.std.specs.Prelude.{◌≡◌, ◌⊎◌, ◌≤◌, ℕ, Bool, List, 
 use Rattle.std.specs.Io.KnownBytes.{Appends}
 use Rattle.tile_io.specs.Faults.{Rose}
 use Rattle.tile_io.specs.Prints.{AppendsFront}
+use Rattle.command_line.specs.Commands.{words_stop_name}
 use Rattle.site_table.specs.Seats.{GrownValue}
 use Rattle.tilebench.specs.declared.status.Ran.{Ran}
 use Rattle.tilebench.specs.declared.status.Status.{Status}
 use Rattle.tilebench.specs.declared.status.Status.TheVariants as status
 use Rattle.tilebench.specs.declared.stop.Stop.{Stop}
 use Rattle.tilebench.specs.declared.stop.Stop.TheVariants.{Words, Counter, Text, ReadFault, NoMemory}
-use Rattle.tilebench.specs.Refusals.{refused_counter, refused_text, refused_words}
+use Rattle.tilebench.specs.Refusals.{counter_stop_name, refused_text, refused_words}
 use Rattle.tilebench.specs.Statuses.{answer_status}
 
 -- the status of a refusal that was to be written
@@ -36,8 +37,8 @@ module _ {K : Type 0} (written : K → Option (List ℕ)) (faults : K → ℕ) w
 
   -- the line of a stop was written, if it has one
   abbrev pub Refuses : K → K → Stop → Status → Type 0
-  Refuses old new (Words stop) outcome = Writes old new status.Words outcome (refused_words stop)
-  Refuses old new (Counter stop) outcome = Writes old new status.Words outcome (refused_counter stop)
+  Refuses old new (Words stop) outcome = Writes old new status.Words outcome (refused_words (words_stop_name stop))
+  Refuses old new (Counter stop) outcome = Writes old new status.Words outcome (refused_words (counter_stop_name stop))
   Refuses old new (Text fault) outcome = Writes old new status.Text outcome (refused_text fault)
   Refuses old new ReadFault outcome = (outcome ≡ status.ReadFault) × (new ≡ old)
   Refuses old new NoMemory outcome = (outcome ≡ status.NoMemory) × (new ≡ old)

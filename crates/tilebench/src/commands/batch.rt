@@ -4,11 +4,11 @@ ghost use Rattle.std.specs.List.{list_all};
 ghost use Rattle.tile_io.specs.declared.limits.TheConstants.{MOST_INPUT};
 ghost use Rattle.job_board.specs.AnswerText.{batch_text, is_unique};
 ghost use Rattle.job_board.specs.Answers.{AnswerEach};
-ghost use Rattle.tilebench.specs.Commands.Batch.{batch_row};
 ghost use Rattle.tilebench.specs.Inner.BatchReadings.{taken_or_faulty_batch};
 ghost use Rattle.std.specs.Thread.{IsSync};
 ghost use Rattle.tilebench.specs.Inner.Gives.{GivesAnswer};
 ghost use Rattle.tilebench.specs.Inner.Runs.{EndsCommand};
+ghost use Rattle.tilebench.specs.Inner.CommandRows.{batch_row};
 
 use crate::input::read_jobs;
 use crate::resources::Resources;
@@ -32,7 +32,7 @@ pub struct Batch {
 impl Room for Batch {
     type Answer = Batched;
 
-    ghost room_row = { λ room. batch_row };
+    ghost room_row = { λ room. batch_row room.workers };
 
     fn reads_input(&self) -> bool {
         true
@@ -50,7 +50,8 @@ impl Batch {
         out: &mut K,
         err: &mut E,
     ) -> Ran
-        ensures { EndsCommand S.left S.faults K.written K.faults E.written E.faults batch_row
+        ensures { EndsCommand S.left S.faults K.written K.faults E.written E.faults
+            (batch_row self.now.workers)
             source.old source.new out.old out.new err.old err.new result }
     {
         let answer = |input: Vec<u8>|
@@ -68,7 +69,7 @@ impl Batch {
         requires { length input.items ≤ MOST_INPUT }
         ensures { GivesAnswer
             ⟦<Batched as Reply>⟧.yes ⟦<Batched as Reply>⟧.text ⟦<Batched as Reply>⟧.printable
-            batch_row input.items result }
+            (batch_row self.now.workers) input.items result }
     {
         let jobs = read_jobs(resources.alloc, &input)?;
         let outcomes = run_board(

@@ -1,5 +1,5 @@
 // `counter`: the system of a binary counter.
-ghost use Rattle.tilebench.specs.Commands.Counter.{counter_row};
+ghost use Rattle.tilebench.specs.Inner.CommandRows.{counter_row};
 
 use crate::resources::Resources;
 use crate::room::{PlainRoom, Room};

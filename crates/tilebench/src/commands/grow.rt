@@ -4,9 +4,9 @@ ghost use Rattle.std.specs.Thread.{IsSync};
 ghost use Rattle.tilebench.specs.Inner.Gives.{GivesAnswer};
 ghost use Rattle.tilebench.specs.Inner.Runs.{EndsCommand};
 ghost use Rattle.tile_io.specs.declared.limits.TheConstants.{MOST_INPUT};
-ghost use Rattle.tilebench.specs.Commands.Grow.{grow_row};
 ghost use Rattle.tilebench.specs.Inner.Readings.{taken_or_faulty};
 ghost use Rattle.tilebench.specs.Inputs.{alone};
+ghost use Rattle.tilebench.specs.Inner.CommandRows.{grow_row};
 
 use crate::growth::{Growth, growth_of};
 use crate::input::read_alone;
@@ -27,7 +27,7 @@ pub struct Grow(pub Crew);
 impl Room for Grow {
     type Answer = Growth;
 
-    ghost room_row = { λ room. grow_row room.0.workers.count };
+    ghost room_row = { λ room. grow_row room.0.workers };
 
     fn reads_input(&self) -> bool {
         true
@@ -46,7 +46,7 @@ impl Grow {
         err: &mut E,
     ) -> Ran
         ensures { EndsCommand S.left S.faults K.written K.faults E.written E.faults
-            (grow_row self.now.0.workers.count)
+            (grow_row self.now.0.workers)
             source.old source.new out.old out.new err.old err.new result }
     {
         let answer = |input: Vec<u8>|
@@ -64,7 +64,7 @@ impl Grow {
         requires { length input.items ≤ MOST_INPUT }
         ensures { GivesAnswer
             ⟦<Growth as Reply>⟧.yes ⟦<Growth as Reply>⟧.text ⟦<Growth as Reply>⟧.printable
-            (grow_row self.now.0.workers.count) input.items result }
+            (grow_row self.now.0.workers) input.items result }
     {
         let sys = read_alone(resources.alloc, &input)?;
         let (grown, judged) = grow_judged(resources, &sys, self.0)?;

@@ -2,15 +2,16 @@
 ghost use Rattle.std.specs.Thread.{IsSync};
 ghost use Rattle.tilebench.specs.Inner.Gives.{GivesAnswer};
 ghost use Rattle.tilebench.specs.Inner.Runs.{EndsCommand};
-ghost use Rattle.std.specs.Prelude.{◌≡◌, ◌+◌, ◌≤◌, ◌^◌, ◌++◌, None, IfOk};
+ghost use Rattle.std.specs.Prelude.{◌≡◌, ◌+◌, ◌≤◌, ◌^◌, ◌++◌, None, IfOk, ◌/◌, ◌%◌, ◌∷◌, [], codes, decimal, min};
 ghost use Rattle.tile_io.specs.Prints.{Prints};
 ghost use Rattle.counter_compile.specs.Counters.{counter_refusal, counter_system};
 ghost use Rattle.seq_text.specs.GrowthLines.{closed_line};
 ghost use Rattle.seq_text.specs.VerdictLines.{verdict_line};
-ghost use Rattle.tilebench.specs.Commands.Load.{counter_line, load_bits, load_row, load_start};
-ghost use Rattle.tilebench.specs.Commands.Load.{numbers_after_start, summary, tiles_line};
+ghost use Rattle.tilebench.specs.Commands.Load.{load_bits, load_start, load_text};
 ghost use Rattle.job_board.specs.AnswerText.{is_unique};
 ghost use Rattle.tilebench.specs.Inner.Rooms.{HasTypes, outcome_of};
+ghost use Rattle.tilebench.specs.Inner.CommandRows.{load_row};
+ghost use Rattle.tile_io.specs.Lines.{line_of};
 
 use crate::growth::{Growth, growth_of};
 use crate::judged::grow_judged;
@@ -125,7 +126,7 @@ impl Drop for Loaded {
 }
 
 impl Reply for Loaded {
-    ghost text = { λ loaded. summary loaded.number
+    ghost text = { λ loaded. load_text loaded.number
         loaded.counter.bits loaded.counter.start loaded.tiles
         loaded.growth.sys loaded.growth.outside loaded.growth.verdict };
 
@@ -159,7 +160,7 @@ fn counter_of(number: u64) -> Counter
 // How many numbers come after the start, where the last one is this.
 fn numbers_after_start(number: u64, last: u64) -> u64
     requires { last + 1 ≡ 2 ^ load_bits number }
-    ensures value { result ≡ numbers_after_start number }
+    ensures value { result ≡ number / 31 % min (2 ^ load_bits number) 512 }
     ensures most { result ≤ last }
 {
     if last < 511 {
@@ -191,7 +192,9 @@ fn print_sizes<K: Sink>(
     out: &mut K,
 ) -> Result<(), Failed>
     ensures { Prints K.written K.faults out.old out.new result
-        (counter_line number counter.bits counter.start ++ tiles_line tiles) }
+        (line_of (codes "load" ∷ decimal number ∷ codes "bits" ∷ decimal counter.bits
+        ∷ codes "start" ∷ decimal counter.start ∷ [])
+        ++ line_of (codes "tiles" ∷ decimal tiles ∷ [])) }
 {
     print_counter(number, counter, out)?;
     print_tiles(tiles, out)
@@ -199,7 +202,8 @@ fn print_sizes<K: Sink>(
 
 fn print_counter<K: Sink>(number: u64, counter: Counter, out: &mut K) -> Result<(), Failed>
     ensures { Prints K.written K.faults out.old out.new result
-        (counter_line number counter.bits counter.start) }
+        (line_of (codes "load" ∷ decimal number ∷ codes "bits" ∷ decimal counter.bits
+        ∷ codes "start" ∷ decimal counter.start ∷ [])) }
 {
     let mut number_digits = Buffer::new();
     let mut bits_digits = Buffer::new();
@@ -211,7 +215,8 @@ fn print_counter<K: Sink>(number: u64, counter: Counter, out: &mut K) -> Result<
 }
 
 fn print_tiles<K: Sink>(tiles: u32, out: &mut K) -> Result<(), Failed>
-    ensures { Prints K.written K.faults out.old out.new result (tiles_line tiles) }
+    ensures { Prints K.written K.faults out.old out.new result
+        (line_of (codes "tiles" ∷ decimal tiles ∷ [])) }
 {
     let mut digits = Buffer::new();
     print_line(out, b"tiles", &[digits.format(tiles).as_bytes()])

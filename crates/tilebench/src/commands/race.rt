@@ -6,9 +6,10 @@ ghost use Rattle.tile_io.specs.declared.limits.TheConstants.{MOST_INPUT};
 ghost use Rattle.std.specs.Prelude.{◌≡◌, ◌≤◌, length, true, flat_map, IfOk};
 ghost use Rattle.tile_io.specs.Chunks.{PassesOn};
 ghost use Rattle.grow_workers.specs.Workers.{IsGrownBy};
-ghost use Rattle.tilebench.specs.Commands.Race.{IsRaceText, race_row, race_text, win_line};
+ghost use Rattle.tilebench.specs.Commands.Race.{IsRaceText, race_text, win_line};
 ghost use Rattle.tilebench.specs.Inner.Readings.{taken_or_faulty};
 ghost use Rattle.tilebench.specs.Inputs.{alone};
+ghost use Rattle.tilebench.specs.Inner.CommandRows.{race_row};
 
 use crate::input::read_alone;
 use crate::order::grow_by_crew;
@@ -33,7 +34,7 @@ pub struct Race(pub Crew);
 impl Room for Race {
     type Answer = Raced;
 
-    ghost room_row = { λ room. race_row room.0.workers.count };
+    ghost room_row = { λ room. race_row room.0.workers };
 
     fn reads_input(&self) -> bool {
         true
@@ -52,7 +53,7 @@ impl Race {
         err: &mut E,
     ) -> Ran
         ensures { EndsCommand S.left S.faults K.written K.faults E.written E.faults
-            (race_row self.now.0.workers.count)
+            (race_row self.now.0.workers)
             source.old source.new out.old out.new err.old err.new result }
     {
         let answer = |input: Vec<u8>|
@@ -70,7 +71,7 @@ impl Race {
         requires { length input.items ≤ MOST_INPUT }
         ensures { GivesAnswer
             ⟦<Raced as Reply>⟧.yes ⟦<Raced as Reply>⟧.text ⟦<Raced as Reply>⟧.printable
-            (race_row self.now.0.workers.count) input.items result }
+            (race_row self.now.0.workers) input.items result }
     {
         let sys = read_alone(resources.alloc, &input)?;
         let grown = grow_by_crew(resources, &sys, self.0)?;

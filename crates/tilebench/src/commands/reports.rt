@@ -5,10 +5,10 @@ ghost use Rattle.tilebench.specs.Inner.Runs.{EndsCommand};
 ghost use Rattle.tile_io.specs.declared.limits.TheConstants.{MOST_INPUT};
 ghost use Rattle.std.specs.Prelude.{◌≡◌, ◌≤◌, length, [], ◌∷◌, map, string_bytes, IfOk};
 ghost use Rattle.tile_io.specs.Lines.{line_of};
-ghost use Rattle.tilebench.specs.Commands.Report.{report_row};
 ghost use Rattle.tilebench.specs.Inner.Readings.{taken_or_faulty};
 ghost use Rattle.tilebench.specs.Inner.Rooms.{Reports};
 ghost use Rattle.tilebench.specs.Inputs.{alone};
+ghost use Rattle.tilebench.specs.Inner.CommandRows.{report_row};
 
 use crate::growth::{Growth, growth_of};
 use crate::input::read_alone;
@@ -34,7 +34,7 @@ pub struct Report(pub Crew);
 impl Room for Report {
     type Answer = Reported;
 
-    ghost room_row = { λ room. report_row room.0.workers.count };
+    ghost room_row = { λ room. report_row room.0.workers };
 
     fn reads_input(&self) -> bool {
         true
@@ -53,7 +53,7 @@ impl Report {
         err: &mut E,
     ) -> Ran
         ensures { EndsCommand S.left S.faults K.written K.faults E.written E.faults
-            (report_row self.now.0.workers.count)
+            (report_row self.now.0.workers)
             source.old source.new out.old out.new err.old err.new result }
     {
         let answer = |input: Vec<u8>|
@@ -71,7 +71,7 @@ impl Report {
         requires { length input.items ≤ MOST_INPUT }
         ensures { GivesAnswer
             ⟦<Reported as Reply>⟧.yes ⟦<Reported as Reply>⟧.text ⟦<Reported as Reply>⟧.printable
-            (report_row self.now.0.workers.count) input.items result }
+            (report_row self.now.0.workers) input.items result }
     {
         let sys = read_alone(resources.alloc, &input)?;
         let (grown, judged) = grow_judged(resources, &sys, self.0)?;

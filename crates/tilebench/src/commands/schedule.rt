@@ -1,18 +1,20 @@
 // `schedule`: steps of several scouts, run on a growth core.
 ghost use Rattle.tile_text.specs.SystemText.{ReadsAny, FaultAny};
-ghost use Rattle.std.specs.Prelude.{◌≡◌, ◌≤◌, length, IfOk, All};
+ghost use Rattle.std.specs.Prelude.{◌≡◌, ◌≤◌, length, IfOk, All, ◌++◌, is_ok};
 ghost use Rattle.tile_io.specs.declared.limits.TheConstants.{MOST_INPUT};
 ghost use Rattle.grow_core.specs.Core.{CoreInvariant};
 ghost use Rattle.grow_core.specs.Steps.{CoreStep};
-ghost use Rattle.seq_text.specs.ScheduleText.{schedule_format};
-ghost use Rattle.seq_text.specs.SeenLines.{HasLine};
+ghost use Rattle.seq_text.specs.ScheduleText.{schedule_format, ReadsEvents};
+ghost use Rattle.seq_text.specs.SeenLines.{HasLine, seen_lines};
 ghost use Rattle.tilebench.specs.Inner.Gives.{Gives};
 ghost use Rattle.tilebench.specs.Inputs.{FailsWithin};
-ghost use Rattle.tilebench.specs.Commands.Schedule.{IsRunOf, IsSystemThenEvents, are_answered};
-ghost use Rattle.tilebench.specs.Commands.Schedule.{schedule_text};
+ghost use Rattle.tilebench.specs.Commands.Schedule.{IsRunOf};
+ghost use Rattle.tilebench.specs.Inputs.{IsSystemThen};
 ghost use Rattle.tilebench.specs.Inner.CommandRows.{schedule_row};
 ghost use Rattle.tilebench.specs.Inner.Rooms.{HasLines, Schedules, replies_of};
 ghost use Rattle.tilebench.specs.Inner.Readings.{taken_or_faulty};
+ghost use Rattle.seq_text.specs.GrowthLines.{place_lines};
+ghost use Rattle.std.specs.List.{list_all};
 
 use crate::input::read_front;
 use crate::resources::Resources;
@@ -74,9 +76,10 @@ impl Drop for Scheduled {
 }
 
 impl Reply for Scheduled {
-    ghost text = { λ scheduled. schedule_text scheduled.sys (replies_of scheduled) };
+    ghost text = { λ scheduled. seen_lines scheduled.sys scheduled.replies.items
+        ++ place_lines scheduled.sys scheduled.order };
 
-    ghost yes = { λ scheduled. are_answered scheduled.replies.items };
+    ghost yes = { λ scheduled. list_all is_ok scheduled.replies.items };
 
     ghost printable = { λ scheduled. HasLines scheduled.sys (replies_of scheduled) };
 
@@ -93,7 +96,7 @@ impl Reply for Scheduled {
 // The system and the events whose texts the input is.
 fn system_and_events(alloc: Global, input: &[u8]) -> Result<(System, Vec<Event>), Stop>
     requires { length input.now ≤ MOST_INPUT }
-    ensures { Gives (λ found. IsSystemThenEvents input.now found.0 found.1.items)
+    ensures { Gives (λ found. IsSystemThen ReadsEvents input.now found.0 found.1.items)
         (FailsWithin ReadsAny FaultAny schedule_format input.now) result }
 {
     let (sys, end) = read_front(alloc, input)?;

@@ -7,10 +7,11 @@ ghost use Rattle.cert_check.specs.Judgement.{IsVerdict};
 ghost use Rattle.cert_check.specs.Laws.{IsCertified};
 ghost use Rattle.cert_text.specs.CertificateLines.{NamesKnownType, verified_line};
 ghost use Rattle.cert_text.specs.CertificateText.{certificate_format};
-ghost use Rattle.tilebench.specs.Commands.Verify.{is_verified, verify_row};
+ghost use Rattle.tilebench.specs.Commands.Verify.{is_verified};
 ghost use Rattle.tilebench.specs.Inner.Gives.{AnswersFrom};
 ghost use Rattle.tilebench.specs.Inner.Runs.{EndsCommand};
 ghost use Rattle.tilebench.specs.Inner.Readings.{taken_or_faulty};
+ghost use Rattle.tilebench.specs.Inner.CommandRows.{verify_row};
 
 use crate::input::system_and_certificate;
 use crate::resources::Resources;
@@ -35,7 +36,7 @@ pub struct Verify {
 impl Room for Verify {
     type Answer = Verified;
 
-    ghost room_row = { λ room. verify_row };
+    ghost room_row = { λ room. verify_row room.workers };
 
     fn reads_input(&self) -> bool {
         true
@@ -54,7 +55,8 @@ impl Verify {
         out: &mut K,
         err: &mut E,
     ) -> Ran
-        ensures { EndsCommand S.left S.faults K.written K.faults E.written E.faults verify_row
+        ensures { EndsCommand S.left S.faults K.written K.faults E.written E.faults
+            (verify_row self.now.workers)
             source.old source.new out.old out.new err.old err.new result }
     {
         tell(self.answer_from(resources, source), out, err)
@@ -68,7 +70,7 @@ impl Verify {
     ) -> Result<(Verified, Option<Grown>), Stop>
         ensures answer { AnswersFrom S.left S.faults ⟦<Verified as Reply>⟧.yes
             ⟦<Verified as Reply>⟧.text ⟦<Verified as Reply>⟧.printable
-            verify_row source.old source.new result }
+            (verify_row self.now.workers) source.old source.new result }
         ensures later { S.faults source.old ≤ S.faults source.new }
     {
         let (sys, certificate) = system_and_certificate(resources.alloc, source)?;

@@ -6,7 +6,6 @@ ghost use Rattle.tile_io.specs.declared.limits.TheConstants.{MOST_INPUT};
 ghost use Rattle.type_index.specs.Indexes.{IsIndexOf};
 ghost use Rattle.watch_frames.specs.FrameText.{frames_text};
 ghost use Rattle.watch_frames.specs.Watched.{IsWatchedGrowth};
-ghost use Rattle.tilebench.specs.Commands.Watch.{watch_row};
 ghost use Rattle.job_board.specs.AnswerText.{growth_text, is_unique};
 ghost use Rattle.std.specs.Thread.{IsSync};
 ghost use Rattle.tilebench.specs.Inner.Gives.{GivesAnswer};
@@ -14,6 +13,7 @@ ghost use Rattle.tilebench.specs.Inner.Runs.{EndsCommand};
 ghost use Rattle.tilebench.specs.Inner.Readings.{taken_or_faulty};
 ghost use Rattle.tilebench.specs.Inner.Rooms.{HasTypes, IsJudgedGrowth, outcome_of};
 ghost use Rattle.tilebench.specs.Inputs.{alone};
+ghost use Rattle.tilebench.specs.Inner.CommandRows.{watch_row};
 
 use crate::growth::{Growth, growth_of};
 use crate::input::read_alone;
@@ -44,7 +44,7 @@ pub struct Watch {
 impl Room for Watch {
     type Answer = Watched;
 
-    ghost room_row = { λ room. watch_row room.crew.workers.count room.frames.count };
+    ghost room_row = { λ room. watch_row room.crew.workers room.frames };
 
     fn reads_input(&self) -> bool {
         true
@@ -63,7 +63,7 @@ impl Watch {
         err: &mut E,
     ) -> Ran
         ensures { EndsCommand S.left S.faults K.written K.faults E.written E.faults
-            (watch_row self.now.crew.workers.count self.now.frames.count)
+            (watch_row self.now.crew.workers self.now.frames)
             source.old source.new out.old out.new err.old err.new result }
     {
         let answer = |input: Vec<u8>|
@@ -81,7 +81,7 @@ impl Watch {
         requires { length input.items ≤ MOST_INPUT }
         ensures { GivesAnswer
             ⟦<Watched as Reply>⟧.yes ⟦<Watched as Reply>⟧.text ⟦<Watched as Reply>⟧.printable
-            (watch_row self.now.crew.workers.count self.now.frames.count) input.items result }
+            (watch_row self.now.crew.workers self.now.frames) input.items result }
     {
         let sys = read_alone(resources.alloc, &input)?;
         let types = TypeIndex::build(resources.alloc, &sys)?;

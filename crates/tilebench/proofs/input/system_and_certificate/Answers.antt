@@ -3,15 +3,15 @@ use Rattle.std.proofs.Common.{◌∙◌, ℕ, List, Option}
 use Rattle.std.proofs.lemmas.Result.{err_from_is_err_and}
 use Rattle.cert_check.specs.declared.entry.Entry.{Entry}
 use Rattle.atam.specs.TileSystem.{TileSystem}
-use Rattle.cert_text.specs.CertificateText.{certificate_format}
-use Rattle.tilebench.specs.Inputs.{IsSystemThenCertificate}
+use Rattle.cert_text.specs.CertificateText.{certificate_format, ReadsCertificate}
+use Rattle.tilebench.specs.Inputs.{IsSystemThen}
 use Rattle.tilebench.specs.Inner.Gives.{HoldsWhole}
 use Rattle.tilebench.proofs.Fronts.{blocks_stop, front_mark, front_stop, front_whole}
 use Rattle.tilebench.proofs.input.system_and_certificate.Goals as goal
 
 -- what is read of the source
 Holds : Option (List ℕ) → Option (List ℕ) → TileSystem × List Entry → Type 0
-Holds left left_after value = HoldsWhole (λ input (found : TileSystem × List Entry). IsSystemThenCertificate input found.0 found.1) left left_after value
+Holds left left_after value = HoldsWhole (λ input (found : TileSystem × List Entry). IsSystemThen ReadsCertificate input found.0 found.1) left left_after value
 
 pub returns-in_err-sys-clause-read : goal.returns-in_err-sys-clause-read
 returns-in_err-sys-clause-read g c =

@@ -1,10 +1,10 @@
 use Rattle.std.proofs.Common.{◌≡◌, ◌<◌, ◌+◌, ◌∷◌, [], ℕ, List, Some, length, length-append, subst, sym, ap, arith}
-use Rattle.std.specs.Prelude.{slice_get, sum_by}
+use Rattle.std.specs.Prelude.{slice_get, sum_by, slice_index}
 use Rattle.tilebench.specs.declared.wins.Win.{Win}
-use Rattle.tilebench.specs.Wins.{won_by}
 use Rattle.tilebench.specs.Inner.Races.{won_together}
 use Rattle.tilebench.proofs.Races.{together_more, wins_more}
 use Rattle.tilebench.proofs.wins.wins_of.Goals as goal
+use Rattle.grow_workers.specs.Workers.{worker_number}
 
 pub loop-worker-preserved : goal.loop-worker-preserved
 loop-worker-preserved c =
@@ -17,7 +17,7 @@ loop-worker-preserved c =
     let same = ap length items in
     let longer = length-append wins (win ∷ []) in
     let many = before.count in
-    let Each : List Win → Type 0 = λ l. (w : ℕ) → w < n + 1 → slice_get l w ≡ Some (record { worker = w; count = won_by counts w }) in
+    let Each : List Win → Type 0 = λ l. (w : ℕ) → w < n + 1 → slice_get l w ≡ Some (record { worker = w; count = slice_index counts (worker_number w) }) in
     let Together : List Win → Type 0 = λ l. sum_by (λ (w : Win). w.count) l ≡ won_together counts (n + 1) in
     record {
       count = omega (arith, same, longer, many);

@@ -3,20 +3,21 @@ use Rattle.std.proofs.lemmas.Result.{err_from_is_err_and}
 use Rattle.atam.specs.declared.place.Place.{Place}
 use Rattle.atam.specs.TileSystem.{TileSystem}
 use Rattle.assembly.specs.Grids.{TileGrid}
-use Rattle.tilebench.specs.Inputs.{IsAssemblyOf, IsSystemThenPlacements}
+use Rattle.tilebench.specs.Inputs.{IsAssemblyOf, IsSystemThen}
 use Rattle.tilebench.specs.declared.commands.certify.Certified.{Certified}
 use Rattle.tilebench.specs.Inner.Certifications.{certification_text, is_given}
 use Rattle.tilebench.specs.Inner.CommandRows.{certify_row}
 use Rattle.tilebench.specs.Inner.Rooms.{CertifiesTypes}
 use Rattle.tilebench.proofs.Certificates.{certify_answer}
 use Rattle.tilebench.specs.Inner.Gives.{HoldsWhole}
-use Rattle.tilebench.proofs.Fronts.{input_of, reading_stop}
+use Rattle.tilebench.proofs.Fronts.{reading_stop}
 use Rattle.tilebench.proofs.commands.certify.CertifySourceRoom.answer_from.Goals as goal
+use Rattle.seq_text.specs.GrowthText.{ReadsPlacements}
 
 pub returns-in_err-sys-clause-answer : goal.returns-in_err-sys-clause-answer
 returns-in_err-sys-clause-answer g c =
     let p = err_from_is_err_and c.from_residual.result c.from_residual.ensures.1 in
-    rw (p.1, p.2) (reading_stop g.S.Source.left g.S.Source.faults (λ (r : Certified). is_given r.certification) (λ (r : Certified). certification_text r.sys r.certification) (λ (r : Certified). CertifiesTypes r.sys r.certification) certify_row refl (HoldsWhole (λ input (found : TileSystem × TileGrid). (places : List Place) × IsSystemThenPlacements input found.0 places × IsAssemblyOf places found.1.tiles)) c.args.source.now c.system_and_grid.new.source c.in_err-sys.field-0.0 c.in_err-sys.ensures.read)
+    rw (p.1, p.2) (reading_stop g.S.Source.left g.S.Source.faults (λ (r : Certified). is_given r.certification) (λ (r : Certified). certification_text r.sys r.certification) (λ (r : Certified). CertifiesTypes r.sys r.certification) certify_row refl (HoldsWhole (λ input (found : TileSystem × TileGrid). (places : List Place) × IsSystemThen ReadsPlacements input found.0 places × IsAssemblyOf places found.1.tiles)) c.args.source.now c.system_and_grid.new.source c.in_err-sys.field-0.0 c.in_err-sys.ensures.read)
 
 pub returns-in_err-certification-clause-answer : goal.returns-in_err-certification-clause-answer
 returns-in_err-certification-clause-answer g c =
@@ -31,7 +32,8 @@ returns-clause-answer g c =
       record {
         answer = record {
           input = input;
-          read = input_of g.S.Source.left g.S.Source.faults certify_row refl (g.S.Source.left c.args.source.now) (g.S.Source.left c.system_and_grid.new.source) input read.0.1;
+          whole = λ _. read.0.1;
+          unread = λ no. absurd (cc no);
           answer = record { none = refl; told = certify_answer input c.in_ok-sys.sys found.0 c.in_ok-sys.grid.tiles c.in_ok-certification.certification found.1 found.2 c.in_ok-certification.ensures.certified };
         };
         prints = c.in_ok-certification.ensures.types;

@@ -13,13 +13,13 @@ returns g c =
     let start = c.args.self.now.start in
     let sys = counter_system bits start in
     let fine = sym c.in_ok-tiles.ensures.refusal in
-    let Spells : TileSystem → Type 0 = λ s. SpellsSystem sys (spelling s) in
+    let Spells : TileSystem → Type 0 = λ s. SpellsSystem spelling sys (spelling s) in
     record {
-      answer = record {
-        accepted = fine;
-        no_growth = refl;
-        spelled = subst Spells (sym c.in_ok-tiles.ensures.system) (spelled sys (is_valid_counter bits start (accepted bits start fine)));
-        answer = refl;
-      };
+      answer = (
+        fine,
+        refl,
+        subst Spells (sym c.in_ok-tiles.ensures.system) (spelled sys (is_valid_counter bits start (accepted bits start fine))),
+        refl,
+      );
       prints = tt;
     }

@@ -3,7 +3,7 @@ use Rattle.std.proofs.lemmas.Result.{err_from_is_err_and}
 use Rattle.atam.specs.declared.place.Place.{Place}
 use Rattle.atam.specs.TileSystem.{TileSystem}
 use Rattle.assembly.specs.Grids.{TileGrid}
-use Rattle.tilebench.specs.Inputs.{IsAssemblyOf, IsSystemThenPlacements}
+use Rattle.tilebench.specs.Inputs.{IsAssemblyOf, IsSystemThen}
 use Rattle.std.proofs.Common.{true, All}
 use Rattle.atam.specs.TileSystem.{IsType}
 use Rattle.atam.specs.declared.area.BoxArea.{BoxArea}
@@ -11,13 +11,14 @@ use Rattle.picture.specs.Pictures.{picture_text}
 use Rattle.tilebench.specs.declared.commands.pictures.Pictured.{Pictured}
 use Rattle.tilebench.specs.Inner.CommandRows.{picture_row}
 use Rattle.tilebench.specs.Inner.Gives.{HoldsWhole}
-use Rattle.tilebench.proofs.Fronts.{input_of, reading_stop}
+use Rattle.tilebench.proofs.Fronts.{reading_stop}
 use Rattle.tilebench.proofs.commands.pictures.PictureSourceRoom.answer_from.Goals as goal
+use Rattle.seq_text.specs.GrowthText.{ReadsPlacements}
 
 pub returns-in_err-sys-clause-answer : goal.returns-in_err-sys-clause-answer
 returns-in_err-sys-clause-answer g c =
     let p = err_from_is_err_and c.from_residual.result c.from_residual.ensures.1 in
-    rw (p.1, p.2) (reading_stop g.S.Source.left g.S.Source.faults (λ (r : Pictured). true) (λ (r : Pictured). picture_text r.sys r.grid) (λ (r : Pictured). All (λ p. IsType r.sys p.tile) r.grid.tiles) picture_row refl (HoldsWhole (λ input (found : TileSystem × TileGrid). (places : List Place) × IsSystemThenPlacements input found.0 places × IsAssemblyOf places found.1.tiles)) c.args.source.now c.system_and_grid.new.source c.in_err-sys.field-0.0 c.in_err-sys.ensures.read)
+    rw (p.1, p.2) (reading_stop g.S.Source.left g.S.Source.faults (λ (r : Pictured). true) (λ (r : Pictured). picture_text r.sys r.grid) (λ (r : Pictured). All (λ p. IsType r.sys p.tile) r.grid.tiles) picture_row refl (HoldsWhole (λ input (found : TileSystem × TileGrid). (places : List Place) × IsSystemThen ReadsPlacements input found.0 places × IsAssemblyOf places found.1.tiles)) c.args.source.now c.system_and_grid.new.source c.in_err-sys.field-0.0 c.in_err-sys.ensures.read)
 
 pub returns-clause-answer : goal.returns-clause-answer
 returns-clause-answer g c =
@@ -27,7 +28,8 @@ returns-clause-answer g c =
       record {
         answer = record {
           input = input;
-          read = input_of g.S.Source.left g.S.Source.faults picture_row refl (g.S.Source.left c.args.source.now) (g.S.Source.left c.system_and_grid.new.source) input read.0.1;
+          whole = λ _. read.0.1;
+          unread = λ no. absurd (cc no);
           answer = record { none = refl; told = record { sys = c.in_ok-sys.sys; places = found.0; read = found.1; tiles = c.in_ok-sys.grid.tiles; assembly = found.2; printed = ap (λ (area : BoxArea). picture_text c.in_ok-sys.sys (record { area = area; tiles = c.in_ok-sys.grid.tiles })) c.in_ok-sys.ensures.area; answer = refl } };
         };
         prints = c.in_ok-sys.ensures.fits.types;

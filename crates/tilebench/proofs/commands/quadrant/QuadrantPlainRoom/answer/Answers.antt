@@ -15,15 +15,15 @@ returns g c =
     let valid = c.in_ok-quadrant.ensures.valid in
     let Alone : List ℕ → Type 0 = λ input. IsAlone ReadsQuadrant input quadrant in
     let system = quadrant_system quadrant in
-    let Spells : TileSystem → Type 0 = λ sys. SpellsSystem system (spelling sys) in
+    let Spells : TileSystem → Type 0 = λ sys. SpellsSystem spelling system (spelling sys) in
     record {
       answer = record {
         none = refl;
         told = record {
-          quadrant = quadrant;
+          value = quadrant;
           read = subst Alone c.deref.ensures.value c.in_ok-quadrant.ensures.read;
-          is_quadrant = valid;
-          spelled = subst Spells (sym c.in_ok-tiles.ensures) (spelled system (quadrant_system_valid quadrant valid));
+          holds = valid;
+          spells = subst Spells (sym c.in_ok-tiles.ensures) (spelled system (quadrant_system_valid quadrant valid));
           answer = refl;
         };
       };

@@ -14,15 +14,15 @@ returns g c =
     let machine = c.in_ok-machine.machine in
     let valid = c.in_ok-machine.ensures.valid in
     let Alone : List ℕ → Type 0 = λ input. IsAlone ReadsMachine input machine in
-    let Spells : TileSystem → Type 0 = λ sys. SpellsSystem (compiled machine) (spelling sys) in
+    let Spells : TileSystem → Type 0 = λ sys. SpellsSystem spelling (compiled machine) (spelling sys) in
     record {
       answer = record {
         none = refl;
         told = record {
-          machine = machine;
+          value = machine;
           read = subst Alone c.deref.ensures.value c.in_ok-machine.ensures.read;
-          is_machine = valid;
-          spelled = subst Spells (sym c.in_ok-tiles.ensures) (spelled (compiled machine) (compiled_valid machine valid));
+          holds = valid;
+          spells = subst Spells (sym c.in_ok-tiles.ensures) (spelled (compiled machine) (compiled_valid machine valid));
           answer = refl;
         };
       };

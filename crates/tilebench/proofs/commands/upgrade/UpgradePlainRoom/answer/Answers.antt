@@ -10,7 +10,8 @@ returns g c =
     let sys = c.in_ok-sys.sys in
     let Alone : List ℕ → Type 0 = λ input. IsAlone ReadsAny input sys in
     let read = subst Alone c.deref.ensures.value c.in_ok-sys.ensures in
+    let valid = any_valid c.args.input.items _ read.end sys read.reads in
     record {
-      answer = record { none = refl; told = record { sys = sys; read = read; spelled = spelled_newest sys (any_valid c.args.input.items _ read.end sys read.reads); answer = refl } };
+      answer = record { none = refl; told = record { value = sys; read = read; holds = valid; spells = spelled_newest sys valid; answer = refl } };
       prints = tt;
     }
