@@ -1,27 +1,31 @@
 -- The lists of the types that interact with a glue on a side.
-use Rattle.std.proofs.Common.{◌≡◌, ◌≢◌, ℕ, zero, suc, true, false, ◌+◌, ◌<◌, ◌≤◌, ◌⊎◌, ◌==◌, ◌&&◌, ◌||◌, List, [], ◌∷◌, ◌++◌, AllPairs, length, length-set, get_or, set, Option, None, IfSome, slice_get, sym, subst, ap, ◌∙◌, refl, inl, inr, arith, tests, Some, zero-le, get_or-set_same, get_or-set_other}
+use Rattle.std.proofs.Common.{◌≡◌, ◌≢◌, ℕ, zero, suc, true, false, ◌+◌, ◌<◌, ◌≤◌, ◌⊎◌, ◌==◌, ◌&&◌, ◌||◌, List, [], ◌∷◌, ◌++◌, AllPairs, drop, length, length-set, get_or, set, Option, None, IfSome, slice_get, sym, subst, ap, ◌∙◌, refl, inl, inr, arith, tests, Some, zero-le, get_or-set_same, get_or-set_other}
 use Rattle.std.specs.Prelude.{slice_index}
 use Rattle.std.proofs.lemmas.Bool.{cases_Bool, cases_eq, cases_lt}
 use Rattle.std.proofs.Math.ListN.{get_or-append}
-use Rattle.std.proofs.Math.Seq.{get_or-append_seam}
+use Rattle.std.proofs.Math.Seq.{drop-cons, get_or-append_seam}
 use Rattle.std.proofs.lemmas.Option.{same_Some, slice_get-get_or, slice_get_within, get_or_from_slice_get}
 use Rattle.atam.specs.declared.limits.TheConstants.{MOST_STRENGTH}
 use Rattle.atam.specs.declared.site.Side.{Side}
 use Rattle.atam.specs.declared.place.GlueId.{GlueId}
 use Rattle.atam.specs.declared.place.GluePair.{GluePair}
 use Rattle.atam.specs.declared.place.TypeId.{TypeId}
-use Rattle.atam.specs.TileSystem.{TileSystem, IsType, IsValid, is_pair_of, pair_strength, side_glue, strength_between, strength_of}
+use Rattle.atam.specs.TileSystem.{TileSystem, IsPair, IsType, IsValid, is_pair_of, pair_strength, side_glue, strength_between, strength_of}
 use Rattle.atam.specs.Assembly.{interaction}
+use Rattle.atam.proofs.Lists.{All-slice_get}
 use Rattle.atam.proofs.Systems.{side_glue-in_range}
 use Rattle.type_index.specs.declared.glue_table.GlueKind.{GlueKind}
 use Rattle.type_index.specs.declared.glue_table.GlueKind.TheVariants.{Listed}
 use Rattle.type_index.specs.declared.meeting_lists.Meeting.{Meeting}
 use Rattle.type_index.specs.Meetings.{NoneMeets, Leads, ends, leads, MeetingOrder, AreMeetings}
-use Rattle.type_index.specs.PairLinks.{IsNextPair}
+use Rattle.type_index.specs.declared.partners.Partner.{Partner}
+use Rattle.type_index.specs.PairLinks.{PairsWithListed}
+use Rattle.type_index.specs.Partners.{partner_in, partners_of}
 use Rattle.type_index.specs.Inner.Linking.{HasNoMeetings, PutsMeeting, TakesPlace}
 use Rattle.type_index.specs.declared.cursor.Cursor.{Cursor}
 use Rattle.type_index.specs.Inner.Cursors.{IsCursor}
-use Rattle.type_index.proofs.PairOrders.{pairs_with}
+use Rattle.type_index.proofs.PairOrders.{has_glue, pairs_with}
+use Rattle.type_index.proofs.Partnering.{IsPartnerAt, partner_at, partner_glue, partner_is, partners_none}
 use Rattle.type_index.proofs.Cursors.{between_pair, between_same, cursor_met, interaction_within}
 
 -- a list with one more element has all that it had, and the new one at its end
@@ -236,12 +240,25 @@ module _ (sys : TileSystem) (d : Side) (kinds : List GlueKind) (valid : IsValid 
   few : length sys.types < 65535
   few = omega (arith, valid.type_count)
 
-  pub met_begun : (n : ℕ) (strength : ℕ) (old new : MeetingOrder) → strength ≡ strength_of sys g → IsNextPair sys.pairs kinds g 0 n → AreMeetings sys d kinds (t.0 + 1) old → PutsMeeting kinds g t strength old new → AreMet sys d kinds t g n new
-  met_begun n strength old new is next lists puts = record {
+  met_begun : (strength : ℕ) (old new : MeetingOrder) → strength ≡ strength_of sys g → AreMeetings sys d kinds (t.0 + 1) old → PutsMeeting kinds g t strength old new → AreMet sys d kinds t g 0 new
+  met_begun strength old new is lists puts = record {
     known = λ h listed. omega (arith, put_length sys d kinds g t strength old new puts, lists.known h listed);
     own = λ listed. put_here sys d kinds g t strength old new puts few listed (lists.known g listed) kind (is ∙ sym (between_same sys g) ∙ sym (ap (λ own. interaction sys own (Some g)) bears)) (lists.first g listed);
-    met = λ h listed k p below there hit. absurd (next.none_between k p (omega arith) below there (pairs_with kinds p g h listed hit));
+    met = λ h listed k p below there hit. absurd (omega (arith, below));
     rest = λ h listed apart none. put_apart sys d kinds g t strength old new puts few h (t.0 + 1) apart (lists.first h listed);
+  }
+
+  -- pairs that are not of the glue and one that has lists change nothing
+  met_on : (from to : ℕ) (lists : MeetingOrder) → from ≤ to → ((k : ℕ) (p : GluePair) → from ≤ k → k < to → slice_get sys.pairs k ≡ Some p → ¬ PairsWithListed kinds g p) →
+      AreMet sys d kinds t g from lists → AreMet sys d kinds t g to lists
+  met_on from to lists up none are = record {
+    known = are.known;
+    own = are.own;
+    met = λ h listed k p below there hit. elim (cases_lt k from) [
+      | inl before ↦ are.met h listed k p before there hit
+      | inr past ↦ absurd (none k p past below there (pairs_with kinds p g h listed hit))
+    ];
+    rest = λ h listed apart lacks. are.rest h listed apart (λ k p below there. lacks k p (omega (arith, below, up)) there);
   }
 
   module _ (n : ℕ) (p : GluePair) (other : GlueId) (there : slice_get sys.pairs n ≡ Some p) (apart : other.0 ≢ g.0) (of_both : is_pair_of p g other ≡ true) where
@@ -261,8 +278,8 @@ module _ (sys : TileSystem) (d : Side) (kinds : List GlueKind) (valid : IsValid 
     strength_there =
         sym (strength_of_pair sys.pairs g other n p none_before there of_both) ∙ sym (between_pair sys g other (λ same. apart (sym same))) ∙ sym (ap (λ own. interaction sys own (Some other)) bears)
 
-    pub met_more : (to : ℕ) (old new : MeetingOrder) → IsNextPair sys.pairs kinds g (n + 1) to → AreMet sys d kinds t g n old → PutsMeeting kinds other t p.strength old new → AreMet sys d kinds t g to new
-    met_more to old new next lists puts = record {
+    met_more : (old new : MeetingOrder) → AreMet sys d kinds t g n old → PutsMeeting kinds other t p.strength old new → AreMet sys d kinds t g (n + 1) new
+    met_more old new lists puts = record {
       known = λ h listed. omega (arith, put_length sys d kinds other t p.strength old new puts, lists.known h listed);
       own = λ listed. put_apart sys d kinds other t p.strength old new puts few g t.0 (λ same. apart (sym same)) (lists.own listed);
       met = λ h listed k q below at hit. elim (cases_eq h.0 other.0) [
@@ -271,30 +288,28 @@ module _ (sys : TileSystem) (d : Side) (kinds : List GlueKind) (valid : IsValid 
             let Is : ℕ → Type 0 = λ m. Leads sys d (record { 0 = m }) new.meetings t.0 (slice_index new.first m) in
             let listed_other : Listed_at other.0 = subst Listed_at same listed in
             subst Is (sym same) (put_here sys d kinds other t p.strength old new puts few listed_other (lists.known other listed_other) kind strength_there (lists.rest other listed_other apart none_before))
-        | inr unlike ↦ put_apart sys d kinds other t p.strength old new puts few h t.0 unlike (lists.met h listed k q (earlier h k q listed unlike below at hit) at hit)
+        | inr unlike ↦ put_apart sys d kinds other t p.strength old new puts few h t.0 unlike (lists.met h listed k q (earlier h k q unlike below at hit) at hit)
       ];
       rest = λ h listed unlike none.
           let not_other : h.0 ≢ other.0 = λ same.
           let Of : ℕ → Type 0 = λ m. is_pair_of p g (record { 0 = m }) ≡ true in
-          true_false (sym (subst Of (sym same) of_both) ∙ none n p (omega (arith, next.after)) there)
+          true_false (sym (subst Of (sym same) of_both) ∙ none n p (omega arith) there)
           in
-          put_apart sys d kinds other t p.strength old new puts few h (t.0 + 1) not_other (lists.rest h listed unlike (λ k q below at. none k q (omega (arith, below, next.after)) at));
+          put_apart sys d kinds other t p.strength old new puts few h (t.0 + 1) not_other (lists.rest h listed unlike (λ k q below at. none k q (omega (arith, below)) at));
     }
       where
-        earlier : (h : GlueId) (k : ℕ) (q : GluePair) → slice_get kinds h.0 ≡ Some Listed → h.0 ≢ other.0 → k < to → slice_get sys.pairs k ≡ Some q → is_pair_of q g h ≡ true → k < n
-        earlier h k q listed unlike below at hit = elim (cases_lt k n) [
+        earlier : (h : GlueId) (k : ℕ) (q : GluePair) → h.0 ≢ other.0 → k < n + 1 → slice_get sys.pairs k ≡ Some q → is_pair_of q g h ≡ true → k < n
+        earlier h k q unlike below at hit = elim (cases_lt k n) [
           | inl before ↦ before
-          | inr past ↦ elim (cases_eq k n) [
-            | inl same ↦
-                let At : ℕ → Type 0 = λ m. slice_get sys.pairs m ≡ Some q in
-                let q_is_p = same_Some q p (sym (subst At same at) ∙ there) in
-                let Hit : GluePair → Type 0 = λ r. is_pair_of r g h ≡ true in
-                absurd (unlike (of_other h (subst Hit q_is_p hit)))
-            | inr later ↦ absurd (next.none_between k q (omega (arith, past, later)) below at (pairs_with kinds q g h listed hit))
-          ]
+          | inr past ↦
+              let same : k ≡ n = omega (arith, past, below) in
+              let At : ℕ → Type 0 = λ m. slice_get sys.pairs m ≡ Some q in
+              let q_is_p = same_Some q p (sym (subst At same at) ∙ there) in
+              let Hit : GluePair → Type 0 = λ r. is_pair_of r g h ≡ true in
+              absurd (unlike (of_other h (subst Hit q_is_p hit)))
         ]
 
-  pub met_all : (n : ℕ) (lists : MeetingOrder) → length sys.pairs ≤ n → AreMet sys d kinds t g n lists → AreMeetings sys d kinds t.0 lists
+  met_all : (n : ℕ) (lists : MeetingOrder) → length sys.pairs ≤ n → AreMet sys d kinds t g n lists → AreMeetings sys d kinds t.0 lists
   met_all n lists all are = record {
     known = are.known;
     first = λ h listed. elim (cases_eq h.0 g.0) [
@@ -310,6 +325,58 @@ module _ (sys : TileSystem) (d : Side) (kinds : List GlueKind) (valid : IsValid 
       ]
     ];
   }
+
+-- Of a type that bears a glue, with these partners of the glue left: the lists of the glue and of its other partners are met.
+pub record AreMetBut (sys : TileSystem) (d : Side) (kinds : List GlueKind) (t : TypeId) (g : GlueId) (left : List Partner) (lists : MeetingOrder) : Type 0 where
+  pub number : ℕ
+  pub within : number ≤ length sys.pairs
+  pub others : partners_of kinds g (drop number sys.pairs) ≡ left
+  pub met : AreMet sys d kinds t g number lists
+
+module _ (sys : TileSystem) (d : Side) (kinds : List GlueKind) (valid : IsValid sys) (t : TypeId) (g : GlueId) (kind : IsType sys t) (bears : side_glue sys t d ≡ Some g) where
+  pub begun : (strength : ℕ) (partners : List Partner) (old new : MeetingOrder) → strength ≡ strength_of sys g → partners ≡ partners_of kinds g sys.pairs → AreMeetings sys d kinds (t.0 + 1) old → PutsMeeting kinds g t strength old new →
+      AreMetBut sys d kinds t g partners new
+  begun strength partners old new is all lists puts = record { number = 0; within = zero-le; others = sym all; met = met_begun sys d kinds valid t g kind bears strength old new is lists puts }
+
+  module _ (partners : List Partner) (n : ℕ) (none : Partner) (below : n < length partners) (lists : MeetingOrder) (are : AreMetBut sys d kinds t g (drop n partners) lists) where
+    next : IsPartnerAt kinds g sys.pairs are.number (get_or partners n none) (drop (suc n) partners)
+    next = partner_at kinds g sys.pairs are.number (get_or partners n none) (drop (suc n) partners) (are.others ∙ drop-cons partners n none below)
+
+    pair_there : IsPair sys.glues next.pair
+    pair_there = All-slice_get (IsPair sys.glues) sys.pairs next.at next.pair valid.pairs next.there
+
+    -- the next partner is a glue of the system
+    pub partner_known : (get_or partners n none).glue.0 < length sys.glues
+    partner_known =
+        let Known : Partner → Type 0 = λ q. q.glue.0 < length sys.glues in
+        subst Known next.same (partner_glue sys.glues g next.pair pair_there)
+
+    pub partner_weak : (get_or partners n none).strength ≤ MOST_STRENGTH
+    partner_weak =
+        let Weak : Partner → Type 0 = λ q. q.strength ≤ MOST_STRENGTH in
+        subst Weak next.same pair_there.strength
+
+    -- and once the type is put first in its list, one partner less is left
+    pub met_next : (new : MeetingOrder) → PutsMeeting kinds (get_or partners n none).glue t (get_or partners n none).strength lists new → AreMetBut sys d kinds t g (drop (n + 1) partners) new
+    met_next new puts =
+        let one : suc n ≡ n + 1 = omega arith in
+        let also : suc next.at ≡ next.at + 1 = omega arith in
+        let is = partner_is g next.pair (has_glue kinds g next.pair next.with) pair_there.unlike in
+        let Puts : Partner → Type 0 = λ q. PutsMeeting kinds q.glue t q.strength lists new in
+        record {
+          number = next.at + 1;
+          within = omega (arith, slice_get_within sys.pairs next.at next.pair next.there);
+          others = sym (ap (λ k. partners_of kinds g (drop k sys.pairs)) also) ∙ next.others ∙ ap (λ k. drop k partners) one;
+          met =
+              met_more sys d kinds valid t g kind bears next.at next.pair (partner_in g next.pair).glue next.there is.0 is.1 lists new
+              (met_on sys d kinds valid t g kind bears are.number next.at lists next.after next.none_between are.met) (subst Puts (sym next.same) puts);
+        }
+
+  -- with no partner left all lists are met
+  pub met_whole : (left : List Partner) (lists : MeetingOrder) → left ≡ [] → AreMetBut sys d kinds t g left lists → AreMeetings sys d kinds t.0 lists
+  met_whole left lists none are =
+      met_all sys d kinds valid t g kind bears (length sys.pairs) lists (omega arith)
+      (met_on sys d kinds valid t g kind bears are.number (length sys.pairs) lists are.within (λ k p later below there. partners_none kinds g sys.pairs are.number k p (are.others ∙ none) later there) are.met)
 
 -- a glue that a type bears is one of the system
 pub glue_known : (sys : TileSystem) (t : TypeId) (d : Side) (g : GlueId) → IsValid sys → side_glue sys t d ≡ Some g → g.0 < length sys.glues

@@ -1,23 +1,23 @@
 // The types by the glues that interact with one of their sides.
-ghost use Rattle.std.specs.Prelude.{◌≡◌, ◌≢◌, ◌<◌, ◌≤◌, ◌+◌, ◌^◌, ◌⊎◌, true, length, slice_get, IfOk, IsTrue, OnOk, Some};
+ghost use Rattle.std.specs.Prelude.{◌≡◌, ◌<◌, ◌≤◌, ◌+◌, ◌^◌, length, slice_get, IfOk, IsTrue, OnOk, Some};
 ghost use Rattle.atam.specs.declared.limits.TheConstants.{MOST_STRENGTH};
 ghost use Rattle.atam.specs.declared.site.Side.{Side};
 ghost use Rattle.atam.specs.declared.place.TypeId.{TypeId};
-ghost use Rattle.atam.specs.TileSystem.{IsType, is_pair_of, side_glue};
+ghost use Rattle.atam.specs.TileSystem.{IsType, side_glue};
 ghost use Rattle.atam.specs.Assembly.{interaction};
 ghost use Rattle.type_index.specs.Indexes.{AreGlueFacts};
 ghost use Rattle.type_index.specs.Meetings.{AreMeetings, Leads};
-ghost use Rattle.type_index.specs.PairLinks.{ArePairLinks, HasGlue};
+ghost use Rattle.type_index.specs.Partners.{ArePartners};
 ghost use Rattle.type_index.specs.Inner.Cursors.{GoesBy, IsBehind, IsCursor};
 ghost use Rattle.type_index.specs.Inner.Linking.{HasNoMeetings, IsFree, PutsMeeting, TakesPlace};
 
 use crate::cursor::{Cursor, Way};
 use crate::glue_table::{GlueKind, GlueTable};
-use crate::pair_links::PairLinks;
+use crate::partners::Partners;
 use crate::reach::room_of;
 use std::alloc::Global;
 use std::marker::Model;
-use tile_system::{GlueId, GluePair, NoMemory, Side, System, TypeId};
+use tile_system::{GlueId, NoMemory, Side, System, TypeId};
 
 // The most places of the lists of a side that have room for their types.
 const MOST_PLACES: u32 = 4_194_304;
@@ -75,14 +75,14 @@ impl MeetingLists {
         sys: &System,
         side: Side,
         glues: &GlueTable,
-        links: &PairLinks,
+        partners: &Partners,
     ) -> Result<MeetingLists, NoMemory>
         requires glues { AreGlueFacts sys.now glues.now }
-        requires links { ArePairLinks sys.now glues.now.kinds 0 links.now }
+        requires partners { ArePartners sys.now glues.now.kinds (length sys.now.glues) partners.now }
         ensures { IfOk result (AreMeetings sys.now side glues.now.kinds 0) }
     {
         if sys.pair_count() > 0 {
-            return MeetingLists::filled(alloc, sys, side, glues, links);
+            return MeetingLists::filled(alloc, sys, side, glues, partners);
         }
         Ok(MeetingLists {
             first: Vec::new(alloc),
@@ -96,10 +96,10 @@ impl MeetingLists {
         sys: &System,
         side: Side,
         glues: &GlueTable,
-        links: &PairLinks,
+        partners: &Partners,
     ) -> Result<MeetingLists, NoMemory>
         requires glues { AreGlueFacts sys.now glues.now }
-        requires links { ArePairLinks sys.now glues.now.kinds 0 links.now }
+        requires partners { ArePartners sys.now glues.now.kinds (length sys.now.glues) partners.now }
         ensures { IfOk result (AreMeetings sys.now side glues.now.kinds 0) }
     {
         sys.recall_valid();
@@ -107,7 +107,7 @@ impl MeetingLists {
         let mut lists = MeetingLists::with_room(alloc, sys, side, glues)?;
         for passed in 0..count {
             let tile = TypeId(count - 1 - passed);
-            lists.pass(sys, side, tile, glues, links)?;
+            lists.pass(sys, side, tile, glues, partners)?;
         }
         Ok(lists)
     }
@@ -149,10 +149,10 @@ impl MeetingLists {
         side: Side,
         tile: TypeId,
         glues: &GlueTable,
-        links: &PairLinks,
+        partners: &Partners,
     ) -> Result<(), NoMemory>
         requires glues { AreGlueFacts sys.now glues.now }
-        requires links { ArePairLinks sys.now glues.now.kinds 0 links.now }
+        requires partners { ArePartners sys.now glues.now.kinds (length sys.now.glues) partners.now }
         requires kind { IsType sys.now tile }
         requires lists { AreMeetings sys.now side glues.now.kinds (tile.0 + 1) self.old }
         requires first { length self.old.first ≡ length sys.now.glues }
@@ -162,7 +162,7 @@ impl MeetingLists {
         ensures few { length self.new.meetings ≤ length self.old.meetings + 65537 }
     {
         match sys.side(tile, side) {
-            Some(glue) => self.put(sys, side, tile, glue, glues, links),
+            Some(glue) => self.put(sys, side, tile, glue, glues, partners),
             None => Ok(()),
         }
     }
@@ -175,10 +175,10 @@ impl MeetingLists {
         tile: TypeId,
         glue: GlueId,
         glues: &GlueTable,
-        links: &PairLinks,
+        partners: &Partners,
     ) -> Result<(), NoMemory>
         requires glues { AreGlueFacts sys.now glues.now }
-        requires links { ArePairLinks sys.now glues.now.kinds 0 links.now }
+        requires partners { ArePartners sys.now glues.now.kinds (length sys.now.glues) partners.now }
         requires kind { IsType sys.now tile }
         requires bears { side_glue sys.now tile side ≡ Some glue }
         requires lists { AreMeetings sys.now side glues.now.kinds (tile.0 + 1) self.old }
@@ -189,14 +189,9 @@ impl MeetingLists {
         ensures few { length self.new.meetings ≤ length self.old.meetings + 65537 }
     {
         sys.recall_valid();
-        let pairs = sys.pairs();
-        let count = sys.pair_count();
         self.meet(sys, glues, glue, tile, glues.strength(sys, glue))?;
-        let mut number = links.first(sys, glue);
-        while number < count {
-            let pair = pairs[number as usize];
-            self.meet(sys, glues, other_of(pair, glue), tile, pair.strength)?;
-            number = links.behind(sys, number, pair, glue);
+        for partner in partners.of(sys, glue) {
+            self.meet(sys, glues, partner.glue, tile, partner.strength)?;
         }
         Ok(())
     }
@@ -343,22 +338,5 @@ fn is_free(meetings: &[Meeting], place: u32) -> bool
     match meetings.get(place as usize) {
         Some(meeting) => meeting.tile == NO_TILE,
         None => false,
-    }
-}
-
-// The glue that a pair has besides this one.
-#[inline(always)]
-#[tactic(auto, using(crate::proofs::PairOrders::other_is))]
-fn other_of(pair: GluePair, glue: GlueId) -> GlueId
-    requires has { HasGlue glue pair }
-    requires unlike { pair.first.0 ≢ pair.second.0 }
-    ensures unlike { result.0 ≢ glue.0 }
-    ensures both { is_pair_of pair glue result ≡ true }
-    ensures one { (result ≡ pair.first) ⊎ (result ≡ pair.second) }
-{
-    if pair.first == glue {
-        pair.second
-    } else {
-        pair.first
     }
 }
