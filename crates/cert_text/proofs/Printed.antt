@@ -21,7 +21,7 @@ use Rattle.atam.specs.Placements.{HasDistinctSites, tile_at}
 use Rattle.atam.specs.TileSystem.{TileSystem, IsValid, IsType, type_name}
 use Rattle.atam.proofs.Placements.{distinct-empty}
 use Rattle.tile_text.specs.declared.version.Version.{Version}
-use Rattle.tile_text.specs.Fields.{site_field, type_field, place_field}
+use Rattle.tile_text.specs.Fields.{site_field, place_field}
 use Rattle.tile_text.specs.Spelling.{end_of_print}
 use Rattle.tile_text.specs.SystemText.{IsSystemOf}
 use Rattle.tile_text.proofs.Boxes.{inside_passes}
@@ -94,7 +94,7 @@ module _ (sys : TileSystem) (valid : IsValid sys) where
       }
 
   mark_checks : (done : List Entry) (e : Entry) → MayBeMarked sys e → tile_at (places_of done) e.place.site ≡ None → (certificate_format sys).check done (entry_words sys e) ≡ Ok e
-  unfolding certificate_table entry_fields place_field site_field type_field
+  unfolding certificate_table entry_fields place_field site_field
   mark_checks done e may free =
       let plain = plain_seed sys.area e.place valid.box may.inside in
       let named = named_seed sys e.place valid.type_names valid.distinct_types may.kind in

@@ -9,11 +9,12 @@ use Rattle.atam.specs.declared.place.Place.{Place}
 use Rattle.atam.specs.declared.place.TypeId.{TypeId}
 use Rattle.atam.specs.TileSystem.{TileSystem, TileType, IsType, is_name}
 use Rattle.tile_system.specs.Names.{type_named}
-use Rattle.tile_text.specs.Fields.{place_field, site_field, type_field}
+use Rattle.tile_text.specs.Fields.{place_field, site_field}
 use Rattle.tile_text.specs.SystemText.{is_in_box}
 use Rattle.tile_text.proofs.Built.{position_map}
 use Rattle.tile_text.proofs.Inverse.{place_ok}
-use Rattle.seq_text.specs.GrowthText.{GrowthItem, names_of, place_in, places_of, may_stand}
+use Rattle.seq_text.proofs.Scratch.{places_of, may_stand}
+use Rattle.seq_text.specs.GrowthText.{GrowthItem, names_of, place_in}
 use Rattle.seq_text.specs.Inner.Kinds.{row_of}
 use Rattle.seq_text.specs.declared.kind.LineKind.TheVariants as kinds
 use Rattle.seq_text.specs.GrowthText.GrowthItem.{PlaceLine}
@@ -25,7 +26,7 @@ type_found sys name = sym (position_map (λ t. t.name) (bytes_eq name) sys.types
 -- the site of a tile whose name was found
 pub place_of_found : (sys : TileSystem) (column row name : List ℕ) (t : TypeId) → is_name name ≡ true → type_named sys.types name ≡ Some t.0 →
     place_field (names_of sys) column row name ≡ (site_field column row >>= λ m. Ok (record { site = m; tile = t }))
-unfolding place_field type_field
+unfolding place_field
 place_of_found sys column row name t named found =
     let at : position (bytes_eq name) (names_of sys) ≡ Some t.0 = sym (type_found sys name) ∙ found in
     rw (named, at) refl

@@ -18,14 +18,14 @@ use Rattle.atam.proofs.Sequences.{Fits-push}
 use Rattle.assembly.specs.Grids.{TileGrid}
 use Rattle.atam.proofs.Opening.{Fits-part}
 use Rattle.tile_text.proofs.Boxes.{inside_is}
-use Rattle.seq_text.specs.GrowthText.{GrowthItem, growth_format, growth_table, place_of, places_of, may_stand, ReadsPlaces}
+use Rattle.seq_text.specs.GrowthText.{GrowthItem, growth_table, place_of, ReadsPlaces}
 use Rattle.seq_text.specs.Inner.Kinds.{row_of}
 use Rattle.seq_text.specs.declared.kind.LineKind.TheVariants as kinds
 use Rattle.seq_text.specs.GrowthText.GrowthItem.{PlaceLine, ClosedLine, UniqueLine}
 use Rattle.seq_text.specs.GrowthText.{ReadsGrid}
 use Rattle.seq_text.proofs.Fields.{MayStand, place_item}
-use Rattle.seq_text.proofs.Growths.{places-push, places-same}
-use Rattle.seq_text.proofs.Scratch.{empty_is}
+use Rattle.seq_text.proofs.Growths.{growth_format, places-push, places-same}
+use Rattle.seq_text.proofs.Scratch.{places_of, may_stand, empty_is}
 
 -- the places so far fit the system, and where they have to differ their sites do
 abbrev FitSoFar : Bool → TileSystem → List Place → Type 0
@@ -73,14 +73,13 @@ module _ (distinct : Bool) (sys : TileSystem) where
   push_places earlier UniqueLine h good = subst (FitSoFar distinct sys) (sym (places-same earlier UniqueLine refl)) h
 
   none_yet : FitSoFar distinct sys (places_of [])
-  unfolding places_of
   none_yet = fit_none distinct sys
 
   items_fit : (text : List ℕ) (from to : Mark) (items : List GrowthItem) → Reads (growth_format distinct sys) text from items to → FitSoFar distinct sys (places_of items)
   items_fit text from to items h =
       reads_hold (growth_format distinct sys) (λ l. FitSoFar distinct sys (places_of l)) none_yet (λ earlier words item so e. push_places earlier item so (passed earlier words item e)) text from to items h
 
-  pub places_fit : (text : List ℕ) (from : Mark) (places : List Place) → ReadsPlaces (growth_format distinct sys) text from places → FitSoFar distinct sys places
+  pub places_fit : (text : List ℕ) (from : Mark) (places : List Place) → ReadsPlaces distinct sys text from places → FitSoFar distinct sys places
   places_fit text from places h = subst (FitSoFar distinct sys) (sym h.places_are) (items_fit text from h.to h.items h.reads)
 
 -- a grid that is read fits too
@@ -94,14 +93,13 @@ few_places (ClosedLine ∷ items) = omega (arith, few_places items)
 few_places (UniqueLine ∷ items) = omega (arith, few_places items)
 
 module _ (distinct : Bool) (sys : TileSystem) (text : List ℕ) (from : Mark) where
-  pub places_few : (places : List Place) → ReadsPlaces (growth_format distinct sys) text from places → length places ≤ length text
-  unfolding places_of
+  pub places_few : (places : List Place) → ReadsPlaces distinct sys text from places → length places ≤ length text
   places_few places h =
       let same : length places ≡ length (filter_map place_of h.items) = ap length h.places_are in
       omega (arith, same, few_places h.items, reads_few (growth_format distinct sys) text from h.to h.items h.reads)
 
-  pub not_both_places : (places : List Place) (number : ℕ) (cause : Cause) → ReadsPlaces (growth_format distinct sys) text from places → Fault (growth_format distinct sys) text from number cause → ⊥
+  pub not_both_places : (places : List Place) (number : ℕ) (cause : Cause) → ReadsPlaces distinct sys text from places → Fault (growth_format distinct sys) text from number cause → ⊥
   not_both_places places number cause h fault = not_both (growth_format distinct sys) text from h.items h.to number cause h.reads fault
 
-  pub one_list_of_places : (a b : List Place) → ReadsPlaces (growth_format distinct sys) text from a → ReadsPlaces (growth_format distinct sys) text from b → a ≡ b
+  pub one_list_of_places : (a b : List Place) → ReadsPlaces distinct sys text from a → ReadsPlaces distinct sys text from b → a ≡ b
   one_list_of_places a b g h = g.places_are ∙ ap places_of (reads_once (growth_format distinct sys) text from g.items h.items g.to h.to g.reads h.reads).0 ∙ sym h.places_are

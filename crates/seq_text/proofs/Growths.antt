@@ -5,31 +5,33 @@ use Rattle.std.proofs.lemmas.List.{append-nil}
 use Rattle.std.proofs.lemmas.List.Elements.{filter_map-append}
 use Rattle.std.proofs.lemmas.Option.{slice_get-map}
 use Rattle.tile_io.specs.declared.mark.Mark.{Mark}
-use Rattle.tile_io.specs.Formats.{Reads}
-use Rattle.tile_io.specs.Checks.{last_of}
+use Rattle.tile_io.specs.Formats.{Format, Reads}
+use Rattle.tile_io.specs.Checks.{last_of, table_format}
 use Rattle.tile_io.proofs.Checking.{last_push}
 use Rattle.atam.specs.declared.place.Place.{Place}
 use Rattle.atam.specs.TileSystem.{TileSystem}
 use Rattle.assembly.specs.Grids.{TileGrid}
 use Rattle.seq_text.specs.declared.kind.LineKind.{LineKind}
 use Rattle.seq_text.specs.declared.kind.LineKind.TheVariants as kinds
-use Rattle.seq_text.specs.GrowthText.{GrowthItem, growth_table, growth_format, grid_format, ReadsPlaces, ReadsGrid, place_of, places_of}
+use Rattle.seq_text.specs.GrowthText.{GrowthItem, growth_table, grid_format, ReadsPlaces, ReadsGrid, place_of}
+use Rattle.seq_text.proofs.Scratch.{places_of}
 use Rattle.seq_text.specs.GrowthText.GrowthItem.{PlaceLine, ClosedLine, UniqueLine}
 use Rattle.seq_text.specs.Inner.Kinds.{row_of, kind_of, kind_named}
 use Rattle.seq_text.specs.Inner.SoFar.{HoldsLines, HoldsPlaces, IsOverBox}
 
+-- as a grid, whose sites differ, or as a sequence
+abbrev pub growth_format : Bool → TileSystem → Format GrowthItem
+growth_format distinct sys = table_format (growth_table distinct sys)
+
 -- a place more, and a line without a place
 pub places-push : (items : List GrowthItem) (p : Place) → places_of (items ++ PlaceLine p ∷ []) ≡ places_of items ++ p ∷ []
-unfolding places_of
 places-push items p = filter_map-append place_of items (PlaceLine p ∷ [])
 
 pub places-same : (items : List GrowthItem) (item : GrowthItem) → place_of item ≡ None → places_of (items ++ item ∷ []) ≡ places_of items
-unfolding places_of
 places-same items item none = filter_map-append place_of items (item ∷ []) ∙ rw none (append-nil (filter_map place_of items))
 
 module _ (sys : TileSystem) where
   pub holds_nothing : (grid : Option TileGrid) → IsOverBox sys grid → HoldsPlaces sys [] grid [] → HoldsLines sys [] grid None []
-  unfolding places_of
   holds_nothing grid box_area none = record { box_area = box_area; places = none; kind = refl }
 
   pub holds_place : (sequence : List Place) (old : Option TileGrid) (longer : List Place) (new : Option TileGrid) (last : Option LineKind) (items : List GrowthItem) (p : Place) → HoldsLines sys sequence old last items →
@@ -78,7 +80,6 @@ module _ (distinct : Bool) (sys : TileSystem) where
   unique_follows_closed places = rw (last_push (map PlaceLine places) ClosedLine) refl
 
 pub places_back : (places : List Place) → places_of (map PlaceLine places) ≡ places
-unfolding places_of
 places_back [] = refl
 places_back (p ∷ places) = ap (λ l. p ∷ l) (places_back places)
 
@@ -103,7 +104,7 @@ row_named distinct sys word = row_by distinct sys (bytes_eq word (codes "place")
 
 -- what was read into a reader, of this system
 pub into_places : (distinct : Bool) (sys : TileSystem) (text : List ℕ) (from to : Mark) (places : List Place) (items : List GrowthItem) → places ≡ places_of items → Reads (growth_format distinct sys) text from items to →
-    ReadsPlaces (growth_format distinct sys) text from places
+    ReadsPlaces distinct sys text from places
 into_places distinct sys text from to places items is reads = record { items = items; to = to; reads = reads; places_are = is }
 
 pub into_grid : (sys held_by : TileSystem) (text : List ℕ) (from to : Mark) (sequence : List Place) (held : Option TileGrid) (grid : TileGrid) (last : Option LineKind) (items : List GrowthItem) → held_by ≡ sys →

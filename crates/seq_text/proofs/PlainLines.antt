@@ -23,7 +23,8 @@ use Rattle.tile_text.specs.Fields.{site_field, place_field}
 use Rattle.tile_text.specs.SystemText.{is_in_box}
 use Rattle.seq_text.specs.declared.kind.LineKind.{LineKind}
 use Rattle.seq_text.specs.declared.kind.LineKind.TheVariants as kinds
-use Rattle.seq_text.specs.GrowthText.{GrowthItem, growth_table, place_in, places_of, names_of, may_stand}
+use Rattle.seq_text.proofs.Scratch.{places_of, may_stand}
+use Rattle.seq_text.specs.GrowthText.{GrowthItem, growth_table, place_in, names_of}
 use Rattle.seq_text.specs.GrowthText.GrowthItem.{PlaceLine, ClosedLine, UniqueLine}
 use Rattle.seq_text.specs.Inner.Kinds.{kind_of, may_stand_after, row_of}
 use Rattle.seq_text.proofs.Fields.{place_of_found}

@@ -21,7 +21,7 @@ use Rattle.atam.specs.Sites.{InBox, IsNearSite}
 use Rattle.atam.specs.Placements.{HasDistinctSites, tile_at}
 use Rattle.atam.specs.TileSystem.{TileSystem, IsValid, IsType, type_name, is_name}
 use Rattle.atam.proofs.Placements.{distinct-empty}
-use Rattle.tile_text.specs.Fields.{site_field, type_field, place_field}
+use Rattle.tile_text.specs.Fields.{site_field, place_field}
 use Rattle.tile_text.proofs.Boxes.{le_z, inside_passes}
 use Rattle.tile_text.proofs.Names.{named_seed, at_seam}
 use Rattle.tile_text.proofs.PlainWords.{plain_seed, name_word, name_short, keyword_word}
@@ -32,11 +32,12 @@ use Rattle.seq_text.specs.VerdictLines.{verdict_line}
 use Rattle.seq_text.specs.PrintedGrowths.{growth_lines, line_or_none, MayBeOpen, MayBeTold, MayBePrinted}
 use Rattle.tile_text.specs.declared.version.Version.{Version}
 use Rattle.tile_text.specs.Spelling.{spelling, spelling_by, version_of}
-use Rattle.seq_text.specs.GrowthText.{GrowthItem, growth_table, growth_format, place_in, places_of, may_stand, ReadsPlaces}
+use Rattle.seq_text.proofs.Scratch.{places_of, may_stand}
+use Rattle.seq_text.specs.GrowthText.{GrowthItem, growth_table, place_in, ReadsPlaces}
 use Rattle.seq_text.specs.Inner.Kinds.{row_of}
 use Rattle.seq_text.specs.declared.kind.LineKind.TheVariants as kinds
 use Rattle.seq_text.specs.GrowthText.GrowthItem.{PlaceLine, ClosedLine, UniqueLine}
-use Rattle.seq_text.proofs.Growths.{follows_places, unique_follows, unique_follows_closed, places_back, places-same}
+use Rattle.seq_text.proofs.Growths.{growth_format, follows_places, unique_follows, unique_follows_closed, places_back, places-same}
 
 abbrev place_words : TileSystem → Place → List (List ℕ)
 place_words sys p = codes "place" ∷ signed_decimal p.site.x ∷ signed_decimal p.site.y ∷ type_name sys p.tile ∷ []
@@ -199,7 +200,7 @@ module _ (sys : TileSystem) (valid : IsValid sys) where
 
   place_checks : (distinct : Bool) (done : List Place) (p : Place) → IsType sys p.tile → InBox sys.area p.site → may_stand distinct (places_of (map PlaceLine done)) p.site ≡ true →
       (growth_format distinct sys).check (map PlaceLine done) (place_words sys p) ≡ Ok (PlaceLine p)
-  unfolding growth_table place_in place_field site_field type_field
+  unfolding growth_table place_in place_field site_field
   place_checks distinct done p typed inside free =
       let plain = plain_seed sys.area p valid.box inside in
       let named = named_seed sys p valid.type_names valid.distinct_types typed in
@@ -251,7 +252,7 @@ module _ (sys : TileSystem) (valid : IsValid sys) where
 
   -- the printed lines read as the places, to the end of the text
   pub printed_reads : (distinct : Bool) (places : List Place) (closed : Option (Option (Site × TypeId))) (verdict : Option Verdict) (text : List ℕ) (from : Mark) → MayBePrinted sys places closed verdict → (distinct ≡ true → HasDistinctSites places) →
-      drop from.at text ≡ growth_lines sys places closed verdict → ReadsPlaces (growth_format distinct sys) text from places
+      drop from.at text ≡ growth_lines sys places closed verdict → ReadsPlaces distinct sys text from places
   unfolding growth_table
   printed_reads distinct places closed verdict text from may differ e =
       let format = growth_format distinct sys in

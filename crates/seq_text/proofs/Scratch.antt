@@ -1,6 +1,6 @@
 -- The scratch grid has the places that were read.
 use Rattle.std.proofs.Common.{◌≡◌, ◌≢◌, true, Option, List, [], ◌∷◌, ◌++◌, Some, None, refl, sym, ap, subst, ◌∙◌, inl, inr}
-use Rattle.std.specs.Prelude.{is_none, is_some}
+use Rattle.std.specs.Prelude.{Bool, ◌||◌, not, filter_map, is_none, is_some}
 use Rattle.atam.proofs.Lists.{some_or_none}
 use Rattle.atam.specs.declared.site.Site.{Site}
 use Rattle.atam.specs.declared.place.TypeId.{TypeId}
@@ -10,8 +10,16 @@ use Rattle.atam.specs.TileSystem.{TileSystem}
 use Rattle.atam.proofs.Placements.{at_site, tile_at-here, tile_at-past, tile_at-append, tile_at-append_past}
 use Rattle.assembly.specs.Grids.{TileGrid}
 use Rattle.atam.proofs.Tiles.{SamePlacements-push, SamePlacements-trans}
-use Rattle.seq_text.specs.GrowthText.{may_stand}
+use Rattle.seq_text.specs.GrowthText.{GrowthItem, place_of}
 use Rattle.seq_text.specs.Inner.SoFar.{IsScratchOf, HoldsPlaces, is_free_in}
+
+-- the places of the lines, in their order
+abbrev pub places_of : List GrowthItem → List Place
+places_of items = filter_map place_of items
+
+-- whether a tile may be placed at a site after others
+abbrev pub may_stand : Bool → List Place → Site → Bool
+may_stand distinct earlier m = not distinct || is_none (tile_at earlier m)
 
 -- an empty grid has no places
 pub scratch_none : (sys : TileSystem) (grid : TileGrid) → grid.area ≡ sys.area → grid.tiles ≡ [] → IsScratchOf sys [] grid

@@ -1,11 +1,10 @@
 -- The text of a growth: what each kept line is, and which checks it has to pass. It follows a system text, and names the types of that system.
-use Rattle.std.specs.Prelude.{◌≡◌, ℕ, ◌==◌, Bool, true, false, ◌||◌, nat_le, List, [], ◌∷◌, map, filter_map, codes, is_none, Option, Some, None, Result, Ok}
+use Rattle.std.specs.Prelude.{◌≡◌, ℕ, ◌==◌, Bool, true, false, not, ◌||◌, nat_le, List, [], ◌∷◌, map, filter_map, codes, is_none, Option, Some, None, Result, Ok}
 use Rattle.tile_io.specs.declared.fault.Cause.{Cause}
 use Rattle.tile_io.specs.declared.fault.Cause.TheVariants.{OutsideBox, DoubleSite}
 use Rattle.tile_io.specs.declared.mark.Mark.{Mark}
 use Rattle.tile_io.specs.Formats.{Format, Reads}
 use Rattle.tile_io.specs.Checks.{◌>>=◌, require, field, behind, Keyword, Table, table_format, row}
-use Rattle.atam.specs.declared.site.Site.{Site}
 use Rattle.atam.specs.declared.place.Place.{Place}
 use Rattle.atam.specs.Placements.{tile_at, SamePlacements}
 use Rattle.atam.specs.TileSystem.{TileSystem}
@@ -25,29 +24,22 @@ word_of (PlaceLine p) = codes "place"
 word_of ClosedLine = codes "closed"
 word_of UniqueLine = codes "unique"
 
+-- the place of a line, where it has one
 abbrev pub place_of : GrowthItem → Option Place
 place_of (PlaceLine p) = Some p
 place_of _ = None
-
--- the places of the lines, in their order
-unfoldable pub places_of : List GrowthItem → List Place
-places_of items = filter_map place_of items
-
--- whether a tile may be placed at a site after others: anywhere, or, where sites have to differ, where none stands yet
-abbrev pub may_stand : Bool → List Place → Site → Bool
-may_stand false earlier m = true
-may_stand true earlier m = is_none (tile_at earlier m)
 
 -- the names of the types of a system
 abbrev pub names_of : TileSystem → List (List ℕ)
 names_of sys = map (λ t. t.name) sys.types
 
--- the fields of a `place` line, and the checks of the whole line
+-- The fields of a `place` line, and the checks of the whole line. Where sites have to differ, none
+-- stands yet at its site.
 unfoldable pub place_in : Bool → TileSystem → List Place → List (List ℕ) → Result Place Cause
 place_in distinct sys earlier words = do
   p ← place_field (names_of sys) (field words 1) (field words 2) (field words 3)
   _ ← require (is_in_box sys.area p.site) OutsideBox
-  _ ← require (may_stand distinct earlier p.site) DoubleSite
+  _ ← require (not distinct || is_none (tile_at earlier p.site)) DoubleSite
   Ok p
 
 -- The table of keywords. A row has the word, how many words its line has, behind which lines it may
@@ -57,7 +49,7 @@ growth_rows distinct sys =
     row (codes "place") (λ n. n == 4)
     (λ before. is_none before || behind word_of (codes "place" ∷ []) before)
     (λ earlier words. true) (λ earlier words. do
-      p ← place_in distinct sys (places_of earlier) words
+      p ← place_in distinct sys (filter_map place_of earlier) words
       Ok (PlaceLine p))
     ∷ row (codes "closed") (nat_le 2)
     (λ before. is_none before || behind word_of (codes "place" ∷ []) before)
@@ -76,33 +68,34 @@ growth_table distinct sys = record {
   is_complete = λ items. true;
 }
 
-abbrev pub growth_format : Bool → TileSystem → Format GrowthItem
-growth_format distinct sys = table_format (growth_table distinct sys)
-
 -- as a sequence, whose sites may repeat
 abbrev pub sequence_format : TileSystem → Format GrowthItem
-sequence_format sys = growth_format false sys
+sequence_format sys = table_format (growth_table false sys)
 
 -- as a grid, whose sites differ
 abbrev pub grid_format : TileSystem → Format GrowthItem
-grid_format sys = growth_format true sys
+grid_format sys = table_format (growth_table true sys)
 
--- the text from a mark on, up to its end, reads as lines with these places
-pub record ReadsPlaces (format : Format GrowthItem) (text : List ℕ) (from : Mark) (places : List Place) : Type 0 where
+-- the text from a mark on, up to its end, reads as lines with these places, whose sites may repeat
+-- unless they have to be distinct
+pub record ReadsPlaces (distinct : Bool) (sys : TileSystem) (text : List ℕ) (from : Mark)
+    (places : List Place) : Type 0 where
   pub items : List GrowthItem
   pub to : Mark
-  pub reads : Reads format text from items to
-  pub places_are : places ≡ places_of items
+  pub reads : Reads (table_format (growth_table distinct sys)) text from items to
+  pub places_are : places ≡ filter_map place_of items
 
+-- as a sequence
 abbrev pub ReadsSequence : TileSystem → List ℕ → Mark → List Place → Type 0
-ReadsSequence sys text from places = ReadsPlaces (growth_format false sys) text from places
+ReadsSequence sys text from sequence = ReadsPlaces false sys text from sequence
 
+-- as placements, with one line for a site at most
 abbrev pub ReadsPlacements : TileSystem → List ℕ → Mark → List Place → Type 0
-ReadsPlacements sys text from places = ReadsPlaces (growth_format true sys) text from places
+ReadsPlacements sys text from places = ReadsPlaces true sys text from places
 
 -- the grid has the system's box and exactly the placements that the text reads as
 pub record ReadsGrid (sys : TileSystem) (text : List ℕ) (from : Mark) (grid : TileGrid) : Type 0 where
   pub area : grid.area ≡ sys.area
   pub places : List Place
-  pub reads : ReadsPlacements sys text from places
+  pub reads : ReadsPlaces true sys text from places
   pub same : SamePlacements places grid.tiles

@@ -1,8 +1,9 @@
 // Laws of growth and schedule texts.
 ghost use Rattle.tile_io.specs.Lines.{first_mark};
-ghost use Rattle.std.specs.Prelude.{◌≡◌, ◌≤◌, ◌⊎◌, ◌++◌, ℕ, List, Bool, Option, length, drop};
+ghost use Rattle.std.specs.Prelude.{◌≡◌, ◌≤◌, ◌⊎◌, ◌++◌, ℕ, List, Bool, true, false, Option, length, drop};
 ghost use Rattle.tile_io.specs.declared.mark.Mark.{Mark};
 ghost use Rattle.tile_io.specs.declared.fault.Cause.{Cause};
+ghost use Rattle.tile_io.specs.Checks.{table_format};
 ghost use Rattle.tile_io.specs.Formats.{Fault, IsRead, IsFaulty};
 ghost use Rattle.atam.specs.declared.place.Place.{Place};
 ghost use Rattle.atam.specs.declared.place.TypeId.{TypeId};
@@ -17,39 +18,39 @@ ghost use Rattle.tile_text.specs.SystemText.{ReadsAny};
 ghost use Rattle.tile_text.specs.Spelling.{spelling, spelling_by, newest_spelling, version_of, end_of_print};
 ghost use Rattle.seq_text.specs.PrintedGrowths.{growth_lines, MayBePrinted};
 ghost use Rattle.atam.specs.declared.event.Event.{Event};
-ghost use Rattle.seq_text.specs.GrowthText.{growth_format, ReadsPlaces, ReadsSequence, ReadsPlacements};
+ghost use Rattle.seq_text.specs.GrowthText.{growth_table, ReadsPlaces};
 ghost use Rattle.seq_text.specs.ScheduleText.{schedule_format, ReadsEvents};
 
 /// Each text, from each start, as a sequence or as a grid, either reads as one list of places or
 /// has one fault.
 pub fn law_growth_one_of_two()
     ensures one { (distinct : Bool) (sys : TileSystem) (text : List ℕ) (from : Mark) →
-        IsRead (growth_format distinct sys) text from
-        ⊎ IsFaulty (growth_format distinct sys) text from }
+        IsRead (table_format (growth_table distinct sys)) text from
+        ⊎ IsFaulty (table_format (growth_table distinct sys)) text from }
     ensures not_both { (distinct : Bool) (sys : TileSystem) (text : List ℕ) (from : Mark)
         (places : List Place) (number : ℕ) (cause : Cause) →
-        ReadsPlaces (growth_format distinct sys) text from places →
-        Fault (growth_format distinct sys) text from number cause → ⊥ }
+        ReadsPlaces distinct sys text from places →
+        Fault (table_format (growth_table distinct sys)) text from number cause → ⊥ }
     ensures one_list { (distinct : Bool) (sys : TileSystem) (text : List ℕ) (from : Mark)
         (a b : List Place) →
-        ReadsPlaces (growth_format distinct sys) text from a →
-        ReadsPlaces (growth_format distinct sys) text from b → a ≡ b }
+        ReadsPlaces distinct sys text from a →
+        ReadsPlaces distinct sys text from b → a ≡ b }
     ensures one_fault { (distinct : Bool) (sys : TileSystem) (text : List ℕ) (from : Mark)
         (m n : ℕ) (a b : Cause) →
-        Fault (growth_format distinct sys) text from m a →
-        Fault (growth_format distinct sys) text from n b → (m ≡ n) × (a ≡ b) }
+        Fault (table_format (growth_table distinct sys)) text from m a →
+        Fault (table_format (growth_table distinct sys)) text from n b → (m ≡ n) × (a ≡ b) }
 {}
 
 /// What a growth text reads as is of types of the system, within its box, and no longer than the
 /// text. The sites differ where it is read as a grid.
 pub fn law_growth_fits()
     ensures sequence { (sys : TileSystem) (text : List ℕ) (from : Mark) (places : List Place) →
-        ReadsSequence sys text from places → Fits sys places }
+        ReadsPlaces false sys text from places → Fits sys places }
     ensures grid { (sys : TileSystem) (text : List ℕ) (from : Mark) (places : List Place) →
-        ReadsPlacements sys text from places → Fits sys places × HasDistinctSites places }
+        ReadsPlaces true sys text from places → Fits sys places × HasDistinctSites places }
     ensures count { (distinct : Bool) (sys : TileSystem) (text : List ℕ) (from : Mark)
         (places : List Place) →
-        ReadsPlaces (growth_format distinct sys) text from places → length places ≤ length text }
+        ReadsPlaces distinct sys text from places → length places ≤ length text }
 {}
 
 /// The lines of places that fit a valid system, then maybe a `closed` line and then maybe the line
@@ -60,12 +61,12 @@ pub fn law_growth_reads_printed()
         (closed : Option (Option (Site × TypeId))) (verdict : Option Verdict)
         (text : List ℕ) (from : Mark) → IsValid sys → MayBePrinted sys places closed verdict →
         drop from.at text ≡ growth_lines sys places closed verdict →
-        ReadsSequence sys text from places }
+        ReadsPlaces false sys text from places }
     ensures grid { (sys : TileSystem) (places : List Place)
         (closed : Option (Option (Site × TypeId))) (verdict : Option Verdict)
         (text : List ℕ) (from : Mark) → IsValid sys → MayBePrinted sys places closed verdict →
         HasDistinctSites places → drop from.at text ≡ growth_lines sys places closed verdict →
-        ReadsPlacements sys text from places }
+        ReadsPlaces true sys text from places }
 {}
 
 /// A growth that is printed behind its system's one text, or behind that of the newest version,
@@ -79,12 +80,12 @@ pub fn law_input_reads_printed()
     ensures sequence { (version : Version) (sys : TileSystem) (places : List Place)
         (closed : Option (Option (Site × TypeId))) (verdict : Option Verdict) → IsValid sys →
         MayBePrinted sys places closed verdict →
-        ReadsSequence sys (spelling_by version sys ++ growth_lines sys places closed verdict)
+        ReadsPlaces false sys (spelling_by version sys ++ growth_lines sys places closed verdict)
         (end_of_print version sys first_mark) places }
     ensures grid { (version : Version) (sys : TileSystem) (places : List Place)
         (closed : Option (Option (Site × TypeId))) (verdict : Option Verdict) → IsValid sys →
         MayBePrinted sys places closed verdict → HasDistinctSites places →
-        ReadsPlacements sys (spelling_by version sys ++ growth_lines sys places closed verdict)
+        ReadsPlaces true sys (spelling_by version sys ++ growth_lines sys places closed verdict)
         (end_of_print version sys first_mark) places }
 {}
 

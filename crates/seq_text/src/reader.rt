@@ -11,7 +11,7 @@ ghost use Rattle.tile_io.specs.Formats.{ReadsOrStops};
 ghost use Rattle.tile_io.specs.LineReader.{TakesItem};
 ghost use Rattle.atam.specs.TileSystem.{IsType};
 ghost use Rattle.tile_text.specs.Fields.{place_field};
-ghost use Rattle.seq_text.specs.GrowthText.{GrowthItem, sequence_format, grid_format, ReadsSequence, ReadsGrid, names_of, place_in};
+ghost use Rattle.seq_text.specs.GrowthText.{GrowthItem, sequence_format, grid_format, ReadsPlaces, ReadsGrid, names_of, place_in};
 ghost use Rattle.seq_text.specs.Inner.Kinds.{row_of, may_stand_after};
 ghost use Rattle.seq_text.specs.Inner.Plain.{BeginsPlain};
 ghost use Rattle.seq_text.specs.Inner.SoFar.{HoldsPlaces, IsOverBox, is_free_in};
@@ -39,7 +39,7 @@ pub fn read_sequence(
     requires short { length text.now ≤ MOST_INPUT }
     requires mark { IsMark text.now from }
     ensures read { ReadsOrStops (sequence_format sys.now) text.now from
-        (ReadsSequence sys.now text.now from) result }
+        (ReadsPlaces false sys.now text.now from) result }
     ensures fits { IfOk result (Fits sys.now) }
     ensures count { IfOk result (λ sequence. length sequence < 2 ^ 32) }
 {
@@ -61,7 +61,7 @@ pub fn read_sequence_in_blocks<S: Source>(
     requires whole { begun.is_whole ≡ true → IsAtEnd (S.left source.old) }
     requires mark { (rest : List ℕ) → IsMark (begun.text.items ++ rest) from }
     ensures read { ReadsInBlocks S.left S.faults (sequence_format sys.now) begun.text.items from
-        (λ whole. ReadsSequence sys.now whole from) source.old source.new result }
+        (λ whole. ReadsPlaces false sys.now whole from) source.old source.new result }
     ensures unread { begun.is_whole ≡ true → source.new ≡ source.old }
     ensures later { S.faults source.old ≤ S.faults source.new }
     ensures fits { IfOk result (Fits sys.now) }

@@ -78,7 +78,8 @@ impl MeetingLists {
         partners: &Partners,
     ) -> Result<MeetingLists, NoMemory>
         requires glues { AreGlueFacts sys.now glues.now }
-        requires partners { ArePartners sys.now glues.now.kinds (length sys.now.glues) partners.now }
+        requires partners { ArePartners sys.now glues.now.kinds (length sys.now.glues)
+            partners.now }
         ensures { IfOk result (AreMeetings sys.now side glues.now.kinds 0) }
     {
         if sys.pair_count() > 0 {
@@ -99,7 +100,8 @@ impl MeetingLists {
         partners: &Partners,
     ) -> Result<MeetingLists, NoMemory>
         requires glues { AreGlueFacts sys.now glues.now }
-        requires partners { ArePartners sys.now glues.now.kinds (length sys.now.glues) partners.now }
+        requires partners { ArePartners sys.now glues.now.kinds (length sys.now.glues)
+            partners.now }
         ensures { IfOk result (AreMeetings sys.now side glues.now.kinds 0) }
     {
         sys.recall_valid();
@@ -152,7 +154,8 @@ impl MeetingLists {
         partners: &Partners,
     ) -> Result<(), NoMemory>
         requires glues { AreGlueFacts sys.now glues.now }
-        requires partners { ArePartners sys.now glues.now.kinds (length sys.now.glues) partners.now }
+        requires partners { ArePartners sys.now glues.now.kinds (length sys.now.glues)
+            partners.now }
         requires kind { IsType sys.now tile }
         requires lists { AreMeetings sys.now side glues.now.kinds (tile.0 + 1) self.old }
         requires first { length self.old.first ≡ length sys.now.glues }
@@ -178,7 +181,8 @@ impl MeetingLists {
         partners: &Partners,
     ) -> Result<(), NoMemory>
         requires glues { AreGlueFacts sys.now glues.now }
-        requires partners { ArePartners sys.now glues.now.kinds (length sys.now.glues) partners.now }
+        requires partners { ArePartners sys.now glues.now.kinds (length sys.now.glues)
+            partners.now }
         requires kind { IsType sys.now tile }
         requires bears { side_glue sys.now tile side ≡ Some glue }
         requires lists { AreMeetings sys.now side glues.now.kinds (tile.0 + 1) self.old }

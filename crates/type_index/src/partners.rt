@@ -92,7 +92,8 @@ impl Partners {
     pub(crate) fn of(&self, sys: &System, glue: GlueId) -> &[Partner]
         requires ranges { AreRanges (length sys.now.glues) self.now }
         requires known { glue.0 < length sys.now.glues }
-        ensures { (kinds : List GlueKind) → ArePartners sys.now kinds (length sys.now.glues) self.now
+        ensures { (kinds : List GlueKind)
+            → ArePartners sys.now kinds (length sys.now.glues) self.now
             → result.now ≡ partners_of kinds glue sys.now.pairs }
     {
         let start = self.starts[glue.0 as usize] as usize;

@@ -1,5 +1,5 @@
 -- What the reader of a growth text holds of the lines that it took.
-use Rattle.std.specs.Prelude.{◌≡◌, List, Bool, true, option_map, is_none, Option, Some, None, IfSome}
+use Rattle.std.specs.Prelude.{◌≡◌, List, Bool, true, option_map, filter_map, is_none, Option, Some, None, IfSome}
 use Rattle.tile_io.specs.Checks.{last_of}
 use Rattle.atam.specs.declared.site.Site.{Site}
 use Rattle.atam.specs.declared.place.Place.{Place}
@@ -7,7 +7,7 @@ use Rattle.atam.specs.Placements.{tile_at, SamePlacements}
 use Rattle.atam.specs.TileSystem.{TileSystem}
 use Rattle.assembly.specs.Grids.{TileGrid}
 use Rattle.seq_text.specs.declared.kind.LineKind.{LineKind}
-use Rattle.seq_text.specs.GrowthText.{GrowthItem, places_of}
+use Rattle.seq_text.specs.GrowthText.{GrowthItem, place_of}
 use Rattle.seq_text.specs.Inner.Kinds.{kind_of}
 
 -- a scratch grid of the system's box has the places
@@ -33,5 +33,5 @@ is_free_in (Some grid) m = is_none (tile_at grid.tiles m)
 -- the places of the lines, and the keyword of the last line
 pub record HoldsLines (sys : TileSystem) (sequence : List Place) (grid : Option TileGrid) (last : Option LineKind) (items : List GrowthItem) : Type 0 where
   pub box_area : IsOverBox sys grid
-  pub places : HoldsPlaces sys sequence grid (places_of items)
+  pub places : HoldsPlaces sys sequence grid (filter_map place_of items)
   pub kind : last ≡ option_map kind_of (last_of items)

@@ -1,5 +1,5 @@
 use Rattle.tile_io.proofs.Laws.{read_or_faulty, fails_once}
-use Rattle.seq_text.specs.GrowthText.{growth_format}
+use Rattle.seq_text.proofs.Growths.{growth_format}
 use Rattle.seq_text.proofs.Fitting.{not_both_places, one_list_of_places}
 use Rattle.seq_text.proofs.laws.law_growth_one_of_two.Goals as goal
 

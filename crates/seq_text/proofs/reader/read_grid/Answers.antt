@@ -1,8 +1,7 @@
 use Rattle.std.proofs.Common.{Bool, true, ap, subst, ◌∙◌}
 use Rattle.tile_io.specs.Formats.{Reads}
 use Rattle.atam.specs.TileSystem.{TileSystem}
-use Rattle.seq_text.specs.GrowthText.{growth_format}
-use Rattle.seq_text.proofs.Growths.{into_grid}
+use Rattle.seq_text.proofs.Growths.{growth_format, into_grid}
 use Rattle.seq_text.proofs.Fitting.{grid_fits}
 use Rattle.seq_text.proofs.reader.read_grid.Goals as goal
 

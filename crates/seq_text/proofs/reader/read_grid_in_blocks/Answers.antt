@@ -5,8 +5,8 @@ use Rattle.tile_io.specs.Blocks.{StopsInBlocks}
 use Rattle.tile_io.specs.Formats.{Reads}
 use Rattle.tile_io.proofs.Inputs.{none_read}
 use Rattle.atam.specs.TileSystem.{TileSystem}
-use Rattle.seq_text.specs.GrowthText.{growth_format, grid_format}
-use Rattle.seq_text.proofs.Growths.{into_grid}
+use Rattle.seq_text.specs.GrowthText.{grid_format}
+use Rattle.seq_text.proofs.Growths.{growth_format, into_grid}
 use Rattle.seq_text.proofs.Fitting.{grid_fits}
 use Rattle.seq_text.proofs.reader.read_grid_in_blocks.Goals as goal
 

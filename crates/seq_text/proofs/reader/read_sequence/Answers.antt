@@ -1,8 +1,8 @@
 use Rattle.std.proofs.Common.{◌≤◌, Bool, false, length, ap, subst, ◌∙◌, arith}
 use Rattle.tile_io.specs.Formats.{Reads}
 use Rattle.atam.specs.TileSystem.{TileSystem}
-use Rattle.seq_text.specs.GrowthText.{growth_format, places_of}
-use Rattle.seq_text.proofs.Growths.{into_places, sequence_is}
+use Rattle.seq_text.proofs.Scratch.{places_of}
+use Rattle.seq_text.proofs.Growths.{growth_format, into_places, sequence_is}
 use Rattle.seq_text.proofs.Fitting.{places_fit, places_few}
 use Rattle.seq_text.proofs.reader.read_sequence.Goals as goal
 

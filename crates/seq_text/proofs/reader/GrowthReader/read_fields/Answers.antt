@@ -3,9 +3,9 @@ use Rattle.tile_io.specs.Checks.{field}
 use Rattle.tile_text.specs.Fields.{place_field}
 use Rattle.tile_text.specs.SystemText.{is_in_box}
 use Rattle.tile_text.proofs.Boxes.{holds_is}
-use Rattle.seq_text.specs.GrowthText.{names_of, place_in, may_stand}
+use Rattle.seq_text.specs.GrowthText.{names_of, place_in}
 use Rattle.std.specs.Prelude.{is_some}
-use Rattle.seq_text.proofs.Scratch.{stands_is}
+use Rattle.seq_text.proofs.Scratch.{may_stand, stands_is}
 use Rattle.seq_text.proofs.reader.GrowthReader.read_fields.Goals as goal
 
 pub returns-in_err-place-clause-place : goal.returns-in_err-place-clause-place

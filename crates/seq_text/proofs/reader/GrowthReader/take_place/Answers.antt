@@ -1,6 +1,6 @@
 use Rattle.std.proofs.Common.{◌≡◌, Err, refl, sym, rules}
 use Rattle.std.specs.Prelude.{is_some}
-use Rattle.seq_text.specs.GrowthText.{places_of}
+use Rattle.seq_text.proofs.Scratch.{places_of}
 use Rattle.seq_text.specs.Inner.Kinds.{row_of}
 use Rattle.seq_text.specs.declared.kind.LineKind.TheVariants as kinds
 use Rattle.seq_text.specs.GrowthText.GrowthItem.{PlaceLine}

@@ -8,7 +8,7 @@ use Rattle.atam.specs.Sites.{InBox}
 use Rattle.atam.specs.TileSystem.{TileSystem, IsValid, IsType, type_name}
 use Rattle.tile_system.specs.Names.{type_named}
 use Rattle.tile_text.proofs.Boxes.{inside_passes}
-use Rattle.seq_text.specs.GrowthText.{GrowthItem, growth_table, places_of}
+use Rattle.seq_text.specs.GrowthText.{GrowthItem, growth_table}
 use Rattle.seq_text.specs.GrowthText.GrowthItem.{PlaceLine}
 use Rattle.seq_text.specs.declared.reader.GrowthReader.{GrowthReader}
 use Rattle.seq_text.specs.Inner.Plain.{BeginsPlain}
@@ -16,7 +16,7 @@ use Rattle.seq_text.specs.Inner.SoFar.{HoldsLines}
 use Rattle.seq_text.proofs.Growths.{holds_place}
 use Rattle.seq_text.proofs.PlainLines.{BeginsWithPlace, plain_front, place_taken}
 use Rattle.seq_text.proofs.Printed.{named_type}
-use Rattle.seq_text.proofs.Scratch.{stands_is}
+use Rattle.seq_text.proofs.Scratch.{places_of, stands_is}
 use Rattle.seq_text.proofs.reader.GrowthReaderLineReader.take_front.Goals as goal
 
 -- a `place` line in its plain form, with a type that was found by its name
