@@ -1,14 +1,16 @@
 -- The greatest strength with which any glue interacts with each, and the kinds of glues.
-use Rattle.std.proofs.Common.{◌≡◌, ℕ, zero, suc, ◌<◌, ◌≤◌, ◌⊎◌, max, List, [], ◌∷◌, ◌++◌, length, replicate, get_or, set, slice_get, sym, subst, ap, ◌∙◌, refl, inl, inr, arith, Some, get_or-set_same, get_or-set_other}
+use Rattle.std.proofs.Common.{◌≡◌, ℕ, zero, suc, Bool, true, false, length-set, ◌<◌, ◌≤◌, ◌⊎◌, max, List, [], ◌∷◌, ◌++◌, length, replicate, get_or, set, slice_get, sym, subst, ap, ◌∙◌, refl, inl, inr, arith, Some, get_or-set_same, get_or-set_other}
 use Rattle.std.proofs.lemmas.Bool.{cases_eq}
 use Rattle.std.proofs.lemmas.List.{get_or-replicate, length-replicate}
 use Rattle.std.proofs.lemmas.Option.{get_or_from_slice_get, same_Some, slice_get_within}
 use Rattle.atam.specs.declared.place.GlueId.{GlueId}
+use Rattle.atam.specs.declared.place.GluePair.{GluePair}
 use Rattle.type_index.specs.declared.glue_table.GlueKind.{GlueKind}
 use Rattle.type_index.specs.declared.glue_table.GlueKind.TheVariants.{Alone, Listed}
 use Rattle.atam.specs.TileSystem.{TileSystem}
 use Rattle.type_index.specs.Indexes.{AreKindsOf, IsLone}
-use Rattle.type_index.proofs.Cursors.{lone_unpaired}
+use Rattle.type_index.specs.PairLinks.{ArePaired, HasGlue}
+use Rattle.type_index.proofs.Cursors.{lone_unpaired, lone_where_lacking}
 
 abbrev pub raised : List ℕ → ℕ → ℕ → List ℕ
 raised mosts g strength = set mosts g (max (get_or mosts g 0) strength)
@@ -74,3 +76,32 @@ kinds_more sys kinds kind n count here before g is = elim (last_or_before kinds 
       let at : n ≡ g.0 = omega (arith, count, last.0) in
       subst Lone at (here last.1)
 ]
+
+-- a mark that is set stays
+pub mark_kept : (marks : List Bool) (i j : ℕ) → slice_get marks j ≡ Some true → slice_get (set marks i true) j ≡ Some true
+mark_kept [] i j there = let never : ⊥ = cc in absurd never
+mark_kept (m ∷ marks) zero zero there = refl
+mark_kept (m ∷ marks) zero (suc j) there = there
+mark_kept (m ∷ marks) (suc i) zero there = there
+mark_kept (m ∷ marks) (suc i) (suc j) there = mark_kept marks i j there
+
+mark_new : (marks : List Bool) (i : ℕ) → i < length marks → slice_get (set marks i true) i ≡ Some true
+mark_new [] i within = let never : ⊥ = omega (arith, within) in absurd never
+mark_new (m ∷ marks) zero within = refl
+mark_new (m ∷ marks) (suc i) within = mark_new marks i (omega (arith, within))
+
+-- both glues of a pair are marked
+pub marked_both : (marks : List Bool) (p : GluePair) (g : GlueId) → p.first.0 < length marks → p.second.0 < length marks → HasGlue g p → slice_get (set (set marks p.first.0 true) p.second.0 true) g.0 ≡ Some true
+marked_both marks p g first second (inl same) =
+    let At : ℕ → Type 0 = λ n. slice_get (set marks p.first.0 true) n ≡ Some true in
+    mark_kept (set marks p.first.0 true) p.second.0 g.0 (subst At same (mark_new marks p.first.0 first))
+marked_both marks p g first second (inr same) =
+    let At : ℕ → Type 0 = λ n. slice_get (set (set marks p.first.0 true) p.second.0 true) n ≡ Some true in
+    subst At same (mark_new (set marks p.first.0 true) p.second.0 (omega (arith, second, length-set marks p.first.0 true)))
+
+-- a glue without a mark is of no pair
+pub lone_unmarked : (sys : TileSystem) (marks : List Bool) (g : GlueId) → ArePaired sys marks → slice_get marks g.0 ≡ Some false → IsLone sys g
+lone_unmarked sys marks g paired bare = lone_where_lacking sys g (λ k p there. ((λ same. never (paired.each g k p there (inl same))), (λ same. never (paired.each g k p there (inr same)))))
+  where
+    never : slice_get marks g.0 ≡ Some true → ⊥
+    never marked = cc

@@ -1,8 +1,7 @@
 -- The pairs that have a glue, one behind the other.
-use Rattle.std.proofs.Common.{◌≡◌, ◌≢◌, ℕ, ◌+◌, ◌<◌, ◌≤◌, ◌⊎◌, List, All, length, length-set, get_or, set, replicate, slice_get, sym, subst, ap, ◌∙◌, refl, inl, inr, arith, Some, true, false, ◌==◌, ◌&&◌, ◌||◌, tests, get_or-set_same, get_or-set_other}
+use Rattle.std.proofs.Common.{◌≡◌, ◌≢◌, ℕ, ◌+◌, ◌<◌, ◌≤◌, ◌⊎◌, List, All, length, length-set, get_or, set, slice_get, sym, subst, ap, ◌∙◌, refl, inl, inr, arith, Some, true, false, ◌==◌, ◌&&◌, ◌||◌, tests, get_or-set_same, get_or-set_other}
 use Rattle.std.specs.Prelude.{Bool, slice_index, if◌then◌else◌}
 use Rattle.std.proofs.lemmas.Bool.{cases_eq}
-use Rattle.std.proofs.lemmas.List.{get_or-replicate, length-replicate}
 use Rattle.std.proofs.lemmas.Option.{same_Some, slice_get-get_or, slice_get_within}
 use Rattle.atam.specs.declared.place.GlueId.{GlueId}
 use Rattle.atam.specs.declared.place.GluePair.{GluePair}
@@ -10,7 +9,7 @@ use Rattle.atam.specs.TileSystem.{TileSystem, IsPair, is_pair_of}
 use Rattle.atam.proofs.Lists.{All-slice_get}
 use Rattle.type_index.specs.declared.glue_table.GlueKind.{GlueKind}
 use Rattle.type_index.specs.declared.glue_table.GlueKind.TheVariants.{Listed}
-use Rattle.type_index.specs.PairLinks.{HasGlue, LacksGlue, PairsWithListed, is_list_kind, is_known_list_kind, is_listed, IsNextPair, PairOrder, ArePairLinks}
+use Rattle.type_index.specs.PairLinks.{HasGlue, PairsWithListed, is_known_list_kind, is_listed, IsNextPair, PairOrder, ArePairLinks}
 use Rattle.type_index.specs.Inner.Linking.{PutsPair, linked}
 
 -- an element that is read
@@ -25,15 +24,6 @@ pair_is sys read n p same each there = All-slice_get (IsPair sys.glues) sys.pair
 
 true_false : true ≡ false → ⊥
 true_false both = cc
-
--- whether a glue has lists is read from its kind
-pub listed_read : (kinds : List GlueKind) (g : GlueId) (d : GlueKind) → g.0 < length kinds → is_listed kinds g ≡ is_list_kind (get_or kinds g.0 d)
-listed_read kinds g d within = ap is_known_list_kind (slice_get-get_or kinds g.0 d within)
-
-all_listed : (count : ℕ) (g : GlueId) → g.0 < count → is_listed (replicate count Listed) g ≡ true
-all_listed count g below =
-    let within : g.0 < length (replicate count Listed) = omega (arith, below, length-replicate count Listed) in
-    listed_read (replicate count Listed) g Listed within ∙ ap is_list_kind (get_or-replicate count g.0 Listed Listed below)
 
 -- a pair of a glue and one that has lists has the glue
 pub has_glue : (kinds : List GlueKind) (g : GlueId) (p : GluePair) → PairsWithListed kinds g p → HasGlue g p
@@ -52,11 +42,6 @@ pairs_with kinds p g h listed of_both =
   where
     sides : (a b g h : ℕ) → ((a == g && b == h) || (a == h && b == g)) ≡ true → ((a ≡ g) × (b ≡ h)) ⊎ ((b ≡ g) × (a ≡ h))
     sides a b g h hit = grind (arith, tests)
-
--- as if each glue had lists, a pair that isn't of a glue and one that has lists lacks the glue
-pub lacks_where_all : (sys : TileSystem) (g : GlueId) (p : GluePair) → IsPair sys.glues p → ¬ PairsWithListed (replicate (length sys.glues) Listed) g p → LacksGlue g p
-lacks_where_all sys g p is none =
-    ((λ same. none (inl (same, all_listed (length sys.glues) p.second is.second))), (λ same. none (inr (same, all_listed (length sys.glues) p.first is.first))))
 
 -- past the last pair there is none
 none_past : (pairs : List GluePair) (p : GluePair) (k : ℕ) → length pairs ≤ k → slice_get pairs k ≡ Some p → ⊥

@@ -1,5 +1,5 @@
 -- The pairs of a system by the glues that they have.
-use Rattle.std.specs.Prelude.{◌≡◌, ◌≢◌, ℕ, ◌+◌, ◌≤◌, ◌<◌, ◌⊎◌, Bool, true, false, List, length, replicate, Option, Some, None, slice_get, slice_index}
+use Rattle.std.specs.Prelude.{◌≡◌, ◌≢◌, ℕ, ◌+◌, ◌≤◌, ◌<◌, ◌⊎◌, Bool, true, false, List, length, Option, Some, None, slice_get, slice_index}
 use Rattle.atam.specs.declared.place.GlueId.{GlueId}
 use Rattle.atam.specs.declared.place.GluePair.{GluePair}
 use Rattle.atam.specs.TileSystem.{TileSystem}
@@ -59,6 +59,7 @@ pub record ArePairLinks (sys : TileSystem) (kinds : List GlueKind) (from : ℕ) 
   pub behind_first : (k : ℕ) (p : GluePair) → from ≤ k → slice_get sys.pairs k ≡ Some p → IsNextPair sys.pairs kinds p.first (k + 1) (slice_index links.behind_first k)
   pub behind_second : (k : ℕ) (p : GluePair) → from ≤ k → slice_get sys.pairs k ≡ Some p → IsNextPair sys.pairs kinds p.second (k + 1) (slice_index links.behind_second k)
 
--- the same of all pairs, as if each glue had lists
-abbrev pub AreLinksOfAll : TileSystem → PairOrder → Type 0
-AreLinksOfAll sys links = ArePairLinks sys (replicate (length sys.glues) Listed) 0 links
+-- each glue of a pair is told to be one
+pub record ArePaired (sys : TileSystem) (paired : List Bool) : Type 0 where
+  pub count : length paired ≡ length sys.glues
+  pub each : (g : GlueId) (k : ℕ) (p : GluePair) → slice_get sys.pairs k ≡ Some p → HasGlue g p → slice_get paired g.0 ≡ Some true

@@ -3,9 +3,8 @@ ghost use Rattle.std.specs.Prelude.{◌≡◌, ◌≢◌, ◌<◌, ◌≤◌, le
 ghost use Rattle.atam.specs.declared.limits.TheConstants.{MOST_STRENGTH};
 ghost use Rattle.atam.specs.TileSystem.{strength_between, strength_of};
 ghost use Rattle.type_index.specs.Indexes.{AreGlueFacts, AreKindsOf, AreMostsOf, AreStrengthsOf, IsLone};
-ghost use Rattle.type_index.specs.PairLinks.{AreLinksOfAll};
+ghost use Rattle.type_index.specs.PairLinks.{ArePaired};
 
-use crate::pair_links::PairLinks;
 use crate::reach::reach_of;
 use std::alloc::Global;
 use std::marker::Model;
@@ -150,12 +149,12 @@ fn kinds_of(alloc: Global, sys: &System) -> Result<Vec<GlueKind>, NoMemory>
     if sys.pair_count() == 0 {
         return Ok(Vec::from_elem(alloc, GlueKind::Alone, count as usize)?);
     }
-    let links = PairLinks::of_all(alloc, sys)?;
+    let paired = paired_of(alloc, sys)?;
     let reach = reach_of(alloc, sys)?;
     let mut room = MOST_MEETINGS;
     let mut kinds = Vec::with_capacity(alloc, count as usize)?;
     for number in 0..count {
-        let kind = kind_of(sys, &links, GlueId(number), reach[number as usize], room);
+        let kind = kind_of(sys, &paired, GlueId(number), reach[number as usize], room);
         if kind == GlueKind::Listed {
             room -= reach[number as usize];
         }
@@ -164,15 +163,28 @@ fn kinds_of(alloc: Global, sys: &System) -> Result<Vec<GlueKind>, NoMemory>
     Ok(kinds)
 }
 
+// Whether each glue is one of a pair.
+fn paired_of(alloc: Global, sys: &System) -> Result<Vec<bool>, NoMemory>
+    ensures { IfOk result (λ paired. ArePaired sys.now paired.items) }
+{
+    sys.recall_valid();
+    let mut paired = Vec::from_elem(alloc, false, sys.glue_count() as usize)?;
+    for pair in sys.pairs() {
+        paired[pair.first.0 as usize] = true;
+        paired[pair.second.0 as usize] = true;
+    }
+    Ok(paired)
+}
+
 // The kind of a glue whose lists have so many types in all, where there is so much room.
-fn kind_of(sys: &System, links: &PairLinks, glue: GlueId, reach: u32, room: u32) -> GlueKind
-    requires links { AreLinksOfAll sys.now links.now }
+fn kind_of(sys: &System, paired: &[bool], glue: GlueId, reach: u32, room: u32) -> GlueKind
+    requires paired { ArePaired sys.now paired.now }
     requires known { glue.0 < length sys.now.glues }
     ensures lone { result ≡ GlueKind.Alone → IsLone sys.now glue }
     ensures room { result ≡ GlueKind.Listed → reach ≤ room }
 {
     sys.recall_valid();
-    if links.first(sys, glue) == sys.pair_count() {
+    if !paired[glue.0 as usize] {
         GlueKind::Alone
     } else if reach <= room {
         GlueKind::Listed

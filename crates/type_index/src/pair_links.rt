@@ -2,7 +2,7 @@
 ghost use Rattle.std.specs.Prelude.{◌≡◌, ◌<◌, ◌+◌, List, length, slice_get, IfOk, Some};
 ghost use Rattle.atam.specs.TileSystem.{IsPair};
 ghost use Rattle.type_index.specs.declared.glue_table.GlueKind.{GlueKind};
-ghost use Rattle.type_index.specs.PairLinks.{AreLinksOfAll, ArePairLinks, HasGlue, HasRoomFor};
+ghost use Rattle.type_index.specs.PairLinks.{ArePairLinks, HasGlue, HasRoomFor};
 ghost use Rattle.type_index.specs.PairLinks.{IsNextPair, is_listed};
 ghost use Rattle.type_index.specs.Inner.Linking.{PutsPair, linked};
 
@@ -42,14 +42,6 @@ impl Model for PairLinks {
 }
 
 impl PairLinks {
-    // The links of all pairs.
-    pub(crate) fn of_all(alloc: Global, sys: &System) -> Result<PairLinks, NoMemory>
-        ensures { IfOk result (AreLinksOfAll sys.now) }
-    {
-        let kinds = Vec::from_elem(alloc, GlueKind::Listed, sys.glue_count() as usize)?;
-        PairLinks::build(alloc, sys, kinds.as_slice())
-    }
-
     // The links of the pairs with a glue that has lists.
     pub(crate) fn build(
         alloc: Global,
