@@ -85,14 +85,6 @@ pub record ReadsPlaces (distinct : Bool) (sys : TileSystem) (text : List ℕ) (f
   pub reads : Reads (table_format (growth_table distinct sys)) text from items to
   pub places_are : places ≡ filter_map place_of items
 
--- as a sequence
-abbrev pub ReadsSequence : TileSystem → List ℕ → Mark → List Place → Type 0
-ReadsSequence sys text from sequence = ReadsPlaces false sys text from sequence
-
--- as placements, with one line for a site at most
-abbrev pub ReadsPlacements : TileSystem → List ℕ → Mark → List Place → Type 0
-ReadsPlacements sys text from places = ReadsPlaces true sys text from places
-
 -- the grid has the system's box and exactly the placements that the text reads as
 pub record ReadsGrid (sys : TileSystem) (text : List ℕ) (from : Mark) (grid : TileGrid) : Type 0 where
   pub area : grid.area ≡ sys.area

@@ -39,7 +39,7 @@ use Rattle.tilebench.specs.Inner.Reorderings.{IsReordering, is_whole, reordering
 use Rattle.tilebench.specs.Commands.Verify.{IsVerifyAnswer, is_verified}
 use Rattle.job_board.specs.AnswerText.{is_unique}
 use Rattle.tilebench.specs.Inputs.{IsAssemblyOf, IsSystemThen}
-use Rattle.seq_text.specs.GrowthText.{ReadsPlacements}
+use Rattle.seq_text.specs.GrowthText.{ReadsPlaces}
 use Rattle.cert_text.specs.CertificateText.{ReadsCertificate}
 
 -- what keeps tiles from having an order is told
@@ -56,7 +56,7 @@ certificate_told sys tiles (Refuted verdict) certified = inl (verdict, certified
 certificate_told sys tiles (Unordered reordering) certified = inr (no_order_told sys tiles reordering certified.0 certified.1)
 
 -- and it is the answer
-pub certify_answer : (input : List ℕ) (sys : TileSystem) (places tiles : List Place) (certification : Certification) → IsSystemThen ReadsPlacements input sys places → IsAssemblyOf places tiles →
+pub certify_answer : (input : List ℕ) (sys : TileSystem) (places tiles : List Place) (certification : Certification) → IsSystemThen (ReadsPlaces true) input sys places → IsAssemblyOf places tiles →
     IsCertification sys tiles certification → IsCertifyAnswer input (is_given certification) (certification_text sys certification)
 certify_answer input sys places tiles certification read assembly certified =
     record { sys = sys; places = places; read = read; tiles = tiles; assembly = assembly; told = certificate_told sys tiles certification certified }

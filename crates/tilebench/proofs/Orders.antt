@@ -1,6 +1,6 @@
 -- What `replay` answers to a text.
 use Rattle.tile_io.specs.Lines.{first_mark}
-use Rattle.std.proofs.Common.{◌≡◌, ◌∙◌, ◌++◌, [], ℕ, List, None, Err, refl, sym, ap, subst, append-nil, inl, inr}
+use Rattle.std.proofs.Common.{◌≡◌, ◌∙◌, ◌++◌, [], ℕ, List, None, Err, refl, sym, ap, subst, append-nil, inl, inr, true}
 use Rattle.atam.specs.declared.place.Place.{Place}
 use Rattle.atam.specs.Placements.{HasDistinctSites}
 use Rattle.atam.specs.TileSystem.{TileSystem, IsValid}
@@ -26,10 +26,10 @@ use Rattle.tilebench.specs.Inputs.{FailsWithin, IsAssemblyOf, IsSystemThen}
 use Rattle.tilebench.specs.Inner.Gives.{Gives}
 use Rattle.tilebench.specs.Inner.Stops.{stop_of_text}
 use Rattle.tile_io.specs.declared.fault.TextStop.TheVariants as stops
-use Rattle.seq_text.specs.GrowthText.{ReadsPlacements}
+use Rattle.seq_text.specs.GrowthText.{ReadsPlaces}
 
 -- the reordering of what was read is told
-order_told : (input : List ℕ) (sys : TileSystem) (places tiles : List Place) (reordering : Reordering) → IsSystemThen ReadsPlacements input sys places →
+order_told : (input : List ℕ) (sys : TileSystem) (places tiles : List Place) (reordering : Reordering) → IsSystemThen (ReadsPlaces true) input sys places →
     IsReordering sys tiles reordering → TellsReordering sys tiles (is_whole reordering) (reordering_text sys reordering)
 order_told input sys places tiles (SeedMissing site) read reordered = inl (site, reordered, refl)
 order_told input sys places tiles (Stuck left least) read reordered = inr (left, least, reordered, refl)
@@ -45,7 +45,7 @@ order_told input sys places tiles (Whole order) read whole =
     }
 
 -- and is the answer
-pub replay_answer : (input : List ℕ) (sys : TileSystem) (places tiles : List Place) (reordering : Reordering) → IsSystemThen ReadsPlacements input sys places → IsAssemblyOf places tiles →
+pub replay_answer : (input : List ℕ) (sys : TileSystem) (places tiles : List Place) (reordering : Reordering) → IsSystemThen (ReadsPlaces true) input sys places → IsAssemblyOf places tiles →
     IsReordering sys tiles reordering → IsReplayAnswer input (is_whole reordering) (reordering_text sys reordering)
 replay_answer input sys places tiles reordering read assembly reordered =
     record { sys = sys; places = places; read = read; tiles = tiles; assembly = assembly; told = order_told input sys places tiles reordering read reordered }

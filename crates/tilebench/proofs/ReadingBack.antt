@@ -1,7 +1,7 @@
 -- What is printed of a growth reads back, behind the spelling of its system.
 use Rattle.tile_io.specs.Lines.{first_mark}
 use Rattle.std.proofs.Common.{take, ◌≡◌, ◌≤◌, ◌<◌, ◌==◌, ◌^◌, ◌++◌, ℕ, true, false, List, Option, Some, None, All, if◌then◌else◌, refl, sym, subst, arith}
-use Rattle.std.specs.Prelude.{slice_get}
+use Rattle.std.specs.Prelude.{slice_get, false, true}
 use Rattle.std.specs.Option.{option_map_or}
 use Rattle.std.proofs.lemmas.List.Elements.{All-contains}
 use Rattle.atam.specs.declared.limits.TheConstants.{MOST_STRENGTH}
@@ -30,7 +30,7 @@ use Rattle.tile_text.proofs.SystemSpelled.{printed_any}
 use Rattle.seq_text.specs.PrintedGrowths.{MayBeOpen, MayBePrinted, MayBeTold, growth_lines}
 use Rattle.seq_text.proofs.Printed.{printed_reads, behind_system}
 use Rattle.tilebench.specs.Inputs.{IsSystemThen}
-use Rattle.seq_text.specs.GrowthText.{ReadsSequence, ReadsPlacements}
+use Rattle.seq_text.specs.GrowthText.{ReadsPlaces}
 
 module _ (sys : TileSystem) (valid : IsValid sys) where
   -- ---- a pull is a number of the machine
@@ -95,9 +95,9 @@ module _ (sys : TileSystem) (valid : IsValid sys) where
   -- ---- and so it reads back
 
   pub sequence_back : (places : List Place) (closed : Option (Option (Site × TypeId))) (verdict : Option Verdict) (text : List ℕ) → MayBePrinted sys places closed verdict →
-      text ≡ growth_lines sys places closed verdict → IsSystemThen ReadsSequence (spelling sys ++ text) sys places
+      text ≡ growth_lines sys places closed verdict → IsSystemThen (ReadsPlaces false) (spelling sys ++ text) sys places
   sequence_back places closed verdict text may is =
-      let Back : List ℕ → Type 0 = λ lines. IsSystemThen ReadsSequence (spelling sys ++ lines) sys places in
+      let Back : List ℕ → Type 0 = λ lines. IsSystemThen (ReadsPlaces false) (spelling sys ++ lines) sys places in
       let lines = growth_lines sys places closed verdict in
       subst Back (sym is) (record {
         end = end_of_print (version_of sys) sys first_mark;
@@ -106,9 +106,9 @@ module _ (sys : TileSystem) (valid : IsValid sys) where
       })
 
   pub placements_back : (places : List Place) (closed : Option (Option (Site × TypeId))) (verdict : Option Verdict) (text : List ℕ) → MayBePrinted sys places closed verdict →
-      HasDistinctSites places → text ≡ growth_lines sys places closed verdict → IsSystemThen ReadsPlacements (spelling sys ++ text) sys places
+      HasDistinctSites places → text ≡ growth_lines sys places closed verdict → IsSystemThen (ReadsPlaces true) (spelling sys ++ text) sys places
   placements_back places closed verdict text may distinct is =
-      let Back : List ℕ → Type 0 = λ lines. IsSystemThen ReadsPlacements (spelling sys ++ lines) sys places in
+      let Back : List ℕ → Type 0 = λ lines. IsSystemThen (ReadsPlaces true) (spelling sys ++ lines) sys places in
       let lines = growth_lines sys places closed verdict in
       subst Back (sym is) (record {
         end = end_of_print (version_of sys) sys first_mark;

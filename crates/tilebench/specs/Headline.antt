@@ -5,7 +5,7 @@ use Rattle.atam.specs.declared.verdict.Verdict.TheVariants.{NotTerminal}
 use Rattle.tilebench.specs.declared.status.Status.TheVariants.{Done, No, Words, Text, ReadFault, WriteFault, NoMemory}
 use Rattle.tilebench.specs.Terms.{Command, CommandName, CounterStop, IsCallOf, IsTaken, IsUsage, command_named, counter_stop_name, refused_words, room_of}
 use Rattle.tilebench.specs.Terms.{Status, TextFault, Rose, Gains, GainsFront, AnswersLeft, FailsLeft, IsReadyFor, refused_text}
-use Rattle.tilebench.specs.Terms.{GrownValue, Outcome, IsOutcome, IsSystemThen, ReadsSequence, spelling, Place, TileSystem, ReadsAny, IsAlone, IsGrowth, IsLegal, SamePlacements, growth_text}
+use Rattle.tilebench.specs.Terms.{GrownValue, Outcome, IsOutcome, IsSystemThen, ReadsPlaces, spelling, Place, TileSystem, ReadsAny, IsAlone, IsGrowth, IsLegal, SamePlacements, growth_text}
 use Rattle.tilebench.specs.Terms.{IsClosedInBox, IsLeastOpenOutside, IsLocallyDeterministic, IsDeterministicInBox, IsDeterministicInSomeOrder, GrowsInto, IsWatchAnswer}
 use Rattle.tilebench.specs.Terms.{InBox, IsDeterministicWithin, IsYesWithin, LiesInBox, Site, TypeId}
 use Rattle.tilebench.specs.Terms.{AnswerEach, Job, IsBatch, batch_text, is_unique}
@@ -74,7 +74,7 @@ pub record IsHeadline (input : List ℕ) (is_yes : Bool) (text : List ℕ) : Typ
   pub legal : IsLegal sys outcome.order
   pub same : SamePlacements outcome.order tiles
   -- and behind the spelling of the system they read as this sequence
-  pub reads_back : IsSystemThen ReadsSequence (spelling sys ++ text) sys outcome.order
+  pub reads_back : IsSystemThen (ReadsPlaces false) (spelling sys ++ text) sys outcome.order
   -- nothing extends the assembly in the box, nor outside it unless a site is named
   pub closed : IsClosedInBox sys tiles
   pub outside : IsLeastOpenOutside sys tiles outcome.outside

@@ -15,7 +15,7 @@ pub use Rattle.unique_law.specs.Outcomes.{Outcome, IsOutcome, IsDeterministicInS
 pub use Rattle.unique_law.specs.Within.{IsDeterministicWithin, IsYesWithin, LiesInBox}
 pub use Rattle.tile_text.specs.Spelling.{spelling}
 pub use Rattle.tile_text.specs.SystemText.{ReadsAny}
-pub use Rattle.seq_text.specs.GrowthText.{ReadsSequence}
+pub use Rattle.seq_text.specs.GrowthText.{ReadsPlaces}
 pub use Rattle.watch_frames.specs.FrameText.{IsWatchAnswer}
 pub use Rattle.job_board.specs.declared.job.Job.{Job}
 pub use Rattle.job_board.specs.Answers.{AnswerEach}

@@ -4,7 +4,7 @@ ghost use Rattle.tile_io.specs.Lines.{first_mark};
 ghost use Rattle.tile_io.specs.Formats.{Fault};
 ghost use Rattle.quadrant_compile.specs.QuadrantText.{ReadsQuadrant, quadrant_format};
 ghost use Rattle.machine_text.specs.MachineText.{ReadsMachine, machine_format};
-ghost use Rattle.std.specs.Prelude.{◌≡◌, ◌<◌, ◌≤◌, ◌^◌, ℕ, true, List, [], length, Option, IfOk};
+ghost use Rattle.std.specs.Prelude.{◌≡◌, ◌<◌, ◌≤◌, ◌^◌, ℕ, true, List, [], length, Option, IfOk, false};
 ghost use Rattle.std.specs.Io.KnownBytes.{IsAtEnd};
 ghost use Rattle.tile_io.specs.declared.limits.TheConstants.{MOST_INPUT};
 ghost use Rattle.tile_io.specs.NextLine.{IsMark};
@@ -17,7 +17,7 @@ ghost use Rattle.quadrant_compile.specs.Quadrants.{IsQuadrant};
 ghost use Rattle.job_board.specs.declared.limits.TheConstants.{MOST_JOBS};
 ghost use Rattle.atam.specs.declared.place.Place.{Place};
 ghost use Rattle.atam.specs.Assembly.{Fits};
-ghost use Rattle.seq_text.specs.GrowthText.{grid_format, sequence_format, ReadsSequence, ReadsPlacements};
+ghost use Rattle.seq_text.specs.GrowthText.{grid_format, sequence_format, ReadsPlaces};
 ghost use Rattle.cert_check.specs.Certificates.{places_of};
 ghost use Rattle.cert_text.specs.CertificateText.{certificate_format, ReadsCertificate};
 ghost use Rattle.tilebench.specs.Inputs.{FailsWithin, IsAlone, IsAssemblyOf, IsBatch};
@@ -101,7 +101,7 @@ pub fn system_and_sequence<S: Source>(
     source: &mut S,
 ) -> Result<(System, Sequence), Stop>
     ensures read { GivesRead S.left S.faults
-        (HoldsWhole (λ input found. IsSystemThen ReadsSequence input found.0 found.1))
+        (HoldsWhole (λ input found. IsSystemThen (ReadsPlaces false) input found.0 found.1))
         (FailsWithin ReadsAny FaultAny sequence_format) source.old source.new result }
     ensures later { S.faults source.old ≤ S.faults source.new }
     ensures fits { IfOk result (λ found. Fits found.0 found.1) }
@@ -116,7 +116,7 @@ pub fn system_and_sequence<S: Source>(
 pub fn system_and_grid<S: Source>(alloc: Global, source: &mut S) -> Result<(System, Grid), Stop>
     ensures read { GivesRead S.left S.faults
         (HoldsWhole (λ input found. (places : List Place)
-        × IsSystemThen ReadsPlacements input found.0 places × IsAssemblyOf places found.1.tiles))
+        × IsSystemThen (ReadsPlaces true) input found.0 places × IsAssemblyOf places found.1.tiles))
         (FailsWithin ReadsAny FaultAny grid_format) source.old source.new result }
     ensures later { S.faults source.old ≤ S.faults source.new }
     ensures area { IfOk result (λ found. found.1.area ≡ found.0.area) }

@@ -14,7 +14,7 @@ use Rattle.cert_text.specs.CertificateLines.{mark_lines}
 use Rattle.tilebench.specs.Commands.Replay.{TellsNoOrder}
 use Rattle.job_board.specs.AnswerText.{is_unique}
 use Rattle.tilebench.specs.Inputs.{IsAssemblyOf, IsSystemThen}
-use Rattle.seq_text.specs.GrowthText.{ReadsPlacements}
+use Rattle.seq_text.specs.GrowthText.{ReadsPlaces}
 use Rattle.cert_text.specs.CertificateText.{ReadsCertificate}
 
 -- The canonical order of the tiles is locally deterministic, and these entries are its certificate: at distinct sites, with no sides but the four. It is good, and behind the spelling of the system
@@ -48,7 +48,7 @@ TellsCertificate sys tiles false text =
 pub record IsCertifyAnswer (input : List ℕ) (is_yes : Bool) (text : List ℕ) : Type 0 where
   pub sys : TileSystem
   pub places : List Place
-  pub read : IsSystemThen ReadsPlacements input sys places
+  pub read : IsSystemThen (ReadsPlaces true) input sys places
   pub tiles : List Place
   pub assembly : IsAssemblyOf places tiles
   pub told : TellsCertificate sys tiles is_yes text

@@ -10,7 +10,7 @@ use Rattle.seq_text.specs.LegalityLines.{legality_line}
 use Rattle.seq_text.specs.VerdictLines.{verdict_line}
 use Rattle.job_board.specs.AnswerText.{is_unique}
 use Rattle.tilebench.specs.Inputs.{IsSystemThen}
-use Rattle.seq_text.specs.GrowthText.{ReadsSequence}
+use Rattle.seq_text.specs.GrowthText.{ReadsPlaces}
 
 -- the text of the judgement on a sequence
 abbrev pub judgement_text : TileSystem → Judged → List ℕ
@@ -26,7 +26,7 @@ is_judged_unique (Breach breach) = false
 pub record IsCheckAnswer (input : List ℕ) (is_yes : Bool) (text : List ℕ) : Type 0 where
   pub sys : TileSystem
   pub sequence : List Place
-  pub read : IsSystemThen ReadsSequence input sys sequence
+  pub read : IsSystemThen (ReadsPlaces false) input sys sequence
   pub judgement : Judged
   pub judged : IsJudged sys sequence judgement
   pub printed : text ≡ judgement_text sys judgement

@@ -9,7 +9,7 @@ use Rattle.tile_text.specs.Spelling.{spelling}
 use Rattle.seq_text.specs.GrowthLines.{place_lines}
 use Rattle.seq_text.specs.StuckLines.{stuck_line, stuck_seed_line}
 use Rattle.tilebench.specs.Inputs.{IsAssemblyOf, IsSystemThen}
-use Rattle.seq_text.specs.GrowthText.{ReadsPlacements}
+use Rattle.seq_text.specs.GrowthText.{ReadsPlaces}
 
 -- the first seed that isn't there, in the system's order, is of this site
 pub record LacksSeedAt (sys : TileSystem) (tiles : List Place) (site : Site) : Type 0 where
@@ -33,7 +33,7 @@ pub record TellsOrder (sys : TileSystem) (tiles : List Place) (text : List ℕ) 
   pub order : List Place
   pub ordered : IsWholeOrder sys tiles order
   pub printed : text ≡ place_lines sys order
-  pub reads_back : IsSystemThen ReadsPlacements (spelling sys ++ text) sys order
+  pub reads_back : IsSystemThen (ReadsPlaces true) (spelling sys ++ text) sys order
 
 -- it is a yes where all tiles are in order
 abbrev pub TellsReordering : TileSystem → List Place → Bool → List ℕ → Type 0
@@ -45,7 +45,7 @@ TellsReordering sys tiles false text = TellsNoOrder sys tiles text
 pub record IsReplayAnswer (input : List ℕ) (is_yes : Bool) (text : List ℕ) : Type 0 where
   pub sys : TileSystem
   pub places : List Place
-  pub read : IsSystemThen ReadsPlacements input sys places
+  pub read : IsSystemThen (ReadsPlaces true) input sys places
   pub tiles : List Place
   pub assembly : IsAssemblyOf places tiles
   pub told : TellsReordering sys tiles is_yes text

@@ -1,10 +1,10 @@
 use Rattle.std.proofs.Math.Nat.{le_trans}
-use Rattle.std.proofs.Common.{◌∙◌, ℕ, List, Option}
+use Rattle.std.proofs.Common.{◌∙◌, ℕ, List, Option, true}
 use Rattle.std.proofs.lemmas.Result.{err_from_is_err_and}
 use Rattle.atam.specs.declared.place.Place.{Place}
 use Rattle.assembly.specs.Grids.{TileGrid}
 use Rattle.atam.specs.TileSystem.{TileSystem}
-use Rattle.seq_text.specs.GrowthText.{grid_format, ReadsPlacements}
+use Rattle.seq_text.specs.GrowthText.{grid_format, ReadsPlaces}
 use Rattle.tilebench.specs.Inputs.{IsAssemblyOf, IsSystemThen}
 use Rattle.tilebench.specs.Inner.Gives.{HoldsWhole}
 use Rattle.tilebench.proofs.Fronts.{blocks_stop, front_mark, front_stop, front_whole}
@@ -12,7 +12,7 @@ use Rattle.tilebench.proofs.input.system_and_grid.Goals as goal
 
 -- what is read of the source
 Holds : Option (List ℕ) → Option (List ℕ) → TileSystem × TileGrid → Type 0
-Holds left left_after value = HoldsWhole (λ input (found : TileSystem × TileGrid). (places : List Place) × IsSystemThen ReadsPlacements input found.0 places × IsAssemblyOf places found.1.tiles) left left_after value
+Holds left left_after value = HoldsWhole (λ input (found : TileSystem × TileGrid). (places : List Place) × IsSystemThen (ReadsPlaces true) input found.0 places × IsAssemblyOf places found.1.tiles) left left_after value
 
 pub returns-in_err-sys-clause-read : goal.returns-in_err-sys-clause-read
 returns-in_err-sys-clause-read g c =

@@ -1,9 +1,9 @@
 use Rattle.std.proofs.Math.Nat.{le_trans}
-use Rattle.std.proofs.Common.{◌∙◌, ℕ, List, Option}
+use Rattle.std.proofs.Common.{◌∙◌, ℕ, List, Option, false}
 use Rattle.std.proofs.lemmas.Result.{err_from_is_err_and}
 use Rattle.atam.specs.declared.place.Place.{Place}
 use Rattle.atam.specs.TileSystem.{TileSystem}
-use Rattle.seq_text.specs.GrowthText.{sequence_format, ReadsSequence}
+use Rattle.seq_text.specs.GrowthText.{sequence_format, ReadsPlaces}
 use Rattle.tilebench.specs.Inputs.{IsSystemThen}
 use Rattle.tilebench.specs.Inner.Gives.{HoldsWhole}
 use Rattle.tilebench.proofs.Fronts.{blocks_stop, front_mark, front_stop, front_whole}
@@ -11,7 +11,7 @@ use Rattle.tilebench.proofs.input.system_and_sequence.Goals as goal
 
 -- what is read of the source
 Holds : Option (List ℕ) → Option (List ℕ) → TileSystem × List Place → Type 0
-Holds left left_after value = HoldsWhole (λ input (found : TileSystem × List Place). IsSystemThen ReadsSequence input found.0 found.1) left left_after value
+Holds left left_after value = HoldsWhole (λ input (found : TileSystem × List Place). IsSystemThen (ReadsPlaces false) input found.0 found.1) left left_after value
 
 pub returns-in_err-sys-clause-read : goal.returns-in_err-sys-clause-read
 returns-in_err-sys-clause-read g c =

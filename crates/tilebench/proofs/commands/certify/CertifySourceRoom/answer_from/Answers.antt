@@ -1,4 +1,4 @@
-use Rattle.std.proofs.Common.{List, refl}
+use Rattle.std.proofs.Common.{List, refl, true}
 use Rattle.std.proofs.lemmas.Result.{err_from_is_err_and}
 use Rattle.atam.specs.declared.place.Place.{Place}
 use Rattle.atam.specs.TileSystem.{TileSystem}
@@ -12,12 +12,12 @@ use Rattle.tilebench.proofs.Certificates.{certify_answer}
 use Rattle.tilebench.specs.Inner.Gives.{HoldsWhole}
 use Rattle.tilebench.proofs.Fronts.{reading_stop}
 use Rattle.tilebench.proofs.commands.certify.CertifySourceRoom.answer_from.Goals as goal
-use Rattle.seq_text.specs.GrowthText.{ReadsPlacements}
+use Rattle.seq_text.specs.GrowthText.{ReadsPlaces}
 
 pub returns-in_err-sys-clause-answer : goal.returns-in_err-sys-clause-answer
 returns-in_err-sys-clause-answer g c =
     let p = err_from_is_err_and c.from_residual.result c.from_residual.ensures.1 in
-    rw (p.1, p.2) (reading_stop g.S.Source.left g.S.Source.faults (λ (r : Certified). is_given r.certification) (λ (r : Certified). certification_text r.sys r.certification) (λ (r : Certified). CertifiesTypes r.sys r.certification) certify_row refl (HoldsWhole (λ input (found : TileSystem × TileGrid). (places : List Place) × IsSystemThen ReadsPlacements input found.0 places × IsAssemblyOf places found.1.tiles)) c.args.source.now c.system_and_grid.new.source c.in_err-sys.field-0.0 c.in_err-sys.ensures.read)
+    rw (p.1, p.2) (reading_stop g.S.Source.left g.S.Source.faults (λ (r : Certified). is_given r.certification) (λ (r : Certified). certification_text r.sys r.certification) (λ (r : Certified). CertifiesTypes r.sys r.certification) certify_row refl (HoldsWhole (λ input (found : TileSystem × TileGrid). (places : List Place) × IsSystemThen (ReadsPlaces true) input found.0 places × IsAssemblyOf places found.1.tiles)) c.args.source.now c.system_and_grid.new.source c.in_err-sys.field-0.0 c.in_err-sys.ensures.read)
 
 pub returns-in_err-certification-clause-answer : goal.returns-in_err-certification-clause-answer
 returns-in_err-certification-clause-answer g c =

@@ -1,4 +1,4 @@
-use Rattle.std.proofs.Common.{List, refl}
+use Rattle.std.proofs.Common.{List, refl, false}
 use Rattle.std.proofs.lemmas.Result.{err_from_is_err_and}
 use Rattle.atam.specs.declared.place.Place.{Place}
 use Rattle.atam.specs.TileSystem.{TileSystem}
@@ -10,12 +10,12 @@ use Rattle.tilebench.specs.Inner.Rooms.{NamesItsTypes}
 use Rattle.tilebench.specs.Inner.Gives.{HoldsWhole}
 use Rattle.tilebench.proofs.Fronts.{reading_stop}
 use Rattle.tilebench.proofs.commands.check.CheckSourceRoom.answer_from.Goals as goal
-use Rattle.seq_text.specs.GrowthText.{ReadsSequence}
+use Rattle.seq_text.specs.GrowthText.{ReadsPlaces}
 
 pub returns-in_err-sys-clause-answer : goal.returns-in_err-sys-clause-answer
 returns-in_err-sys-clause-answer g c =
     let p = err_from_is_err_and c.from_residual.result c.from_residual.ensures.1 in
-    rw (p.1, p.2) (reading_stop g.S.Source.left g.S.Source.faults (λ (r : Checked). is_judged_unique r.judgement) (λ (r : Checked). judgement_text r.sys r.judgement) (λ (r : Checked). NamesItsTypes r.sys r.judgement) check_row refl (HoldsWhole (λ input (found : TileSystem × List Place). IsSystemThen ReadsSequence input found.0 found.1)) c.args.source.now c.system_and_sequence.new.source c.in_err-sys.field-0.0 c.in_err-sys.ensures.read)
+    rw (p.1, p.2) (reading_stop g.S.Source.left g.S.Source.faults (λ (r : Checked). is_judged_unique r.judgement) (λ (r : Checked). judgement_text r.sys r.judgement) (λ (r : Checked). NamesItsTypes r.sys r.judgement) check_row refl (HoldsWhole (λ input (found : TileSystem × List Place). IsSystemThen (ReadsPlaces false) input found.0 found.1)) c.args.source.now c.system_and_sequence.new.source c.in_err-sys.field-0.0 c.in_err-sys.ensures.read)
 
 pub returns-in_err-judgement-clause-answer : goal.returns-in_err-judgement-clause-answer
 returns-in_err-judgement-clause-answer g c =

@@ -13,12 +13,12 @@ use Rattle.tilebench.specs.Inner.CommandRows.{picture_row}
 use Rattle.tilebench.specs.Inner.Gives.{HoldsWhole}
 use Rattle.tilebench.proofs.Fronts.{reading_stop}
 use Rattle.tilebench.proofs.commands.pictures.PictureSourceRoom.answer_from.Goals as goal
-use Rattle.seq_text.specs.GrowthText.{ReadsPlacements}
+use Rattle.seq_text.specs.GrowthText.{ReadsPlaces}
 
 pub returns-in_err-sys-clause-answer : goal.returns-in_err-sys-clause-answer
 returns-in_err-sys-clause-answer g c =
     let p = err_from_is_err_and c.from_residual.result c.from_residual.ensures.1 in
-    rw (p.1, p.2) (reading_stop g.S.Source.left g.S.Source.faults (λ (r : Pictured). true) (λ (r : Pictured). picture_text r.sys r.grid) (λ (r : Pictured). All (λ p. IsType r.sys p.tile) r.grid.tiles) picture_row refl (HoldsWhole (λ input (found : TileSystem × TileGrid). (places : List Place) × IsSystemThen ReadsPlacements input found.0 places × IsAssemblyOf places found.1.tiles)) c.args.source.now c.system_and_grid.new.source c.in_err-sys.field-0.0 c.in_err-sys.ensures.read)
+    rw (p.1, p.2) (reading_stop g.S.Source.left g.S.Source.faults (λ (r : Pictured). true) (λ (r : Pictured). picture_text r.sys r.grid) (λ (r : Pictured). All (λ p. IsType r.sys p.tile) r.grid.tiles) picture_row refl (HoldsWhole (λ input (found : TileSystem × TileGrid). (places : List Place) × IsSystemThen (ReadsPlaces true) input found.0 places × IsAssemblyOf places found.1.tiles)) c.args.source.now c.system_and_grid.new.source c.in_err-sys.field-0.0 c.in_err-sys.ensures.read)
 
 pub returns-clause-answer : goal.returns-clause-answer
 returns-clause-answer g c =
