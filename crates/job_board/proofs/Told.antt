@@ -1,19 +1,13 @@
 -- What is known of a full growth and its canonical sequence.
-use Rattle.std.proofs.Common.{ℕ, All, List, Option, IfSome, sym}
+use Rattle.std.proofs.Common.{ℕ, All, List, IfSome}
 use Rattle.atam.specs.declared.place.Place.{Place}
 use Rattle.atam.specs.TileSystem.{TileSystem, IsType}
 use Rattle.atam.specs.Assembly.{Fits}
-use Rattle.atam.specs.Growth.{IsClosedInBox, IsFullGrowth, IsLeastOpenOutside, IsLegal}
+use Rattle.atam.specs.Growth.{IsFullGrowth, IsLegal}
 use Rattle.atam.specs.Canonical.{IsCanonical}
 use Rattle.atam.specs.Placements.{HasDistinctSites, SamePlacements}
 use Rattle.atam.proofs.Canon.{canonical_IsLegal, canonical_same, producible_types}
-use Rattle.atam.specs.Sites.{InBox}
-use Rattle.atam.proofs.Open.{least_open_same}
-use Rattle.atam.proofs.Opening.{Fits-part, IsCandidate-same}
-use Rattle.atam.proofs.Sequences.{IsLegal-distinct}
-use Rattle.atam.proofs.Tiles.{SameTiles, SameTiles-from}
-use Rattle.atam.specs.declared.place.TypeId.{TypeId}
-use Rattle.atam.specs.declared.site.Site.{Site}
+use Rattle.atam.proofs.Opening.{Fits-part}
 use Rattle.atam.specs.Verdicts.{NamesTypes}
 use Rattle.local_check.proofs.Verdicts.{verdict_types}
 use Rattle.site_table.specs.Seats.{GrownValue}
@@ -41,22 +35,6 @@ order_fits sys tiles order seeds full canonical = Fits-part sys order tiles (ord
 -- and it is legal
 pub order_legal : (sys : TileSystem) (tiles order : List Place) → HasDistinctSites sys.seeds → IsFullGrowth sys tiles → IsCanonical sys tiles order → IsLegal sys order
 order_legal sys tiles order seeds full canonical = canonical_IsLegal sys tiles order full.distinct (producible_types sys tiles full.producible) seeds canonical
-
--- it has the same tile at each site
-order_tiles : (sys : TileSystem) (tiles order : List Place) → HasDistinctSites sys.seeds → IsFullGrowth sys tiles → IsCanonical sys tiles order → SameTiles order tiles
-order_tiles sys tiles order seeds full canonical =
-    SameTiles-from order tiles (IsLegal-distinct sys order seeds (order_legal sys tiles order seeds full canonical)) (order_same sys tiles order seeds full canonical)
-
--- so nothing extends it in the box
-pub order_closed : (sys : TileSystem) (tiles order : List Place) → HasDistinctSites sys.seeds → IsFullGrowth sys tiles → IsCanonical sys tiles order → IsClosedInBox sys order
-order_closed sys tiles order seeds full canonical m t within grows =
-    full.closed m t within (IsCandidate-same sys order tiles m t (order_tiles sys tiles order seeds full canonical) grows)
-
--- and it has the same least open site outside
-pub order_outside : (sys : TileSystem) (tiles order : List Place) → HasDistinctSites sys.seeds → IsFullGrowth sys tiles → IsCanonical sys tiles order →
-    (outside : Option (Site × TypeId)) → IsLeastOpenOutside sys tiles outside → IsLeastOpenOutside sys order outside
-order_outside sys tiles order seeds full canonical outside least =
-    least_open_same sys tiles order (λ m. ¬ InBox sys.area m) outside (λ m. sym (order_tiles sys tiles order seeds full canonical m)) least
 
 -- an answer is of types of its system
 pub answer_order : (sys : TileSystem) (outcome : Outcome) → HasDistinctSites sys.seeds → Answers sys outcome → All (λ p. IsType sys p.tile) outcome.order

@@ -1,20 +1,19 @@
 // What answers a job.
 ghost use Rattle.std.specs.Prelude.{◌≡◌, true, IfOk};
 ghost use Rattle.atam.specs.Canonical.{IsCanonical};
-ghost use Rattle.atam.specs.Growth.{IsFullGrowth, IsLeastOpenOutside};
+ghost use Rattle.atam.specs.Growth.{IsFullGrowth};
 ghost use Rattle.type_cache.specs.Clean.{CameExact};
 ghost use Rattle.type_index.specs.Indexes.{IsIndexOf};
-ghost use Rattle.local_check.specs.Judgement.{IsVerdict};
 ghost use Rattle.job_board.specs.Answers.{Answers};
 ghost use Rattle.job_board.specs.AnswerText.{is_unique};
 
 use crate::job::Job;
-use assembly::{Grid, Sequence};
+use assembly::Sequence;
 use atam::Verdict;
 use fan_out::WorkerCount;
 use frontier_seat::{FilledInOrder, fill_least_first_seeing};
 use grow_workers::{Lent, grow_by_index, picks_in_order};
-use local_check::{judge_clean, judge_grown};
+use local_check::{LaidOut, judge_grown};
 use replay_order::replay_producible;
 use std::alloc::Global;
 use std::marker::Model;
@@ -72,13 +71,40 @@ impl Outcome {
         requires { IsIndexOf sys.now types.now }
         ensures { IfOk result (Answers sys.now) }
     {
-        let FilledInOrder { grid, order, clean } = filled(rt, alloc, sys, types, choice)?;
-        let (verdict, outside) = judge_order(alloc, sys, grid, types, &order, clean)?;
-        let mut sequence = order;
+        let grown = filled(rt, alloc, sys, types, choice)?;
+        let mut outcome = Outcome::of(rt, alloc, sys, types, grown)?;
         // It has room for the whole box.
-        sequence.shrink_to_fit();
+        outcome.sequence.shrink_to_fit();
+        Ok(outcome)
+    }
+
+    // What a full growth in its order comes to, judged by one worker. The grid is dropped then.
+    fn of<R: Threads + Sync>(
+        rt: &R,
+        alloc: Global,
+        sys: &System,
+        types: &TypeIndex,
+        grown: FilledInOrder,
+    ) -> Result<Outcome, NoMemory>
+        requires area { grown.grid.area ≡ sys.now.area }
+        requires index { IsIndexOf sys.now types.now }
+        requires full { IsFullGrowth sys.now grown.grid.tiles }
+        requires order { IsCanonical sys.now grown.grid.tiles grown.order }
+        requires clean { grown.clean ≡ true → CameExact sys.now grown.order }
+        ensures { IfOk result (Answers sys.now) }
+    {
+        sys.recall_valid();
+        let FilledInOrder { grid, order, clean } = grown;
+        let outside = types.least_open_outside(sys, &grid);
+        let laid = LaidOut {
+            sys,
+            seq: &order,
+            grid: &grid,
+            types,
+        };
+        let verdict = judge_grown(rt, alloc, &laid, clean, outside, WorkerCount::new(1))?;
         Ok(Outcome {
-            sequence,
+            sequence: order,
             outside,
             verdict,
         })
@@ -141,31 +167,4 @@ fn filled<R: Threads + Sync>(
         order,
         clean: false,
     })
-}
-
-// The verdict on the canonical sequence of a full growth, and the least open site outside the box.
-// No place is looked at where it is known that each came clean. The grid is dropped then.
-fn judge_order(
-    alloc: Global,
-    sys: &System,
-    grid: Grid,
-    types: &TypeIndex,
-    order: &Sequence,
-    clean: bool,
-) -> Result<(Verdict, Option<(Site, TypeId)>), NoMemory>
-    requires area { grid.area ≡ sys.now.area }
-    requires index { IsIndexOf sys.now types.now }
-    requires full { IsFullGrowth sys.now grid.tiles }
-    requires order { IsCanonical sys.now grid.tiles order.now }
-    requires clean { clean ≡ true → CameExact sys.now order.now }
-    ensures verdict { IfOk result (λ r. IsVerdict sys.now order.now r.0) }
-    ensures outside { IfOk result (λ r. IsLeastOpenOutside sys.now grid.tiles r.1) }
-{
-    sys.recall_valid();
-    let outside = types.least_open_outside(sys, &grid);
-    if clean {
-        return Ok((judge_clean(sys, order, outside), outside));
-    }
-    let verdict = judge_grown(alloc, sys, order, types, outside)?;
-    Ok((verdict, outside))
 }

@@ -7,3 +7,4 @@ pub mod Surveys
 pub mod Portions
 pub mod Glances
 pub mod Passages
+pub mod Verdicts

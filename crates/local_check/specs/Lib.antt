@@ -1,5 +1,6 @@
 pub mod SideSets
 pub mod Judgement
+pub mod Growths
 pub mod Judged
 pub mod Laws
 pub mod Inner

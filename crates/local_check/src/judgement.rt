@@ -4,11 +4,12 @@ ghost use Rattle.atam.specs.declared.place.Place.{Place};
 ghost use Rattle.atam.specs.TileSystem.{TileSystem};
 ghost use Rattle.atam.specs.Placements.{SamePlacements};
 ghost use Rattle.atam.specs.Assembly.{Fits};
-ghost use Rattle.atam.specs.Growth.{IsClosedInBox, IsLeastOpen, IsLeastOpenOutside, IsLegal};
+ghost use Rattle.atam.specs.Growth.{IsLeastOpen, IsLegal};
 ghost use Rattle.atam.specs.Determinism.{HasExactInputs, HasNoRivals};
 ghost use Rattle.type_index.specs.Indexes.{IsIndexOf};
 ghost use Rattle.local_check.specs.SideSets.{AreSidesOf};
 ghost use Rattle.local_check.specs.Judgement.{IsVerdict};
+ghost use Rattle.local_check.specs.Inner.Verdicts.{FindsBreach};
 
 use crate::SideSets;
 use assembly::Sequence;
@@ -27,42 +28,24 @@ pub fn judge(sys: &System, seq: &Sequence, sides: &SideSets) -> Verdict
     ensures { IsVerdict sys.now seq.now result }
 {
     sys.recall_valid();
-    if let Some((site, sum)) = sides.inexact() {
-        return Verdict::NotExact { site, sum };
+    match first_breach(sides) {
+        Some(breach) => breach,
+        None => last_verdict(sys, seq, sides.index(), sides),
     }
-    if let Some((site, tile)) = sides.rival() {
-        return Verdict::Rival { site, tile };
-    }
-    last_verdict(sys, seq, sides.index(), sides)
 }
 
-/// The verdict on a legal sequence that nothing extends in the box, by the least open site outside:
-/// no site is looked at.
-pub fn judge_closed(
-    sys: &System,
-    seq: &Sequence,
-    sides: &SideSets,
-    outside: Option<(Site, TypeId)>,
-) -> Verdict
-    requires legal { IsLegal sys.now seq.now }
-    requires sides { AreSidesOf sys.now seq.now sides.now }
-    requires closed { IsClosedInBox sys.now seq.now }
-    requires outside { IsLeastOpenOutside sys.now seq.now outside }
-    ensures { IsVerdict sys.now seq.now result }
+// The verdict that a condition on places fails, if one does.
+pub(crate) fn first_breach(sides: &SideSets<'_>) -> Option<Verdict>
+    ensures { (sys : TileSystem) (s : List Place) → AreSidesOf sys s sides.now →
+        FindsBreach sys s result }
 {
-    if let Some((at, held)) = sides.inexact() {
-        return Verdict::NotExact {
-            site: at,
-            sum: held,
-        };
+    if let Some((site, sum)) = sides.inexact() {
+        return Some(Verdict::NotExact { site, sum });
     }
-    if let Some((at, rival)) = sides.rival() {
-        return Verdict::Rival {
-            site: at,
-            tile: rival,
-        };
+    if let Some((site, tile)) = sides.rival() {
+        return Some(Verdict::Rival { site, tile });
     }
-    verdict_by(outside)
+    None
 }
 
 // The verdict where the conditions on places hold: whether the third one does.

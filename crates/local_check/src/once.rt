@@ -1,23 +1,21 @@
 // Legality and the verdict, in one pass over a sequence.
 ghost use Rattle.std.specs.Prelude.{◌≡◌, ◌<◌, ◌^◌, true, length, take, IfOk};
 ghost use Rattle.atam.specs.Assembly.{Fits};
-ghost use Rattle.atam.specs.Growth.{IsClosedInBox, IsLeastOpenOutside, IsLegal};
 ghost use Rattle.atam.specs.Determinism.{HasExactInputs};
-ghost use Rattle.type_cache.specs.Clean.{CameExact, HasCleanPlaces};
-ghost use Rattle.type_index.specs.Indexes.{IsIndexOf};
+ghost use Rattle.type_cache.specs.Clean.{HasCleanPlaces};
 ghost use Rattle.local_check.specs.Judgement.{IsVerdict};
 ghost use Rattle.local_check.specs.Judged.{IsJudged};
 ghost use Rattle.local_check.specs.Inner.Surveys.{CanSurvey};
 
 use crate::judge;
-use crate::judgement::{judge_closed, last_verdict, verdict_by};
+use crate::judgement::last_verdict;
 use crate::laid_out::LaidOut;
 use crate::passage::{Passed, pass};
 use crate::side_table::inputs_lent;
 use assembly::{Sequence, grid_of_seeds};
 use atam::{Legality, Verdict};
 use std::alloc::Global;
-use tile_system::{NoMemory, Site, System, TypeId};
+use tile_system::{NoMemory, System};
 use type_index::TypeIndex;
 
 /// The verdict on a legal sequence, or what breaks legality first.
@@ -40,56 +38,6 @@ pub fn judge_once(alloc: Global, sys: &System, seq: &Sequence) -> Result<Judged,
         return judge_begun(alloc, sys, seq);
     }
     Ok(Judged::Breach(Legality::WrongSeed))
-}
-
-/// What `judge_closed` tells of a legal sequence that nothing extends in the box, by the least open
-/// site outside. It looks at each place as `judge_once` does, up to the first that is held by more
-/// than the temperature, and takes as much memory, but for the index of the types, which is lent.
-pub fn judge_grown(
-    alloc: Global,
-    sys: &System,
-    seq: &Sequence,
-    types: &TypeIndex,
-    outside: Option<(Site, TypeId)>,
-) -> Result<Verdict, NoMemory>
-    requires legal { IsLegal sys.now seq.now }
-    requires fits { Fits sys.now seq.now }
-    requires index { IsIndexOf sys.now types.now }
-    requires closed { IsClosedInBox sys.now seq.now }
-    requires outside { IsLeastOpenOutside sys.now seq.now outside }
-    ensures { IfOk result (IsVerdict sys.now seq.now) }
-{
-    sys.recall_valid();
-    let mut grid = grid_of_seeds(alloc, sys)?;
-    match pass::<true>(alloc, sys, seq, types, &mut grid)? {
-        Passed::Breach(_) => unreachable!(),
-        Passed::NotExact { site, sum } => Ok(Verdict::NotExact { site, sum }),
-        Passed::Exact { clean: true } => Ok(verdict_by(outside)),
-        Passed::Exact { clean: false } => {
-            let laid = LaidOut {
-                sys,
-                seq,
-                grid: &grid,
-                types,
-            };
-            let sides = inputs_lent(alloc, &laid)?;
-            Ok(judge_closed(sys, seq, &sides, outside))
-        }
-    }
-}
-
-/// The same of a sequence of which it is known that each place came clean, held by exactly the
-/// temperature: no place is looked at.
-pub fn judge_clean(sys: &System, seq: &Sequence, outside: Option<(Site, TypeId)>) -> Verdict
-    requires legal { IsLegal sys.now seq.now }
-    requires clean { CameExact sys.now seq.now }
-    requires closed { IsClosedInBox sys.now seq.now }
-    requires outside { IsLeastOpenOutside sys.now seq.now outside }
-    ensures { IsVerdict sys.now seq.now result }
-{
-    let _known_of = seq;
-    sys.recall_valid();
-    verdict_by(outside)
 }
 
 // What `judge_once` does with a sequence that begins with the seeds.

@@ -14,13 +14,11 @@ ghost use Rattle.local_check.specs.SideSets.{input_at, output_at, AreSidesOf};
 use crate::grid_of::grid_of;
 use crate::laid_out::LaidOut;
 use crate::place_sides::PlaceSides;
-use crate::survey::{Survey, survey_all, survey_whole};
+use crate::survey::{Survey, survey_whole};
 use assembly::{Grid, Sequence};
-use fan_out::WorkerCount;
 use std::alloc::Global;
 use std::borrow::Cow;
 use std::marker::Model;
-use std::thread::Threads;
 use tile_system::{Beside, NoMemory, Placed, Side, Site, System, TypeId};
 use type_cache::SideSet;
 use type_index::TypeIndex;
@@ -195,29 +193,8 @@ fn sides_in<'a>(
     Ok(table(sys, grid, Cow::Owned(index), survey))
 }
 
-/// The same by so many workers, each of which looks at a range of the places, in a thread of its own
-/// but one. The answer is the same for any number of them. An index of the types is lent to them, and
-/// each takes memory of its own beside it.
-pub fn inputs_by_index<'a, R: Threads + Sync>(
-    rt: &R,
-    alloc: Global,
-    laid: &LaidOut<'a>,
-    workers: WorkerCount,
-) -> Result<SideSets<'a>, NoMemory>
-    requires legal { IsLegal laid.now.sys.now laid.now.seq.now }
-    requires fits { Fits laid.now.sys.now laid.now.seq.now }
-    requires area { laid.now.grid.now.area ≡ laid.now.sys.now.area }
-    requires placements { SamePlacements laid.now.seq.now laid.now.grid.now.tiles }
-    requires index { IsIndexOf laid.now.sys.now laid.now.types.now }
-    ensures { IfOk result (AreSidesOf laid.now.sys.now laid.now.seq.now) }
-{
-    laid.sys.recall_valid();
-    let survey = survey_all(rt, alloc, laid, workers)?;
-    Ok(table_lent(laid, survey))
-}
-
 // What was found of all places, with the grid and the index that are lent.
-fn table_lent<'a>(laid: &LaidOut<'a>, survey: Survey) -> SideSets<'a>
+pub(crate) fn table_lent<'a>(laid: &LaidOut<'a>, survey: Survey) -> SideSets<'a>
     requires can { CanSurvey laid.now }
     requires survey { IsSurvey laid.now.sys.now laid.now.seq.now 0
         (length laid.now.seq.now) survey }

@@ -1,16 +1,15 @@
 // The verdict on legal sequences, and what beginnings grow into.
 ghost use Rattle.std.specs.Prelude.{◌<◌, ◌^◌, ◌≡◌, true, length, IfOk, IfSome};
-ghost use Rattle.atam.specs.Placements.{SamePlacements};
 ghost use Rattle.atam.specs.Assembly.{Fits};
 ghost use Rattle.atam.specs.Growth.{IsLegal};
 ghost use Rattle.atam.specs.Determinism.{IsLocallyDeterministic};
-ghost use Rattle.type_index.specs.Indexes.{IsIndexOf};
 ghost use Rattle.local_check.specs.Judgement.{IsVerdict};
 
 use assembly::{Grid, Sequence};
 use atam::{Legality, Verdict};
+use attach_rule::closed_in_box;
 use fan_out::WorkerCount;
-use local_check::{Judged, LaidOut, SideSets, inputs, inputs_by_index, judge, judge_once};
+use local_check::{Judged, LaidOut, SideSets, inputs, judge, judge_grown, judge_once};
 use replay_order::check_legal;
 use std::alloc::Global;
 use std::test::Fail;
@@ -74,63 +73,33 @@ fn verdict_on(alloc: Global, sys: &System, order: &Sequence) -> Result<Verdict, 
     Ok(judge(sys, order, &sides))
 }
 
-// The same by so many workers, with the grid of the places and an index of the types.
-fn verdict_by_index<R: Threads + Sync>(
-    rt: &R,
-    alloc: Global,
-    laid: &LaidOut<'_>,
-    workers: WorkerCount,
-) -> Result<Verdict, NoMemory>
-    requires fits { Fits laid.now.sys.now laid.now.seq.now }
-    requires legal { IsLegal laid.now.sys.now laid.now.seq.now }
-    requires area { laid.now.grid.now.area ≡ laid.now.sys.now.area }
-    requires placements { SamePlacements laid.now.seq.now laid.now.grid.now.tiles }
-    requires index { IsIndexOf laid.now.sys.now laid.now.types.now }
-    ensures { IfOk result (IsVerdict laid.now.sys.now laid.now.seq.now) }
-{
-    let sides = inputs_by_index(rt, alloc, laid, workers)?;
-    Ok(judge(laid.sys, laid.seq, &sides))
-}
-
-// The same by so many workers.
-fn verdict_by<R: Threads + Sync>(
+// The verdict on a legal sequence as on a full growth, if nothing extends it in the box.
+fn verdict_on_grown<R: Threads + Sync>(
     rt: &R,
     alloc: Global,
     sys: &System,
     order: &Sequence,
-    workers: WorkerCount,
-) -> Result<Verdict, NoMemory>
+) -> Result<Option<Verdict>, NoMemory>
     requires fits { Fits sys.now order.now }
     requires short { length order.now < 2 ^ 32 }
     requires legal { IsLegal sys.now order.now }
-    ensures { IfOk result (IsVerdict sys.now order.now) }
+    ensures { IfOk result (λ found. IfSome found (IsVerdict sys.now order.now)) }
 {
     let mut grid = Grid::make(alloc, sys.area())?;
     let _legal = check_legal(sys, order, &mut grid);
+    if !closed_in_box(sys, &grid) {
+        return Ok(None);
+    }
     let types = TypeIndex::build(alloc, sys)?;
+    let outside = types.least_open_outside(sys, &grid);
     let laid = LaidOut {
         sys,
         seq: order,
         grid: &grid,
         types: &types,
     };
-    verdict_by_index(rt, alloc, &laid, workers)
-}
-
-// The verdict on a sequence of these places, if it is legal, by so many workers.
-fn verdict_of<R: Threads + Sync>(
-    rt: &R,
-    alloc: Global,
-    sys: &System,
-    spots: &[Spot],
-    workers: WorkerCount,
-) -> Result<Option<Verdict>, NoMemory>
-    requires short { length spots.now < 2 ^ 32 }
-{
-    match legal_sequence(alloc, sys, spots)? {
-        Some(order) => Ok(Some(verdict_by(rt, alloc, sys, &order, workers)?)),
-        None => Ok(None),
-    }
+    let verdict = judge_grown(rt, alloc, &laid, false, outside, WorkerCount::new(3))?;
+    Ok(Some(verdict))
 }
 
 const CLIPPED: Verdict = Verdict::NotTerminal {
@@ -159,42 +128,45 @@ const RIVAL_BEHIND: Verdict = Verdict::Rival {
     tile: TypeId(4),
 };
 
-// Systems, legal sequences, and the verdict.
-const CASES: [(&str, &[Spot], Verdict); 6] = [
-    (CHAIN, &[S, B, D], Verdict::Yes),
-    (CHAIN, &[S, B], CLIPPED),
-    (RIVALS, &[S, B], RIVAL),
-    (SQUARE, &AROUND, HELD_TWICE),
-    (BARE_BESIDE, &AROUND, RIVAL_BEHIND),
-    (MISMATCH, &BY_ROWS, Verdict::Yes),
+// Systems, legal sequences, the verdict, and whether nothing extends the sequence in the box.
+const CASES: [(&str, &[Spot], Verdict, bool); 6] = [
+    (CHAIN, &[S, B, D], Verdict::Yes, true),
+    (CHAIN, &[S, B], CLIPPED, false),
+    (RIVALS, &[S, B], RIVAL, true),
+    (SQUARE, &AROUND, HELD_TWICE, true),
+    (BARE_BESIDE, &AROUND, RIVAL_BEHIND, true),
+    (MISMATCH, &BY_ROWS, Verdict::Yes, true),
 ];
 
-// Whether any number of workers come to this verdict.
+// Whether a sequence of these places is legal and has this verdict, as a full growth too if it is
+// said to be one.
 fn is_judged_so<R: Threads + Sync>(
     rt: &R,
     alloc: Global,
     text: &str,
     spots: &[Spot],
     verdict: Verdict,
+    is_full: bool,
 ) -> Result<bool, Fail>
     requires { length spots.now < 2 ^ 32 }
 {
     let sys = system(alloc, text)?;
-    for workers in [1, 3, 16] {
-        let workers = WorkerCount::new(workers);
-        if verdict_of(rt, alloc, &sys, spots, workers)? != Some(verdict) {
-            return Ok(false);
-        }
+    let Some(order) = legal_sequence(alloc, &sys, spots)? else {
+        return Ok(false);
+    };
+    let told = if is_full { Some(verdict) } else { None };
+    if verdict_on_grown(rt, alloc, &sys, &order)? != told {
+        return Ok(false);
     }
-    Ok(true)
+    Ok(verdict_on(alloc, &sys, &order)? == verdict)
 }
 
 #[test]
 fn judges_sequences(rt: HostRuntime) -> Result<(), Fail> {
-    for (text, spots, verdict) in CASES {
+    for (text, spots, verdict, is_full) in CASES {
         let few = spots.len() < 10;
         assert!(rt; few);
-        assert!(rt; is_judged_so(&rt, rt.alloc(), text, spots, verdict)?);
+        assert!(rt; is_judged_so(&rt, rt.alloc(), text, spots, verdict, is_full)?);
     }
     Ok(())
 }

@@ -1,19 +1,12 @@
 -- What a system grew into, and what is told of it.
-use Rattle.std.proofs.Common.{◌≡◌, All, List, Option, ap, refl, subst, sym}
+use Rattle.std.proofs.Common.{◌≡◌, All, List, ap, refl, subst}
 use Rattle.atam.specs.declared.place.Place.{Place}
-use Rattle.atam.specs.declared.place.TypeId.{TypeId}
-use Rattle.atam.specs.declared.site.Site.{Site}
 use Rattle.atam.specs.declared.area.BoxArea.{BoxArea}
 use Rattle.atam.specs.Sites.{InBox}
 use Rattle.atam.specs.TileSystem.{TileSystem}
 use Rattle.atam.specs.Assembly.{Fits}
-use Rattle.atam.specs.Growth.{IsClosedInBox, IsLeastOpenOutside, IsProducible}
-use Rattle.atam.specs.Placements.{HasDistinctSites}
-use Rattle.atam.proofs.Open.{least_open_same}
-use Rattle.atam.proofs.Opening.{IsCandidate-same}
-use Rattle.atam.proofs.Tiles.{SameTiles, SameTiles-from, same_back}
+use Rattle.atam.specs.Growth.{IsProducible}
 use Rattle.atam.proofs.Canon.{producible_types}
-use Rattle.replay_order.specs.ReplayAnswers.{IsWholeOrder}
 use Rattle.site_table.specs.Seats.{GrownValue}
 use Rattle.local_check.specs.declared.once.Judged.{Judged}
 use Rattle.local_check.specs.declared.once.Judged.TheVariants.{Legal, Breach}
@@ -46,18 +39,3 @@ growth_told sys table growth grows = record {
   printed = ap (λ (s : TileSystem). growth_text s (outcome_of growth)) grows.same;
   answer = refl;
 }
-
--- a whole order has the same tile at each site
-order_tiles : (sys : TileSystem) (tiles order : List Place) → HasDistinctSites tiles → IsWholeOrder sys tiles order → SameTiles order tiles
-order_tiles sys tiles order distinct whole m = sym (SameTiles-from tiles order distinct (same_back order tiles whole.same) m)
-
--- so nothing extends it in the box where nothing extends the tiles
-pub order_closed : (sys : TileSystem) (tiles order : List Place) → HasDistinctSites tiles → IsWholeOrder sys tiles order → IsClosedInBox sys tiles → IsClosedInBox sys order
-order_closed sys tiles order distinct whole closed m t within grows =
-    closed m t within (IsCandidate-same sys order tiles m t (order_tiles sys tiles order distinct whole) grows)
-
--- and it has the same least open site outside
-pub order_outside : (sys : TileSystem) (tiles order : List Place) (outside : Option (Site × TypeId)) → HasDistinctSites tiles → IsWholeOrder sys tiles order →
-    IsLeastOpenOutside sys tiles outside → IsLeastOpenOutside sys order outside
-order_outside sys tiles order outside distinct whole least =
-    least_open_same sys tiles order (λ m. ¬ InBox sys.area m) outside (λ m. sym (order_tiles sys tiles order distinct whole m)) least

@@ -1,10 +1,7 @@
 // The verdict on an assembly.
-ghost use Rattle.std.specs.Prelude.{◌≡◌, true, IfOk, IfSome};
-ghost use Rattle.atam.specs.Growth.{IsClosedInBox, IsLeastOpenOutside, IsProducible};
-ghost use Rattle.type_cache.specs.Clean.{CameExact};
+ghost use Rattle.std.specs.Prelude.{◌≡◌, IfOk, IfSome};
+ghost use Rattle.atam.specs.Growth.{IsClosedInBox, IsProducible};
 ghost use Rattle.type_index.specs.Indexes.{IsIndexOf};
-ghost use Rattle.replay_order.specs.ReplayAnswers.{IsWholeOrder};
-ghost use Rattle.local_check.specs.Judgement.{IsVerdict};
 ghost use Rattle.grow_workers.specs.Workers.{IsGrownBy, IsSeenOrder};
 ghost use Rattle.tilebench.specs.Inner.Rooms.{IsJudgedGrowth};
 
@@ -14,15 +11,12 @@ use assembly::{Grid, Sequence};
 use atam::Verdict;
 use fan_out::WorkerCount;
 use grow_workers::SeenOrder;
-use local_check::{LaidOut, inputs_by_index, judge_clean, judge_closed, judge_grown};
+use local_check::{LaidOut, judge_grown};
 use site_table::Grown;
 use std::thread::Threads;
 use tile_io::Gate;
 use tile_system::{NoMemory, Site, System, TypeId};
 use type_index::TypeIndex;
-
-// So few places are looked at by one worker, in fewer steps than several take to share them.
-const FEW_PLACES: usize = 65_536;
 
 /// The canonical order of an assembly, the verdict on it, and the least open site outside the box.
 #[derive(Drop)]
@@ -91,7 +85,7 @@ pub fn judge_grid<R: Threads + Sync, G: Gate>(
         grid,
         types,
     };
-    let verdict = verdict_on(resources, &laid, clean, outside, judges)?;
+    let verdict = judge_grown(resources.rt, resources.alloc, &laid, clean, outside, judges)?;
     Ok(JudgedGrowth {
         order,
         verdict,
@@ -107,39 +101,4 @@ fn judges_of(known: &Option<SeenOrder>, workers: WorkerCount) -> WorkerCount {
     } else {
         workers
     }
-}
-
-// The verdict on a full growth in its order, by the least open site outside the box. One worker
-// looks at each place as it comes, several look at ranges of many, and none looks where it is known
-// that each came clean.
-fn verdict_on<R: Threads + Sync, G: Gate>(
-    resources: &Resources<'_, R, G>,
-    laid: &LaidOut<'_>,
-    clean: bool,
-    outside: Option<(Site, TypeId)>,
-    workers: WorkerCount,
-) -> Result<Verdict, NoMemory>
-    requires index { IsIndexOf laid.now.sys.now laid.now.types.now }
-    requires area { laid.now.grid.now.area ≡ laid.now.sys.now.area }
-    requires order { IsWholeOrder laid.now.sys.now laid.now.grid.now.tiles laid.now.seq.now }
-    requires clean { clean ≡ true → CameExact laid.now.sys.now laid.now.seq.now }
-    requires closed { IsClosedInBox laid.now.sys.now laid.now.seq.now }
-    requires outside { IsLeastOpenOutside laid.now.sys.now laid.now.seq.now outside }
-    ensures { IfOk result (IsVerdict laid.now.sys.now laid.now.seq.now) }
-{
-    let LaidOut {
-        sys,
-        seq,
-        types,
-        ..
-    } = *laid;
-    let alloc = resources.alloc;
-    if clean {
-        return Ok(judge_clean(sys, seq, outside));
-    }
-    if workers.get() == 1 || seq.len() <= FEW_PLACES {
-        return judge_grown(alloc, sys, seq, types, outside);
-    }
-    let sides = inputs_by_index(resources.rt, alloc, laid, workers)?;
-    Ok(judge_closed(sys, seq, &sides, outside))
 }

@@ -170,7 +170,7 @@ fn fills_a_box(rt: HostRuntime) -> Result<(), Fail> {
     for (system, side, crews) in [
         (FULL, 64, &[("1", "0"), ("4", "0"), ("16", "0")][..]),
         (WIDE, 128, &[("2", "0")]),
-        (VAST, 257, &[("2", "0")]),
+        (VAST, 257, &[("2", "1")]),
     ] {
         let places = filled_box(alloc, side, "T")?;
         let found = first_unlike_crew(&rt, alloc, crews, system, places.as_str(), no)?;

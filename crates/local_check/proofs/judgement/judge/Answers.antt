@@ -1,8 +1,7 @@
-use Rattle.local_check.proofs.Judging.{exact_all, no_rival_all}
 use Rattle.local_check.proofs.judgement.judge.Goals as goal
 
 pub last_verdict-requires-clause-exact : goal.last_verdict-requires-clause-exact
-last_verdict-requires-clause-exact c = exact_all c.args.sys.now c.args.seq.now c.args.sides.now.inexact c.in_default.ensures c.requires.sides.inexact
+last_verdict-requires-clause-exact c = (c.in-None.ensures c.args.sys.now c.args.seq.now c.requires.sides).0
 
 pub last_verdict-requires-clause-rivals : goal.last_verdict-requires-clause-rivals
-last_verdict-requires-clause-rivals c = no_rival_all c.args.sys.now c.args.seq.now c.args.sides.now.rival c.in_default-rival.ensures c.requires.sides.rival
+last_verdict-requires-clause-rivals c = (c.in-None.ensures c.args.sys.now c.args.seq.now c.requires.sides).1
