@@ -49,10 +49,11 @@ impl Model for Outcome {
 }
 
 impl Outcome {
-    /// Grows with one worker, which chooses as one worker of `grow` does with the job's choice:
-    /// with 0 always at the least open site of the box, on a grid of its own, and else on a table.
-    /// No clause says more of it. The time grows with the number of sites of the box; the memory,
-    /// of some eleven bytes a site, is given back but for the sequence.
+    /// Grows with one worker, to what one worker of `grow` comes to with the job's choice: always at
+    /// the least open site of the box, on a grid of its own, and where the choice is not 0 and a tile
+    /// came otherwise than clean, so that it may matter, anew by the choice, on a table. No clause
+    /// says more of it. The time grows with the number of sites of the box; the memory, of some
+    /// eleven bytes a site, is given back but for the sequence.
     pub fn work<R: Threads + Sync>(rt: &R, alloc: Global, job: &Job) -> Result<Outcome, NoMemory>
         ensures { IfOk result (Answers job.now.sys) }
     {
@@ -136,7 +137,8 @@ pub fn is_unique(verdict: Verdict) -> bool
     matches!(verdict, Verdict::Yes)
 }
 
-// What grows by this choice, and its canonical sequence.
+// What grows by this choice, and its canonical sequence. Where each tile comes clean, each choice has
+// this growth.
 fn filled<R: Threads + Sync>(
     rt: &R,
     alloc: Global,
@@ -150,9 +152,11 @@ fn filled<R: Threads + Sync>(
     ensures order { IfOk result (λ r. IsCanonical sys.now r.grid.tiles r.order) }
     ensures clean { IfOk result (λ r. r.clean ≡ true → CameExact sys.now r.order) }
 {
-    if choice == 0 {
-        return fill_least_first_seeing(alloc, sys, types, &mut picks_in_order());
+    let least_first = fill_least_first_seeing(alloc, sys, types, &mut picks_in_order())?;
+    if least_first.clean || choice == 0 {
+        return Ok(least_first);
     }
+    drop(least_first);
     let lent = Lent {
         sys,
         types,
