@@ -7,5 +7,5 @@ returns-then-clean g c =
     let came = c.requires.clean c.if-clean.true in (
       came.exact,
       clean_no_rivals c.args.laid.now.sys.now c.args.laid.now.seq.now can.valid.distinct_seeds
-      can.legal came.clean,
+          can.legal came.clean,
     )

@@ -48,5 +48,5 @@ returns-in-Exact-true c =
     in (
       passed.1.exact,
       clean_no_rivals sys s can.valid.distinct_seeds can.legal
-      (passed.1.clean c.in-Exact-true.clean-test),
+          (passed.1.clean c.in-Exact-true.clean-test),
     )
