@@ -13,9 +13,9 @@ use Rattle.machine_text.specs.declared.kind.LineKind.{LineKind}
 use Rattle.machine_text.specs.declared.kind.LineKind.TheVariants as kinds
 use Rattle.machine_text.specs.Machines.{TuringMachine, IsTransition, is_short_name, rule_among}
 use Rattle.machine_text.specs.MachineText.{MachineItem, machine_of, transition_in, turn_field, references}
-use Rattle.machine_text.specs.MachineText.MachineItem.{Header, StateLine, SymbolLine, RuleLine, CellsLine, RowsLine, HeadLine, TapeLine, EndLine}
-use Rattle.machine_text.specs.Inner.Kinds.{kind_of, row_of, may_stand_after, state_row, symbol_row, tape_row, machine_row, rule_row, cells_row, rows_row, head_row}
-use Rattle.machine_text.specs.Inner.SoFar.{IsFit}
+use Rattle.machine_text.specs.Inner.Kinds.{word_of_kind, row_of, may_stand_after, state_row, symbol_row, tape_row, machine_row, rule_row, cells_row, rows_row, head_row, end_row}
+use Rattle.machine_text.proofs.Lines.{MachineLine, IsFit, IsLine, kind_of, with_line}
+use Rattle.machine_text.proofs.Lines.MachineLine.{Header, StateLine, SymbolLine, RuleLine, CellsLine, RowsLine, HeadLine, TapeLine, EndLine}
 use Rattle.machine_text.proofs.References.{references_ok}
 
 none_of : {X : Type 0} (o : Option X) → is_some o ≡ false → o ≡ None
@@ -58,74 +58,69 @@ module _ (M : TuringMachine) where
       (cc (five.2))
 
 module _ (M : TuringMachine) (words : List (List ℕ)) (item : MachineItem) where
-  header_fit : machine_row.fields M words ≡ Ok item → IsFit M item
-  header_fit is =
-      let one = bind_ok (require (bytes_eq (field words 1) (49 ∷ [])) NoHeader) (λ _. Ok Header) item is in
-      let same : Header ≡ item = cc (one.2) in
-      subst (IsFit M) same tt
+  line_is : (line : MachineLine) → IsFit M line → (word_of_kind (kind_of line), with_line M line) ≡ item → IsLine M (kind_of line) item
+  line_is line fit is = record { line = line; keyword = refl; fit = fit; is = is }
 
-  state_fit : state_row.has_room M words ≡ true → state_row.fields M words ≡ Ok item → IsFit M item
-  state_fit room is =
-      let one = bind_ok (declared is_short_name M.states (field words 1)) (λ name. Ok (StateLine name)) item is in
-      let same : StateLine one.0 ≡ item = cc (one.2) in
+  header_line : machine_row.fields M words ≡ Ok item → IsLine M kinds.Machine item
+  header_line is =
+      let one = bind_ok (require (bytes_eq (field words 1) (49 ∷ [])) NoHeader) (λ _. Ok (machine_row.word, M)) item is in
+      line_is Header tt (cc (one.2))
+
+  state_line : state_row.has_room M words ≡ true → state_row.fields M words ≡ Ok item → IsLine M kinds.State item
+  state_line room is =
+      let one = bind_ok (declared is_short_name M.states (field words 1)) (λ name. Ok (state_row.word, with_line M (StateLine name))) item is in
       let new = declared_ok is_short_name M.states (field words 1) one.0 one.1 in
-      subst (IsFit M) same (ltb-true (length M.states) 64 room, new.0, new.1)
+      line_is (StateLine one.0) (ltb-true (length M.states) 64 room, new.0, new.1) (cc (one.2))
 
-  symbol_fit : symbol_row.has_room M words ≡ true → symbol_row.fields M words ≡ Ok item → IsFit M item
-  symbol_fit room is =
-      let one = bind_ok (declared is_short_name M.symbols (field words 1)) (λ name. Ok (SymbolLine name)) item is in
-      let same : SymbolLine one.0 ≡ item = cc (one.2) in
+  symbol_line : symbol_row.has_room M words ≡ true → symbol_row.fields M words ≡ Ok item → IsLine M kinds.Symbol item
+  symbol_line room is =
+      let one = bind_ok (declared is_short_name M.symbols (field words 1)) (λ name. Ok (symbol_row.word, with_line M (SymbolLine name))) item is in
       let new = declared_ok is_short_name M.symbols (field words 1) one.0 one.1 in
-      subst (IsFit M) same (ltb-true (length M.symbols) 64 room, new.0, new.1)
+      line_is (SymbolLine one.0) (ltb-true (length M.symbols) 64 room, new.0, new.1) (cc (one.2))
 
-  rule_fit : rule_row.fields M words ≡ Ok item → IsFit M item
-  rule_fit is =
-      let one = bind_ok (transition_in M words) (λ t. Ok (RuleLine t)) item is in
-      let same : RuleLine one.0 ≡ item = cc (one.2) in
-      subst (IsFit M) same (transition_ok M words one.0 one.1)
+  rule_line : rule_row.fields M words ≡ Ok item → IsLine M kinds.Rule item
+  rule_line is =
+      let one = bind_ok (transition_in M words) (λ t. Ok (rule_row.word, with_line M (RuleLine t))) item is in
+      line_is (RuleLine one.0) (transition_ok M words one.0 one.1) (cc (one.2))
 
-  cells_fit : cells_row.fields M words ≡ Ok item → IsFit M item
-  cells_fit is =
-      let one = bind_ok (count_in 1 512 (field words 1)) (λ n. Ok (CellsLine n)) item is in
-      let same : CellsLine one.0 ≡ item = cc (one.2) in
-      subst (IsFit M) same (count_ok 1 512 (field words 1) one.0 one.1)
+  cells_line : cells_row.fields M words ≡ Ok item → IsLine M kinds.Cells item
+  cells_line is =
+      let one = bind_ok (count_in 1 512 (field words 1)) (λ n. Ok (cells_row.word, with_line M (CellsLine n))) item is in
+      line_is (CellsLine one.0) (count_ok 1 512 (field words 1) one.0 one.1) (cc (one.2))
 
-  rows_fit : rows_row.fields M words ≡ Ok item → IsFit M item
-  rows_fit is =
-      let one = bind_ok (count_in 1 1024 (field words 1)) (λ n. Ok (RowsLine n)) item is in
-      let same : RowsLine one.0 ≡ item = cc (one.2) in
-      subst (IsFit M) same (count_ok 1 1024 (field words 1) one.0 one.1)
+  rows_line : rows_row.fields M words ≡ Ok item → IsLine M kinds.Rows item
+  rows_line is =
+      let one = bind_ok (count_in 1 1024 (field words 1)) (λ n. Ok (rows_row.word, with_line M (RowsLine n))) item is in
+      line_is (RowsLine one.0) (count_ok 1 1024 (field words 1) one.0 one.1) (cc (one.2))
 
-  head_fit : head_row.fields M words ≡ Ok item → IsFit M item
-  head_fit is =
-      let one = bind_ok (count_in 0 (M.cells - 1) (field words 1)) (λ n. Ok (HeadLine n)) item is in
-      let same : HeadLine one.0 ≡ item = cc (one.2) in
-      subst (IsFit M) same (count_ok 0 (M.cells - 1) (field words 1) one.0 one.1).1
+  head_line : head_row.fields M words ≡ Ok item → IsLine M kinds.Head item
+  head_line is =
+      let one = bind_ok (count_in 0 (M.cells - 1) (field words 1)) (λ n. Ok (head_row.word, with_line M (HeadLine n))) item is in
+      line_is (HeadLine one.0) (count_ok 0 (M.cells - 1) (field words 1) one.0 one.1).1 (cc (one.2))
 
-  tape_fit : tape_row.has_room M words ≡ true → tape_row.fields M words ≡ Ok item → IsFit M item
-  tape_fit room is =
-      let one = bind_ok (references M.symbols (drop 1 words)) (λ symbols. Ok (TapeLine symbols)) item is in
-      let same : TapeLine one.0 ≡ item = cc (one.2) in
+  tape_line : tape_row.has_room M words ≡ true → tape_row.fields M words ≡ Ok item → IsLine M kinds.Tape item
+  tape_line room is =
+      let one = bind_ok (references M.symbols (drop 1 words)) (λ symbols. Ok (tape_row.word, with_line M (TapeLine symbols))) item is in
       let read = references_ok M.symbols (drop 1 words) one.0 one.1 in
       let count = read.1 in
       let left : length (drop 1 words) ≡ length words - 1 = length-drop 1 words in
       let few = leb-true (length M.tape + (length words - 1)) M.cells room in
-      subst (IsFit M) same (read.0, omega (arith, count, left, few))
+      line_is (TapeLine one.0) (read.0, omega (arith, count, left, few)) (cc (one.2))
 
-  end_fit : (check : Result MachineItem Cause) → check ≡ Ok EndLine → check ≡ Ok item → IsFit M item
-  end_fit check ends is = let same : EndLine ≡ item = cc (ends, is) in subst (IsFit M) same tt
+  end_line : end_row.fields M words ≡ Ok item → IsLine M kinds.End item
+  end_line is = line_is EndLine tt (cc is)
 
 -- a line that passes its checks fits
-pub fit_of : (kind : LineKind) (items : List MachineItem) (words : List (List ℕ)) (item : MachineItem) → (row_of kind).has_room items words ≡ true → (row_of kind).fields items words ≡ Ok item → IsFit (machine_of items) item
-fit_of kinds.Machine items words item room is = header_fit (machine_of items) words item is
-fit_of kinds.State items words item room is = state_fit (machine_of items) words item room is
-fit_of kinds.Symbol items words item room is = symbol_fit (machine_of items) words item room is
-fit_of kinds.Rule items words item room is = rule_fit (machine_of items) words item is
-fit_of kinds.Cells items words item room is = cells_fit (machine_of items) words item is
-fit_of kinds.Rows items words item room is = rows_fit (machine_of items) words item is
-fit_of kinds.Head items words item room is = head_fit (machine_of items) words item is
-fit_of kinds.Tape items words item room is = tape_fit (machine_of items) words item room is
-fit_of kinds.End items words item room is = end_fit (machine_of items) words item (Ok EndLine) refl is
+pub line_of : (kind : LineKind) (items : List MachineItem) (words : List (List ℕ)) (item : MachineItem) → (row_of kind).has_room items words ≡ true → (row_of kind).fields items words ≡ Ok item → IsLine (machine_of items) kind item
+line_of kinds.Machine items words item room is = header_line (machine_of items) words item is
+line_of kinds.State items words item room is = state_line (machine_of items) words item room is
+line_of kinds.Symbol items words item room is = symbol_line (machine_of items) words item room is
+line_of kinds.Rule items words item room is = rule_line (machine_of items) words item is
+line_of kinds.Cells items words item room is = cells_line (machine_of items) words item is
+line_of kinds.Rows items words item room is = rows_line (machine_of items) words item is
+line_of kinds.Head items words item room is = head_line (machine_of items) words item is
+line_of kinds.Tape items words item room is = tape_line (machine_of items) words item room is
+line_of kinds.End items words item room is = end_line (machine_of items) words item is
 
 -- the limits are told by the machine so far
 pub room_by_machine : (kind : LineKind) (a b : List MachineItem) (words : List (List ℕ)) → machine_of a ≡ machine_of b → (row_of kind).has_room a words ≡ (row_of kind).has_room b words
@@ -135,14 +130,94 @@ room_by_machine kinds.Tape a b words same = ap (λ M. tape_row.has_room M words)
 room_by_machine kind a b words same = refl
 
 -- what may stand after what, by the keywords
-pub follows_is : (kind : LineKind) (last : Option MachineItem) → (row_of kind).may_follow last ≡ may_stand_after kind (option_map kind_of last)
-follows_is kinds.Machine (Some Header) = refl
-follows_is kinds.State (Some Header) = refl
-follows_is kinds.Symbol (Some Header) = refl
-follows_is kinds.Rule (Some Header) = refl
-follows_is kinds.Cells (Some Header) = refl
-follows_is kinds.Rows (Some Header) = refl
-follows_is kinds.Head (Some Header) = refl
-follows_is kinds.Tape (Some Header) = refl
-follows_is kinds.End (Some Header) = refl
-follows_is kind last = refl
+pub follows_is : (kind : LineKind) (last : Option LineKind) (M : TuringMachine) → (row_of kind).may_follow (option_map (λ k. (word_of_kind k, M)) last) ≡ may_stand_after kind last
+follows_is kinds.Machine None M = refl
+follows_is kinds.Machine (Some kinds.Machine) M = refl
+follows_is kinds.Machine (Some kinds.State) M = refl
+follows_is kinds.Machine (Some kinds.Symbol) M = refl
+follows_is kinds.Machine (Some kinds.Rule) M = refl
+follows_is kinds.Machine (Some kinds.Cells) M = refl
+follows_is kinds.Machine (Some kinds.Rows) M = refl
+follows_is kinds.Machine (Some kinds.Head) M = refl
+follows_is kinds.Machine (Some kinds.Tape) M = refl
+follows_is kinds.Machine (Some kinds.End) M = refl
+follows_is kinds.State None M = refl
+follows_is kinds.State (Some kinds.Machine) M = refl
+follows_is kinds.State (Some kinds.State) M = refl
+follows_is kinds.State (Some kinds.Symbol) M = refl
+follows_is kinds.State (Some kinds.Rule) M = refl
+follows_is kinds.State (Some kinds.Cells) M = refl
+follows_is kinds.State (Some kinds.Rows) M = refl
+follows_is kinds.State (Some kinds.Head) M = refl
+follows_is kinds.State (Some kinds.Tape) M = refl
+follows_is kinds.State (Some kinds.End) M = refl
+follows_is kinds.Symbol None M = refl
+follows_is kinds.Symbol (Some kinds.Machine) M = refl
+follows_is kinds.Symbol (Some kinds.State) M = refl
+follows_is kinds.Symbol (Some kinds.Symbol) M = refl
+follows_is kinds.Symbol (Some kinds.Rule) M = refl
+follows_is kinds.Symbol (Some kinds.Cells) M = refl
+follows_is kinds.Symbol (Some kinds.Rows) M = refl
+follows_is kinds.Symbol (Some kinds.Head) M = refl
+follows_is kinds.Symbol (Some kinds.Tape) M = refl
+follows_is kinds.Symbol (Some kinds.End) M = refl
+follows_is kinds.Rule None M = refl
+follows_is kinds.Rule (Some kinds.Machine) M = refl
+follows_is kinds.Rule (Some kinds.State) M = refl
+follows_is kinds.Rule (Some kinds.Symbol) M = refl
+follows_is kinds.Rule (Some kinds.Rule) M = refl
+follows_is kinds.Rule (Some kinds.Cells) M = refl
+follows_is kinds.Rule (Some kinds.Rows) M = refl
+follows_is kinds.Rule (Some kinds.Head) M = refl
+follows_is kinds.Rule (Some kinds.Tape) M = refl
+follows_is kinds.Rule (Some kinds.End) M = refl
+follows_is kinds.Cells None M = refl
+follows_is kinds.Cells (Some kinds.Machine) M = refl
+follows_is kinds.Cells (Some kinds.State) M = refl
+follows_is kinds.Cells (Some kinds.Symbol) M = refl
+follows_is kinds.Cells (Some kinds.Rule) M = refl
+follows_is kinds.Cells (Some kinds.Cells) M = refl
+follows_is kinds.Cells (Some kinds.Rows) M = refl
+follows_is kinds.Cells (Some kinds.Head) M = refl
+follows_is kinds.Cells (Some kinds.Tape) M = refl
+follows_is kinds.Cells (Some kinds.End) M = refl
+follows_is kinds.Rows None M = refl
+follows_is kinds.Rows (Some kinds.Machine) M = refl
+follows_is kinds.Rows (Some kinds.State) M = refl
+follows_is kinds.Rows (Some kinds.Symbol) M = refl
+follows_is kinds.Rows (Some kinds.Rule) M = refl
+follows_is kinds.Rows (Some kinds.Cells) M = refl
+follows_is kinds.Rows (Some kinds.Rows) M = refl
+follows_is kinds.Rows (Some kinds.Head) M = refl
+follows_is kinds.Rows (Some kinds.Tape) M = refl
+follows_is kinds.Rows (Some kinds.End) M = refl
+follows_is kinds.Head None M = refl
+follows_is kinds.Head (Some kinds.Machine) M = refl
+follows_is kinds.Head (Some kinds.State) M = refl
+follows_is kinds.Head (Some kinds.Symbol) M = refl
+follows_is kinds.Head (Some kinds.Rule) M = refl
+follows_is kinds.Head (Some kinds.Cells) M = refl
+follows_is kinds.Head (Some kinds.Rows) M = refl
+follows_is kinds.Head (Some kinds.Head) M = refl
+follows_is kinds.Head (Some kinds.Tape) M = refl
+follows_is kinds.Head (Some kinds.End) M = refl
+follows_is kinds.Tape None M = refl
+follows_is kinds.Tape (Some kinds.Machine) M = refl
+follows_is kinds.Tape (Some kinds.State) M = refl
+follows_is kinds.Tape (Some kinds.Symbol) M = refl
+follows_is kinds.Tape (Some kinds.Rule) M = refl
+follows_is kinds.Tape (Some kinds.Cells) M = refl
+follows_is kinds.Tape (Some kinds.Rows) M = refl
+follows_is kinds.Tape (Some kinds.Head) M = refl
+follows_is kinds.Tape (Some kinds.Tape) M = refl
+follows_is kinds.Tape (Some kinds.End) M = refl
+follows_is kinds.End None M = refl
+follows_is kinds.End (Some kinds.Machine) M = refl
+follows_is kinds.End (Some kinds.State) M = refl
+follows_is kinds.End (Some kinds.Symbol) M = refl
+follows_is kinds.End (Some kinds.Rule) M = refl
+follows_is kinds.End (Some kinds.Cells) M = refl
+follows_is kinds.End (Some kinds.Rows) M = refl
+follows_is kinds.End (Some kinds.Head) M = refl
+follows_is kinds.End (Some kinds.Tape) M = refl
+follows_is kinds.End (Some kinds.End) M = refl

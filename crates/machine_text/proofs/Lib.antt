@@ -1,6 +1,7 @@
 pub mod Built
 pub mod Finding
 pub mod Fits
+pub mod Lines
 pub mod Marking
 pub mod References
 pub mod RuleTables

@@ -1,7 +1,6 @@
 -- A Turing machine on a row of cells, its configurations and its run.
 use Rattle.std.specs.Prelude.{◌≡◌, ◌≢◌, ℕ, zero, suc, ◌-◌, ◌<◌, ◌≤◌, ◌==◌, Bool, IsTrue, false, ◌&&◌, ◌||◌, nat_le, nat_lt, if◌then◌else◌, List, ◌++◌, length, replicate, slice_index, slice_set, find, Option, Some, None, IfSome, All, AllPairs, option_map, option_and_then}
 use Rattle.std.specs.List.{list_all}
-use Rattle.machine_text.specs.declared.limits.TheConstants.{MOST_STATES, MOST_SYMBOLS, LONGEST_SHORT_NAME, MOST_CELLS, MOST_ROWS}
 use Rattle.machine_text.specs.declared.rule.Turn.{Turn}
 use Rattle.machine_text.specs.declared.rule.Turn.TheVariants.{Left, Right, Stay}
 use Rattle.machine_text.specs.declared.rule.Rule.{Rule}
@@ -75,9 +74,10 @@ after M (suc steps) = option_and_then (next M) (after M steps)
 abbrev pub is_short_name_byte : ℕ → Bool
 is_short_name_byte b = (nat_le 65 b && nat_le b 90) || (nat_le 97 b && nat_le b 122) || (nat_le 48 b && nat_le b 57) || b == 95
 
--- some of these bytes, and not too many
+-- 1 to 8 of these bytes
 unfoldable pub is_short_name : List ℕ → Bool
-is_short_name name = nat_le 1 (length name) && nat_le (length name) LONGEST_SHORT_NAME && list_all is_short_name_byte name
+is_short_name name =
+    nat_le 1 (length name) && nat_le (length name) 8 && list_all is_short_name_byte name
 
 -- names are short, and differ
 pub record AreNames (names : List (List ℕ)) : Type 0 where
@@ -94,17 +94,17 @@ pub record IsTransition (states symbols : ℕ) (t : Transition) : Type 0 where
 -- names are short and differ, numbers are in range, no two rules are for the same state and symbol, and each limit holds
 pub record IsMachine (M : TuringMachine) : Type 0 where
   pub some_state : 1 ≤ length M.states
-  pub state_count : length M.states ≤ MOST_STATES
+  pub state_count : length M.states ≤ 64
   pub state_names : AreNames M.states
   pub some_symbol : 1 ≤ length M.symbols
-  pub symbol_count : length M.symbols ≤ MOST_SYMBOLS
+  pub symbol_count : length M.symbols ≤ 64
   pub symbol_names : AreNames M.symbols
   pub transitions : All (IsTransition (length M.states) (length M.symbols)) M.rules
   pub distinct_rules : AllPairs (λ t u. is_for t.state t.symbol u ≡ false) M.rules
   pub some_cell : 1 ≤ M.cells
-  pub cell_count : M.cells ≤ MOST_CELLS
+  pub cell_count : M.cells ≤ 512
   pub some_row : 1 ≤ M.rows
-  pub row_count : M.rows ≤ MOST_ROWS
+  pub row_count : M.rows ≤ 1024
   pub head_cell : M.head < M.cells
   pub tape_length : length M.tape ≤ M.cells
   pub tape_symbols : All (λ a. a < length M.symbols) M.tape

@@ -2,8 +2,9 @@
 ghost use Rattle.std.specs.Prelude.{◌≡◌, ◌≤◌, ◌<◌, List, true, None, length, IfOk};
 ghost use Rattle.machine_text.specs.Machines.{TuringMachine, rule_among};
 ghost use Rattle.machine_text.specs.MachineText.{MachineItem, transition_in, turn_field, machine_of};
-ghost use Rattle.machine_text.specs.Inner.Kinds.{row_of, machine_row, state_row, symbol_row, rule_row, cells_row, rows_row, head_row, tape_row};
-ghost use Rattle.machine_text.specs.Inner.SoFar.{machine_in, HasFewNames, Gets};
+ghost use Rattle.machine_text.specs.Inner.Kinds.{row_of, word_of_kind, machine_row, state_row, symbol_row, rule_row, cells_row, rows_row, head_row, tape_row};
+ghost use Rattle.machine_text.specs.Inner.SoFar.{machine_in, HasFewNames};
+ghost use Rattle.machine_text.specs.NameChecks.{Gets};
 
 use crate::kind::LineKind;
 use crate::limits::{MOST_CELLS, MOST_ROWS};
@@ -23,7 +24,7 @@ pub(crate) fn take_item(
     requires words { (row_of kind).has_words (length words.now) ≡ true }
     requires few { HasFewNames (machine_in parts.old) }
     ensures { (earlier : List MachineItem) → machine_in parts.old ≡ machine_of earlier →
-        Gets kind ((row_of kind).fields earlier words.now) (machine_in parts.old)
+        Gets (word_of_kind kind) ((row_of kind).fields earlier words.now) (machine_in parts.old)
         (machine_in parts.new) result }
 {
     match kind {
@@ -42,7 +43,7 @@ pub(crate) fn take_item(
 // Whether the header is of version 1.
 fn check_version(words: &LineWords) -> Result<(), LineStop>
     requires { length words.now ≡ 2 }
-    ensures { (M : TuringMachine) → Gets LineKind.Machine (machine_row.fields M words.now) M M result }
+    ensures { (M : TuringMachine) → Gets machine_row.word (machine_row.fields M words.now) M M result }
 {
     if !is_word(words.word(1), b"1") {
         return Err(LineStop::Fault(Cause::NoHeader));
@@ -54,7 +55,7 @@ fn check_version(words: &LineWords) -> Result<(), LineStop>
 fn take_state(alloc: Global, parts: &mut MachineParts, words: &LineWords) -> Result<(), LineStop>
     requires words { length words.now ≡ 2 }
     requires few { HasFewNames (machine_in parts.old) }
-    ensures { Gets LineKind.State (state_row.fields (machine_in parts.old) words.now)
+    ensures { Gets state_row.word (state_row.fields (machine_in parts.old) words.now)
         (machine_in parts.old) (machine_in parts.new) result }
 {
     let name = words.word(1);
@@ -69,7 +70,7 @@ fn take_state(alloc: Global, parts: &mut MachineParts, words: &LineWords) -> Res
 fn take_symbol(alloc: Global, parts: &mut MachineParts, words: &LineWords) -> Result<(), LineStop>
     requires words { length words.now ≡ 2 }
     requires few { HasFewNames (machine_in parts.old) }
-    ensures { Gets LineKind.Symbol (symbol_row.fields (machine_in parts.old) words.now)
+    ensures { Gets symbol_row.word (symbol_row.fields (machine_in parts.old) words.now)
         (machine_in parts.old) (machine_in parts.new) result }
 {
     let name = words.word(1);
@@ -84,7 +85,7 @@ fn take_symbol(alloc: Global, parts: &mut MachineParts, words: &LineWords) -> Re
 fn take_rule(parts: &mut MachineParts, words: &LineWords) -> Result<(), LineStop>
     requires words { length words.now ≡ 6 }
     requires few { HasFewNames (machine_in parts.old) }
-    ensures { Gets LineKind.Rule (rule_row.fields (machine_in parts.old) words.now)
+    ensures { Gets rule_row.word (rule_row.fields (machine_in parts.old) words.now)
         (machine_in parts.old) (machine_in parts.new) result }
 {
     let transition = read_rule(parts, words)?;
@@ -126,7 +127,7 @@ fn read_rule(parts: &MachineParts, words: &LineWords) -> Result<Transition, Caus
 // Takes the fields of a `cells` line.
 fn take_cells(parts: &mut MachineParts, words: &LineWords) -> Result<(), LineStop>
     requires { length words.now ≡ 2 }
-    ensures { Gets LineKind.Cells (cells_row.fields (machine_in parts.old) words.now) (machine_in parts.old)
+    ensures { Gets cells_row.word (cells_row.fields (machine_in parts.old) words.now) (machine_in parts.old)
         (machine_in parts.new) result }
 {
     parts.cells = read_count(words.word(1), 1, MOST_CELLS)?;
@@ -136,7 +137,7 @@ fn take_cells(parts: &mut MachineParts, words: &LineWords) -> Result<(), LineSto
 // Takes the fields of a `rows` line.
 fn take_rows(parts: &mut MachineParts, words: &LineWords) -> Result<(), LineStop>
     requires { length words.now ≡ 2 }
-    ensures { Gets LineKind.Rows (rows_row.fields (machine_in parts.old) words.now) (machine_in parts.old)
+    ensures { Gets rows_row.word (rows_row.fields (machine_in parts.old) words.now) (machine_in parts.old)
         (machine_in parts.new) result }
 {
     parts.rows = read_count(words.word(1), 1, MOST_ROWS)?;
@@ -146,7 +147,7 @@ fn take_rows(parts: &mut MachineParts, words: &LineWords) -> Result<(), LineStop
 // Takes the fields of a `head` line.
 fn take_head(parts: &mut MachineParts, words: &LineWords) -> Result<(), LineStop>
     requires { length words.now ≡ 2 }
-    ensures { Gets LineKind.Head (head_row.fields (machine_in parts.old) words.now)
+    ensures { Gets head_row.word (head_row.fields (machine_in parts.old) words.now)
         (machine_in parts.old) (machine_in parts.new) result }
 {
     let last = parts.cells.saturating_sub(1);
@@ -157,7 +158,7 @@ fn take_head(parts: &mut MachineParts, words: &LineWords) -> Result<(), LineStop
 // Takes the fields of a `tape` line.
 fn take_tape(alloc: Global, parts: &mut MachineParts, words: &LineWords) -> Result<(), LineStop>
     requires { 2 ≤ length words.now }
-    ensures { Gets LineKind.Tape (tape_row.fields (machine_in parts.old) words.now)
+    ensures { Gets tape_row.word (tape_row.fields (machine_in parts.old) words.now)
         (machine_in parts.old) (machine_in parts.new) result }
 {
     let symbols = find_names(alloc, &parts.symbols, words)?;

@@ -1,12 +1,11 @@
 -- The keywords of a machine text, as the code has them.
-use Rattle.std.specs.Prelude.{Bool, true, false, List, Option, Some, None}
+use Rattle.std.specs.Prelude.{ℕ, Bool, true, false, List, Option, Some, None}
 use Rattle.std.specs.List.{slice_index_or}
-use Rattle.tile_io.specs.Checks.{Keyword, told_by, row, no_row}
+use Rattle.tile_io.specs.Checks.{Keyword, told_by, no_row}
 use Rattle.machine_text.specs.declared.kind.LineKind.{LineKind}
 use Rattle.machine_text.specs.declared.kind.LineKind.TheVariants as kinds
 use Rattle.machine_text.specs.Machines.{TuringMachine}
 use Rattle.machine_text.specs.MachineText.{MachineItem, machine_of, machine_rows}
-use Rattle.machine_text.specs.MachineText.MachineItem.{Header, StateLine, SymbolLine, RuleLine, CellsLine, RowsLine, HeadLine, TapeLine, EndLine}
 
 -- the rows by their words
 abbrev pub machine_row : Keyword TuringMachine MachineItem
@@ -48,17 +47,9 @@ row_of kinds.Head = told_by machine_of head_row
 row_of kinds.Tape = told_by machine_of tape_row
 row_of kinds.End = told_by machine_of end_row
 
--- the keyword of a line
-abbrev pub kind_of : MachineItem → LineKind
-kind_of Header = kinds.Machine
-kind_of (StateLine name) = kinds.State
-kind_of (SymbolLine name) = kinds.Symbol
-kind_of (RuleLine transition) = kinds.Rule
-kind_of (CellsLine cells) = kinds.Cells
-kind_of (RowsLine rows) = kinds.Rows
-kind_of (HeadLine cell) = kinds.Head
-kind_of (TapeLine symbols) = kinds.Tape
-kind_of EndLine = kinds.End
+-- the word of a keyword
+abbrev pub word_of_kind : LineKind → List ℕ
+word_of_kind kind = (row_of kind).word
 
 -- whether a keyword may stand right after a line of another one, or first
 abbrev pub may_stand_after : LineKind → Option LineKind → Bool

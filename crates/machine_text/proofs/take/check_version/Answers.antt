@@ -1,10 +1,8 @@
 use Rattle.std.proofs.Common.{sym, ap, refl, ◌∙◌, ◌∷◌, []}
 use Rattle.std.specs.Prelude.{bytes_eq}
-use Rattle.machine_text.specs.Inner.Kinds.{machine_row}
-use Rattle.machine_text.specs.MachineText.MachineItem.{Header}
 use Rattle.machine_text.proofs.take.check_version.Goals as goal
 
 pub returns : goal.returns
 returns c = λ M.
     let one = ap (λ w. bytes_eq w (49 ∷ [])) (sym c.word.ensures) ∙ sym c.is_word.ensures ∙ c.if-not-is_word.false in
-    (Header, refl, rw one refl, refl)
+    rw one refl

@@ -1,10 +1,8 @@
 use Rattle.std.proofs.Common.{ap, refl, sym, ◌∙◌}
 use Rattle.tile_io.specs.Checks.{count_in}
-use Rattle.machine_text.specs.Inner.Kinds.{rows_row}
-use Rattle.machine_text.specs.MachineText.MachineItem.{RowsLine}
 use Rattle.machine_text.proofs.take.take_rows.Goals as goal
 
 pub returns : goal.returns
 returns c =
     let read = ap (count_in 1 1024) (sym c.word.ensures) ∙ sym c.in_ok-parts.ensures.value in
-    (RowsLine c.in_ok-parts.field-0, refl, rw read refl, refl)
+    rw read refl

@@ -1,9 +1,6 @@
-use Rattle.std.proofs.Common.{◌≡◌, List, ℕ, Ok, ap, refl, sym, ◌∙◌}
+use Rattle.std.proofs.Common.{◌≡◌, Ok, ap, refl, sym, ◌∙◌}
 use Rattle.tile_io.specs.Checks.{declared, field}
 use Rattle.machine_text.specs.Machines.{is_short_name}
-use Rattle.machine_text.specs.Inner.Kinds.{state_row}
-use Rattle.machine_text.specs.MachineText.MachineItem.{StateLine}
-use Rattle.machine_text.specs.Inner.SoFar.{machine_in}
 use Rattle.machine_text.proofs.take.take_state.Goals as goal
 
 pub returns-in-Ok : goal.returns-in-Ok
@@ -11,4 +8,4 @@ returns-in-Ok c =
     let name = c.word-name.result.now in
     let parts = c.args.parts.now in
     let read : declared is_short_name parts.states (field c.args.words.now 1) ≡ Ok name = ap (declared is_short_name parts.states) (sym c.word-name.ensures) ∙ c.in_ok-check_new.ensures in
-    (StateLine name, refl, rw read refl, ap (λ (l : List (List ℕ)). machine_in (record parts { states = l })) c.in-Ok.ensures.ok)
+    rw (read, c.in-Ok.ensures.ok) refl
