@@ -32,8 +32,9 @@ ACCEPTED = {
     ("tile_system:glue_named", "tile_system:type_named"): FIELDS,
     ("assembly:type_in", "type_cache:type_of"): "the one is of a cell of a grid, and the other of a code of an index",
     ("machine_text:is_for", "quadrant_compile:is_for"): FIELDS,
-    ("machine_text:symbol_name_of", "quadrant_compile:symbol_name_of"): LINES,
-    ("machine_text:transition_of", "quadrant_compile:rule_of"): LINES,
+    ("machine_text:word_of_kind", "quadrant_compile:word_of_kind"): LINES,
+    ("quadrant_compile:kinds", "quadrant_compile:labels"):
+        "the one lists the kinds of a set of tiles, and the other its labels",
     ("machine_text:entry", "quadrant_compile:entry"): "they are of tables with other limits",
     ("job_board:is_unique", "tilebench:is_verified"): "they are of verdicts of other judges",
     ("type_index:BearerLinks", "type_index:PairOrder"): FIELDS,

@@ -13,11 +13,13 @@ use Rattle.quadrant_compile.specs.declared.border.Border.TheVariants as borders
 use Rattle.quadrant_compile.specs.declared.line_kind.LineKind.{LineKind}
 use Rattle.quadrant_compile.specs.Quadrants.{RuleQuadrant}
 use Rattle.quadrant_compile.specs.QuadrantText.{QuadrantItem, quadrant_of, word_of, quadrant_table}
-use Rattle.quadrant_compile.specs.Inner.Keywords.{kind_of, row_of, is_last, may_stand_after, bottom_row, left_row}
+use Rattle.quadrant_compile.specs.Inner.Keywords.{word_of_kind, row_of, is_last, may_stand_after, bottom_row, left_row}
 use Rattle.quadrant_compile.specs.Inner.Borders.{HasPlace, border_kind, border_room}
-use Rattle.quadrant_compile.specs.Inner.SoFar.{Gets, HoldsLines, IsFit, with_item}
+use Rattle.quadrant_compile.specs.Inner.SoFar.{HoldsLines}
+use Rattle.machine_text.specs.NameChecks.{Gets}
+use Rattle.quadrant_compile.proofs.Lines.{IsLine}
 use Rattle.quadrant_compile.proofs.Built.{holds-push, last_is}
-use Rattle.quadrant_compile.proofs.Fits.{fit_of, follows_is}
+use Rattle.quadrant_compile.proofs.Fits.{line_of, follows_is}
 
 count_is : (border : Border) (words : List (List ℕ)) → nat_le 2 (length words) ≡ true → (row_of (border_kind border)).has_words (length words) ≡ true
 count_is borders.Bottom words count = count
@@ -50,26 +52,23 @@ module _ (border : Border) (q : RuleQuadrant) (last : Option LineKind) (items : 
   border_check : find (λ row. bytes_eq (field words 0) row.word) quadrant_table.keywords ≡ Some (row_of (border_kind border)) → check_line quadrant_table.keywords items words ≡ (row_of (border_kind border)).fields items words
   border_check keyword =
       let kind = border_kind border in
-      let follows : (row_of kind).may_follow (last_of items) ≡ true = follows_is kind (last_of items) ∙ ap (may_stand_after kind) (sym held.kind) ∙ place.follows in
+      let follows : (row_of kind).may_follow (last_of items) ≡ true = ap (row_of kind).may_follow held.last_item ∙ follows_is kind last q ∙ place.follows in
       let two : 2 ≤ length words = leb-true 2 (length words) place.count in
       line_at quadrant_table.keywords items words (omega (arith, two)) ∙ ap (λ k. check_keyword k items words) keyword
       ∙ passed (row_of kind) items words (count_is border words place.count) follows (room_is border q items words held.quadrant place.room)
 
   -- it passes
-  pub border_taken : (new : RuleQuadrant) → find (λ row. bytes_eq (field words 0) row.word) quadrant_table.keywords ≡ Some (row_of (border_kind border)) → Gets (border_kind border) ((row_of (border_kind border)).fields items words) q new (Ok tt) →
+  pub border_taken : (new : RuleQuadrant) → find (λ row. bytes_eq (field words 0) row.word) quadrant_table.keywords ≡ Some (row_of (border_kind border)) → Gets (word_of_kind (border_kind border)) ((row_of (border_kind border)).fields items words) q new (Ok tt) →
       TakesItem (λ item. bytes_eq (word_of item) (codes "end")) (λ l. HoldsLines new (Some (border_kind border)) l) items (check_line quadrant_table.keywords items words) (Ok false)
   border_taken new keyword took =
       let kind = border_kind border in
-      let item : QuadrantItem = took.0 in
+      let item : QuadrantItem = (word_of_kind kind, new) in
       let room = room_is border q items words held.quadrant place.room in
-      let fit : IsFit q item = subst (λ (v : RuleQuadrant). IsFit v item) (sym held.quadrant) (fit_of kind items words item room took.2) in
-      let stood : may_stand_after (kind_of item) last ≡ true = ap (λ k. may_stand_after k last) took.1 ∙ place.follows in
-      let Kind : LineKind → Type 0 = λ k. HoldsLines (with_item q item) (Some k) (items ++ item ∷ []) in
-      let Draws : RuleQuadrant → Type 0 = λ v. HoldsLines v (Some kind) (items ++ item ∷ []) in
-      (item, border_check keyword ∙ took.2, last_is item ∙ ap is_last took.1 ∙ never_last border, subst Draws (sym took.3) (subst Kind took.1 (holds-push q last items item held stood fit)))
+      let line : IsLine q kind item = subst (λ (v : RuleQuadrant). IsLine v kind item) (sym held.quadrant) (line_of kind items words item room took) in
+      (item, border_check keyword ∙ took, last_is kind ∙ never_last border, holds-push q last kind items item held place.follows line)
 
   -- or stops
-  pub border_stopped : (new : RuleQuadrant) (stop : LineStop) → find (λ row. bytes_eq (field words 0) row.word) quadrant_table.keywords ≡ Some (row_of (border_kind border)) → Gets (border_kind border) ((row_of (border_kind border)).fields items words) q new (Err stop) →
+  pub border_stopped : (new : RuleQuadrant) (stop : LineStop) → find (λ row. bytes_eq (field words 0) row.word) quadrant_table.keywords ≡ Some (row_of (border_kind border)) → Gets (word_of_kind (border_kind border)) ((row_of (border_kind border)).fields items words) q new (Err stop) →
       TakesItem (λ item. bytes_eq (word_of item) (codes "end")) (λ l. HoldsLines new last l) items (check_line quadrant_table.keywords items words) (Err stop)
   border_stopped new (stops.Fault cause) keyword stopped = (border_check keyword ∙ stopped.0, subst (λ (v : RuleQuadrant). HoldsLines v last items) (sym stopped.1) held)
   border_stopped new stops.NoMemory keyword stopped = subst (λ (v : RuleQuadrant). HoldsLines v last items) (sym stopped) held

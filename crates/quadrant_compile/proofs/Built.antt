@@ -1,17 +1,15 @@
 -- A quadrant in the making has what the lines give, and is sound.
-use Rattle.std.proofs.Common.{◌≡◌, ◌≢◌, ◌<◌, ◌≤◌, ◌+◌, ◌==◌, ℕ, true, false, List, [], ◌∷◌, ◌++◌, length, get_or, Option, Some, None, refl, sym, ◌∙◌, ap, subst, inl, inr, arith, length-append, append-nil}
-use Rattle.std.specs.Prelude.{codes, IsTrue, AllPairs, filter_map, bytes_eq, option_map, find}
-use Rattle.std.specs.List.{cons_option}
-use Rattle.std.specs.Option.{unwrap_or, option_to_list}
+use Rattle.std.proofs.Common.{◌≡◌, ◌≢◌, ◌<◌, ◌≤◌, ◌+◌, ◌==◌, ℕ, true, false, List, [], ◌∷◌, ◌++◌, length, get_or, Option, Some, None, refl, sym, ◌∙◌, ap, subst, inl, inr, arith, length-append}
+use Rattle.std.specs.Prelude.{codes, IsTrue, AllPairs, bytes_eq, option_map, find}
+use Rattle.std.specs.Option.{unwrap_or}
 use Rattle.std.specs.List.{list_any}
 use Rattle.std.proofs.lemmas.Bool.{cases_Bool, eqb-true}
-use Rattle.std.proofs.lemmas.List.{flat_map_more}
-use Rattle.std.proofs.lemmas.List.Elements.{All-push, All-append, filter_map-append}
+use Rattle.std.proofs.lemmas.List.Elements.{All-push, All-append}
 use Rattle.std.proofs.lemmas.List.Quantifiers.{all_pairs_push}
 use Rattle.std.proofs.lemmas.Slice.Eq.{bytes_eq-Decides}
-use Rattle.std.proofs.lemmas.Option.{none-some}
+use Rattle.std.proofs.lemmas.Option.{none-some, same_Some}
 use Rattle.tile_io.specs.declared.mark.Mark.{Mark}
-use Rattle.tile_io.specs.Checks.{last_of, number_given}
+use Rattle.tile_io.specs.Checks.{last_of}
 use Rattle.tile_io.specs.Formats.{Reads}
 use Rattle.tile_io.proofs.Checking.{last_push}
 use Rattle.tile_io.proofs.PassedFields.{and_both}
@@ -22,60 +20,12 @@ use Rattle.quadrant_compile.specs.declared.line_kind.LineKind.{LineKind}
 use Rattle.quadrant_compile.specs.declared.line_kind.LineKind.TheVariants as kinds
 use Rattle.quadrant_compile.specs.Quadrants.{RuleQuadrant, IsQuadrant, IsRuleOver, is_for}
 use Rattle.quadrant_compile.specs.Quadrants.{answer_among}
-use Rattle.quadrant_compile.specs.QuadrantText.{QuadrantItem, quadrant_of, symbol_name_of, rule_of, width_of, height_of, bottom_of, left_of, word_of, quadrant_format, quadrant_table}
-use Rattle.quadrant_compile.specs.QuadrantText.QuadrantItem.{Header, SymbolLine, RuleLine, SizeLine, BottomLine, LeftLine, EndLine}
-use Rattle.quadrant_compile.specs.Inner.Keywords.{kind_of, may_stand_after, is_last}
-use Rattle.quadrant_compile.specs.Inner.SoFar.{with_item, IsDraft, HasAlphabet, HasAll, HasCome, IsFit, HoldsLines}
+use Rattle.quadrant_compile.specs.QuadrantText.{QuadrantItem, quadrant_of, quadrant_format, quadrant_table}
+use Rattle.quadrant_compile.specs.Inner.Keywords.{word_of_kind, may_stand_after, is_last}
+use Rattle.quadrant_compile.specs.Inner.SoFar.{IsDraft, HasAlphabet, HasAll, HasCome, HoldsLines}
+use Rattle.quadrant_compile.proofs.Lines.{QuadrantLine, IsFit, IsLine, kind_of, with_line}
+use Rattle.quadrant_compile.proofs.Lines.QuadrantLine.{Header, SymbolLine, RuleLine, SizeLine, BottomLine, LeftLine, EndLine}
 use Rattle.quadrant_compile.proofs.RuleTables.{is_own}
-
--- One line more.
-one_or_none : {X : Type 0} (o : Option X) → cons_option o [] ≡ option_to_list o
-one_or_none None = refl
-one_or_none (Some x) = refl
-
-list_push : {X : Type 0} (of : QuadrantItem → Option X) (items : List QuadrantItem) (item : QuadrantItem) → filter_map of (items ++ item ∷ []) ≡ filter_map of items ++ option_to_list (of item)
-list_push of items item = filter_map-append of items (item ∷ []) ∙ ap (λ l. filter_map of items ++ l) (one_or_none (of item))
-
-last_given : (given : List ℕ) (more : Option ℕ) → unwrap_or (last_of (given ++ option_to_list more)) 0 ≡ unwrap_or more (unwrap_or (last_of given) 0)
-last_given given None = ap (λ l. unwrap_or (last_of l) 0) (append-nil given)
-last_given given (Some n) = ap (λ o. unwrap_or o 0) (last_push given n)
-
-number_push : (of : QuadrantItem → Option ℕ) (items : List QuadrantItem) (item : QuadrantItem) → number_given of (items ++ item ∷ []) ≡ unwrap_or (of item) (number_given of items)
-number_push of items item = ap (λ l. unwrap_or (last_of l) 0) (list_push of items item) ∙ last_given (filter_map of items) (of item)
-
--- a quadrant with what a line gives
-abbrev with_given : RuleQuadrant → QuadrantItem → RuleQuadrant
-with_given q item = record {
-  symbols = q.symbols ++ option_to_list (symbol_name_of item);
-  rules = q.rules ++ option_to_list (rule_of item);
-  width = unwrap_or (width_of item) q.width;
-  height = unwrap_or (height_of item) q.height;
-  bottom = q.bottom ++ bottom_of item;
-  left = q.left ++ left_of item;
-}
-
-given_push : (items : List QuadrantItem) (item : QuadrantItem) → quadrant_of (items ++ item ∷ []) ≡ with_given (quadrant_of items) item
-unfolding quadrant_of
-given_push items item = λ z. record {
-  symbols = list_push symbol_name_of items item z;
-  rules = list_push rule_of items item z;
-  width = number_push width_of items item z;
-  height = number_push height_of items item z;
-  bottom = sym (flat_map_more bottom_of [] items item) z;
-  left = sym (flat_map_more left_of [] items item) z;
-}
-
-with_is : (q : RuleQuadrant) (item : QuadrantItem) → with_given q item ≡ with_item q item
-with_is q Header = λ z. record q { symbols = append-nil q.symbols z; rules = append-nil q.rules z; bottom = append-nil q.bottom z; left = append-nil q.left z }
-with_is q (SymbolLine name) = λ z. record q { symbols = q.symbols ++ name ∷ []; rules = append-nil q.rules z; bottom = append-nil q.bottom z; left = append-nil q.left z }
-with_is q (RuleLine t) = λ z. record q { symbols = append-nil q.symbols z; rules = q.rules ++ t ∷ []; bottom = append-nil q.bottom z; left = append-nil q.left z }
-with_is q (SizeLine x y) = λ z. record q { symbols = append-nil q.symbols z; rules = append-nil q.rules z; width = x; height = y; bottom = append-nil q.bottom z; left = append-nil q.left z }
-with_is q (BottomLine symbols) = λ z. record q { symbols = append-nil q.symbols z; rules = append-nil q.rules z; bottom = q.bottom ++ symbols; left = append-nil q.left z }
-with_is q (LeftLine symbols) = λ z. record q { symbols = append-nil q.symbols z; rules = append-nil q.rules z; bottom = append-nil q.bottom z; left = q.left ++ symbols }
-with_is q EndLine = λ z. record q { symbols = append-nil q.symbols z; rules = append-nil q.rules z; bottom = append-nil q.bottom z; left = append-nil q.left z }
-
-quadrant_push : (items : List QuadrantItem) (item : QuadrantItem) → with_item (quadrant_of items) item ≡ quadrant_of (items ++ item ∷ [])
-quadrant_push items item = sym (given_push items item ∙ with_is (quadrant_of items) item)
 
 -- It stays sound.
 names_push : (names : List (List ℕ)) (name : List ℕ) → AreNames names → IsTrue (is_short_name name) → list_any (bytes_eq name) names ≡ false → AreNames (names ++ name ∷ [])
@@ -108,8 +58,8 @@ rules_push rules t distinct fresh =
     all_pairs_push (λ u v. is_for u.west u.south v ≡ false) rules t distinct (λ k d within.
     is_for_turned t (get_or rules k d) (none_found (is_for t.west t.south) rules (no_rule (find (is_for t.west t.south) rules) fresh) k d within))
 
-draft_push : (q : RuleQuadrant) (item : QuadrantItem) →
-    IsDraft q → IsFit q item → IsDraft (with_item q item)
+draft_push : (q : RuleQuadrant) (item : QuadrantLine) →
+    IsDraft q → IsFit q item → IsDraft (with_line q item)
 draft_push q Header draft fit = draft
 draft_push q EndLine draft fit = draft
 draft_push q (SymbolLine name) draft fit =
@@ -166,33 +116,33 @@ draft_push q (LeftLine symbols) draft fit = record {
 }
 
 -- Each line comes after those that it needs.
-more_symbols : (q : RuleQuadrant) (name : List ℕ) → q.bottom ≡ [] → q.left ≡ [] → HasAlphabet (with_item q (SymbolLine name))
+more_symbols : (q : RuleQuadrant) (name : List ℕ) → q.bottom ≡ [] → q.left ≡ [] → HasAlphabet (with_line q (SymbolLine name))
 more_symbols q name bottom left =
     let more : length (q.symbols ++ name ∷ []) ≡ length q.symbols + 1 = length-append q.symbols (name ∷ []) in
     record { some_symbol = omega (arith, more); no_bottom = bottom; no_left = left }
 
-with_size : (q : RuleQuadrant) (x y : ℕ) → HasAlphabet q → 1 ≤ x → 1 ≤ y → HasAll (with_item q (SizeLine x y))
+with_size : (q : RuleQuadrant) (x y : ℕ) → HasAlphabet q → 1 ≤ x → 1 ≤ y → HasAll (with_line q (SizeLine x y))
 with_size q x y has some_column some_row =
     let bottom : length q.bottom ≡ 0 = ap length has.no_bottom in
     let left : length q.left ≡ 0 = ap length has.no_left in
     record { some_symbol = has.some_symbol; some_column = some_column; some_row = some_row; bottom_length = omega (arith, bottom); left_length = omega (arith, left) }
 
-with_bottom : (q : RuleQuadrant) (symbols : List ℕ) → HasAll q → length q.bottom + length symbols ≤ q.width → HasAll (with_item q (BottomLine symbols))
+with_bottom : (q : RuleQuadrant) (symbols : List ℕ) → HasAll q → length q.bottom + length symbols ≤ q.width → HasAll (with_line q (BottomLine symbols))
 with_bottom q symbols has room =
     let longer : length (q.bottom ++ symbols) ≡ length q.bottom + length symbols = length-append q.bottom symbols in
     record { some_symbol = has.some_symbol; some_column = has.some_column; some_row = has.some_row; bottom_length = omega (arith, longer, room); left_length = has.left_length }
 
-with_left : (q : RuleQuadrant) (symbols : List ℕ) → HasAll q → length q.left + length symbols ≤ q.height → HasAll (with_item q (LeftLine symbols))
+with_left : (q : RuleQuadrant) (symbols : List ℕ) → HasAll q → length q.left + length symbols ≤ q.height → HasAll (with_line q (LeftLine symbols))
 with_left q symbols has room =
     let longer : length (q.left ++ symbols) ≡ length q.left + length symbols = length-append q.left symbols in
     record { some_symbol = has.some_symbol; some_column = has.some_column; some_row = has.some_row; bottom_length = has.bottom_length; left_length = omega (arith, longer, room) }
 
 -- nothing follows the end line
-never_after_end : (item : QuadrantItem) → may_stand_after (kind_of item) (Some kinds.End) ≡ true → ⊥
+never_after_end : (item : QuadrantLine) → may_stand_after (kind_of item) (Some kinds.End) ≡ true → ⊥
 never_after_end Header stands = cc stands
 never_after_end item stands = cc stands
 
-come_push : (q : RuleQuadrant) (last : Option LineKind) (item : QuadrantItem) → may_stand_after (kind_of item) last ≡ true → HasCome last q → IsFit q item → HasCome (Some (kind_of item)) (with_item q item)
+come_push : (q : RuleQuadrant) (last : Option LineKind) (item : QuadrantLine) → may_stand_after (kind_of item) last ≡ true → HasCome last q → IsFit q item → HasCome (Some (kind_of item)) (with_line q item)
 come_push q None Header stands come fit = come
 come_push q (Some kinds.Quadrant) (SymbolLine name) stands come fit = more_symbols q name come.0 come.1
 come_push q (Some kinds.Symbol) (SymbolLine name) stands come fit = more_symbols q name come.no_bottom come.no_left
@@ -212,21 +162,27 @@ come_push q (Some kinds.End) item stands come fit = absurd (never_after_end item
 come_push q last item stands come fit = absurd (cc stands)
 
 -- what is held survives a line
-pub holds-push : (q : RuleQuadrant) (last : Option LineKind) (items : List QuadrantItem) (item : QuadrantItem) → HoldsLines q last items → may_stand_after (kind_of item) last ≡ true → IsFit q item →
-    HoldsLines (with_item q item) (Some (kind_of item)) (items ++ item ∷ [])
-holds-push q last items item held stands fit = record {
-  quadrant = ap (λ v. with_item v item) held.quadrant ∙ quadrant_push items item;
-  kind = sym (ap (option_map kind_of) (last_push items item));
-  draft = draft_push q item held.draft fit;
-  come = come_push q last item stands held.come fit;
-}
+pub holds-push : (q : RuleQuadrant) (last : Option LineKind) (kind : LineKind) (items : List QuadrantItem) (item : QuadrantItem) → HoldsLines q last items → may_stand_after kind last ≡ true → IsLine q kind item →
+    HoldsLines item.1 (Some kind) (items ++ item ∷ [])
+unfolding quadrant_of
+holds-push q last kind items item held stands is =
+    let now : with_line q is.line ≡ item.1 = ap (λ (pair : QuadrantItem). pair.1) is.is in
+    let worded : (word_of_kind kind, item.1) ≡ item = ap (λ v. (word_of_kind kind, v)) (sym now) ∙ is.is in
+    let stood : may_stand_after (kind_of is.line) last ≡ true = ap (λ k. may_stand_after k last) is.keyword ∙ stands in
+    let come : HasCome (Some kind) (with_line q is.line) = subst (λ k. HasCome (Some k) (with_line q is.line)) is.keyword (come_push q last is.line stood held.come is.fit) in
+    record {
+      quadrant = sym (ap (λ o. unwrap_or (option_map (λ (pair : QuadrantItem). pair.1) o) (quadrant_of [])) (last_push items item));
+      last_item = last_push items item ∙ ap (λ (i : QuadrantItem). Some i) (sym worded);
+      draft = subst IsDraft now (draft_push q is.line held.draft is.fit);
+      come = subst (HasCome (Some kind)) now come;
+    }
 
 -- before the first line
 pub nothing_held : HoldsLines (quadrant_of []) None []
 unfolding quadrant_of
 nothing_held = record {
   quadrant = refl;
-  kind = refl;
+  last_item = refl;
   draft = record {
     few = omega arith;
     names = record { short = λ k d within. none_within within; distinct = λ i j d before within. none_within within };
@@ -243,14 +199,14 @@ nothing_held = record {
     none_within : {P : Type 0} {n : ℕ} → n < 0 → P
     none_within within = let never : ⊥ = omega (arith, within) in absurd never
 
-pub last_is : (item : QuadrantItem) → bytes_eq (word_of item) (codes "end") ≡ is_last (kind_of item)
-last_is Header = refl
-last_is (SymbolLine name) = refl
-last_is (RuleLine t) = refl
-last_is (SizeLine x y) = refl
-last_is (BottomLine symbols) = refl
-last_is (LeftLine symbols) = refl
-last_is EndLine = refl
+pub last_is : (kind : LineKind) → bytes_eq (word_of_kind kind) (codes "end") ≡ is_last kind
+last_is kinds.Quadrant = refl
+last_is kinds.Symbol = refl
+last_is kinds.Rule = refl
+last_is kinds.Size = refl
+last_is kinds.Bottom = refl
+last_is kinds.Left = refl
+last_is kinds.End = refl
 
 -- after the end line there is a quadrant
 is_quadrant : (q : RuleQuadrant) → IsDraft q → HasAll q → IsQuadrant q
@@ -270,18 +226,20 @@ is_quadrant q draft has = record {
   left_symbols = draft.left_symbols;
 }
 
-ends_at_end : (item : QuadrantItem) → bytes_eq (word_of item) (codes "end") ≡ true → kind_of item ≡ kinds.End
-ends_at_end EndLine ends = refl
-ends_at_end item ends = absurd (cc ends)
+ends_at_end : (q : RuleQuadrant) (last : Option LineKind) (item : QuadrantItem) → Some item ≡ option_map (λ kind. (word_of_kind kind, q)) last → bytes_eq item.0 (codes "end") ≡ true → last ≡ Some kinds.End
+ends_at_end q None item is ends = absurd (none-some item (sym is))
+ends_at_end q (Some kinds.End) item is ends = refl
+ends_at_end q (Some kind) item is ends =
+    let same = same_Some item (word_of_kind kind, q) is in
+    let end : bytes_eq (word_of_kind kind) (codes "end") ≡ true = ap (λ (pair : QuadrantItem). bytes_eq pair.0 (codes "end")) (sym same) ∙ ends in
+    absurd (cc end)
 
 -- what was read to the end line is a quadrant
 pub IsQuadrant-read : (q : RuleQuadrant) (last : Option LineKind) (items : List QuadrantItem) (text : List ℕ) (from to : Mark) → HoldsLines q last items → Reads quadrant_format text from items to → IsQuadrant q
 unfolding quadrant_table
 IsQuadrant-read q last items text from to held reads = elim reads [
   | inl read ↦
-      let end : last ≡ Some kinds.End =
-      held.kind ∙ ap (λ l. option_map kind_of (last_of l)) read.whole ∙ ap (option_map kind_of) (last_push read.earlier read.last) ∙ ap (λ k. Some k) (ends_at_end read.last read.ends)
-      in
-      is_quadrant q held.draft (subst (λ k. HasCome k q) end held.come)
+      let is : Some read.last ≡ option_map (λ kind. (word_of_kind kind, q)) last = sym (ap last_of read.whole ∙ last_push read.earlier read.last) ∙ held.last_item in
+      is_quadrant q held.draft (subst (λ k. HasCome k q) (ends_at_end q last read.last is read.ends) held.come)
   | inr read ↦ absurd (cc (read.complete))
 ]

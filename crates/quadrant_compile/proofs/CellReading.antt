@@ -13,10 +13,12 @@ use Rattle.design.proofs.Tables.{kind_there}
 use Rattle.quadrant_compile.specs.declared.rule.Answer.{Answer}
 use Rattle.quadrant_compile.specs.declared.tile.Kind.{Kind}
 use Rattle.quadrant_compile.specs.declared.tile.Kind.TheVariants.{Corner, Bottom, Left, Cell}
-use Rattle.quadrant_compile.specs.Quadrants.{RuleQuadrant, IsQuadrant, IsRecurrence, answer_of}
+use Rattle.quadrant_compile.specs.Quadrants.{RuleQuadrant, IsQuadrant, answer_among}
+use Rattle.quadrant_compile.specs.Recurrence.{IsRecurrence}
 use Rattle.quadrant_compile.specs.Quadrants.{ruled_pairs}
-use Rattle.quadrant_compile.specs.Tiles.{cell_for}
-use Rattle.quadrant_compile.specs.QuadrantSystems.{kinds, tiles_of, area_of}
+use Rattle.quadrant_compile.specs.Recurrence.{cell_for}
+use Rattle.quadrant_compile.specs.QuadrantSystems.{tiles_of}
+use Rattle.quadrant_compile.specs.Inner.Listed.{kinds, area_of}
 use Rattle.quadrant_compile.specs.Cells.{symbols_of, type_symbols, cell_at, ruled_inputs, IsCellType, HasCells}
 use Rattle.quadrant_compile.specs.Laws.{IsFullGrowth}
 use Rattle.quadrant_compile.proofs.Listed.{is_tile_set, kind_listed}
@@ -74,7 +76,7 @@ module _ (q : RuleQuadrant) (is_quadrant : IsQuadrant q) where
   own_symbols : (west south : Option ℕ) → option_and_then (type_symbols q) (option_map (type_id (tiles_of q)) (cell_for q west south)) ≡ ruled_inputs q west south
   own_symbols None south = refl
   own_symbols (Some a) None = refl
-  own_symbols (Some a) (Some b) = elim (some_or_none (answer_of q a b)) [
+  own_symbols (Some a) (Some b) = elim (some_or_none (answer_among q.rules a b)) [
     | inl none ↦
         ap (λ o. option_and_then (type_symbols q) (option_map (type_id (tiles_of q)) (option_map (λ x. Cell a b) o))) none
         ∙ sym (ap (λ o. option_and_then symbols_of (option_map (λ (x : Answer). Cell a b) o)) none)

@@ -15,9 +15,9 @@ use Rattle.quadrant_compile.specs.declared.line_kind.LineKind.{LineKind}
 use Rattle.quadrant_compile.specs.declared.line_kind.LineKind.TheVariants as kinds
 use Rattle.quadrant_compile.specs.Quadrants.{RuleQuadrant, IsRuleOver, answer_among}
 use Rattle.quadrant_compile.specs.QuadrantText.{QuadrantItem, quadrant_of, rule_in}
-use Rattle.quadrant_compile.specs.QuadrantText.QuadrantItem.{Header, SymbolLine, RuleLine, SizeLine, BottomLine, LeftLine, EndLine}
-use Rattle.quadrant_compile.specs.Inner.Keywords.{kind_of, row_of, may_stand_after, symbol_row, bottom_row, left_row, quadrant_row, rule_row, size_row}
-use Rattle.quadrant_compile.specs.Inner.SoFar.{IsFit}
+use Rattle.quadrant_compile.specs.Inner.Keywords.{word_of_kind, row_of, may_stand_after, symbol_row, bottom_row, left_row, quadrant_row, rule_row, size_row, end_row}
+use Rattle.quadrant_compile.proofs.Lines.{QuadrantLine, IsFit, IsLine, kind_of, with_line}
+use Rattle.quadrant_compile.proofs.Lines.QuadrantLine.{Header, SymbolLine, RuleLine, SizeLine, BottomLine, LeftLine, EndLine}
 
 none_of : {X : Type 0} (o : Option X) → is_some o ≡ false → o ≡ None
 none_of None is = refl
@@ -56,68 +56,63 @@ module _ (q : RuleQuadrant) where
       (cc (four.2))
 
 module _ (q : RuleQuadrant) (words : List (List ℕ)) (item : QuadrantItem) where
-  header_fit : quadrant_row.fields q words ≡ Ok item → IsFit q item
-  header_fit is =
-      let one = bind_ok (require (bytes_eq (field words 1) (49 ∷ [])) NoHeader) (λ _. Ok Header) item is in
-      let same : Header ≡ item = cc (one.2) in
-      subst (IsFit q) same tt
+  line_is : (line : QuadrantLine) → IsFit q line → (word_of_kind (kind_of line), with_line q line) ≡ item → IsLine q (kind_of line) item
+  line_is line fit is = record { line = line; keyword = refl; fit = fit; is = is }
 
-  symbol_fit : symbol_row.has_room q words ≡ true → symbol_row.fields q words ≡ Ok item → IsFit q item
-  symbol_fit room is =
-      let one = bind_ok (declared is_short_name q.symbols (field words 1)) (λ name. Ok (SymbolLine name)) item is in
-      let same : SymbolLine one.0 ≡ item = cc (one.2) in
+  header_line : quadrant_row.fields q words ≡ Ok item → IsLine q kinds.Quadrant item
+  header_line is =
+      let one = bind_ok (require (bytes_eq (field words 1) (49 ∷ [])) NoHeader) (λ _. Ok (quadrant_row.word, q)) item is in
+      line_is Header tt (cc (one.2))
+
+  symbol_line : symbol_row.has_room q words ≡ true → symbol_row.fields q words ≡ Ok item → IsLine q kinds.Symbol item
+  symbol_line room is =
+      let one = bind_ok (declared is_short_name q.symbols (field words 1)) (λ name. Ok (symbol_row.word, with_line q (SymbolLine name))) item is in
       let new = declared_ok is_short_name q.symbols (field words 1) one.0 one.1 in
-      subst (IsFit q) same (ltb-true (length q.symbols) 64 room, new.0, new.1)
+      line_is (SymbolLine one.0) (ltb-true (length q.symbols) 64 room, new.0, new.1) (cc (one.2))
 
-  rule_fit : rule_row.fields q words ≡ Ok item → IsFit q item
-  rule_fit is =
-      let one = bind_ok (rule_in q words) (λ r. Ok (RuleLine r)) item is in
-      let same : RuleLine one.0 ≡ item = cc (one.2) in
-      subst (IsFit q) same (rule_ok q words one.0 one.1)
+  rule_line : rule_row.fields q words ≡ Ok item → IsLine q kinds.Rule item
+  rule_line is =
+      let one = bind_ok (rule_in q words) (λ r. Ok (rule_row.word, with_line q (RuleLine r))) item is in
+      line_is (RuleLine one.0) (rule_ok q words one.0 one.1) (cc (one.2))
 
-  size_fit : size_row.fields q words ≡ Ok item → IsFit q item
-  size_fit is =
-      let one = bind_ok (count_in 1 1023 (field words 1)) (λ x. count_in 1 1023 (field words 2) >>= (λ y. Ok (SizeLine x y))) item is in
-      let two = bind_ok (count_in 1 1023 (field words 2)) (λ y. Ok (SizeLine one.0 y)) item one.2 in
-      let same : SizeLine one.0 two.0 ≡ item = cc (two.2) in
+  size_line : size_row.fields q words ≡ Ok item → IsLine q kinds.Size item
+  size_line is =
+      let one = bind_ok (count_in 1 1023 (field words 1)) (λ x. count_in 1 1023 (field words 2) >>= (λ y. Ok (size_row.word, with_line q (SizeLine x y)))) item is in
+      let two = bind_ok (count_in 1 1023 (field words 2)) (λ y. Ok (size_row.word, with_line q (SizeLine one.0 y))) item one.2 in
       let x = count_ok 1 1023 (field words 1) one.0 one.1 in
       let y = count_ok 1 1023 (field words 2) two.0 two.1 in
-      subst (IsFit q) same (x.0, x.1, y.0, y.1)
+      line_is (SizeLine one.0 two.0) (x.0, x.1, y.0, y.1) (cc (two.2))
 
-  bottom_fit : bottom_row.has_room q words ≡ true → bottom_row.fields q words ≡ Ok item → IsFit q item
-  bottom_fit room is =
-      let one = bind_ok (references q.symbols (drop 1 words)) (λ symbols. Ok (BottomLine symbols)) item is in
-      let same : BottomLine one.0 ≡ item = cc (one.2) in
+  bottom_line : bottom_row.has_room q words ≡ true → bottom_row.fields q words ≡ Ok item → IsLine q kinds.Bottom item
+  bottom_line room is =
+      let one = bind_ok (references q.symbols (drop 1 words)) (λ symbols. Ok (bottom_row.word, with_line q (BottomLine symbols))) item is in
       let read = references_ok q.symbols (drop 1 words) one.0 one.1 in
       let count = read.1 in
       let rest : length (drop 1 words) ≡ length words - 1 = length-drop 1 words in
       let few = leb-true (length q.bottom + (length words - 1)) q.width room in
-      subst (IsFit q) same (read.0, omega (arith, count, rest, few))
+      line_is (BottomLine one.0) (read.0, omega (arith, count, rest, few)) (cc (one.2))
 
-  left_fit : left_row.has_room q words ≡ true → left_row.fields q words ≡ Ok item → IsFit q item
-  left_fit room is =
-      let one = bind_ok (references q.symbols (drop 1 words)) (λ symbols. Ok (LeftLine symbols)) item is in
-      let same : LeftLine one.0 ≡ item = cc (one.2) in
+  left_line : left_row.has_room q words ≡ true → left_row.fields q words ≡ Ok item → IsLine q kinds.Left item
+  left_line room is =
+      let one = bind_ok (references q.symbols (drop 1 words)) (λ symbols. Ok (left_row.word, with_line q (LeftLine symbols))) item is in
       let read = references_ok q.symbols (drop 1 words) one.0 one.1 in
       let count = read.1 in
       let rest : length (drop 1 words) ≡ length words - 1 = length-drop 1 words in
       let few = leb-true (length q.left + (length words - 1)) q.height room in
-      subst (IsFit q) same (read.0, omega (arith, count, rest, few))
+      line_is (LeftLine one.0) (read.0, omega (arith, count, rest, few)) (cc (one.2))
 
-  end_fit : (check : Result QuadrantItem Cause) →
-      check ≡ Ok EndLine → check ≡ Ok item → IsFit q item
-  end_fit check ends is = let same : EndLine ≡ item = cc (ends, is) in subst (IsFit q) same tt
+  end_line : end_row.fields q words ≡ Ok item → IsLine q kinds.End item
+  end_line is = line_is EndLine tt (cc is)
 
 -- a line that passes its checks fits
-pub fit_of : (kind : LineKind) (items : List QuadrantItem) (words : List (List ℕ)) (item : QuadrantItem) → (row_of kind).has_room items words ≡ true → (row_of kind).fields items words ≡ Ok item → IsFit (quadrant_of items) item
-fit_of kinds.Quadrant items words item room is = header_fit (quadrant_of items) words item is
-fit_of kinds.Symbol items words item room is = symbol_fit (quadrant_of items) words item room is
-fit_of kinds.Rule items words item room is = rule_fit (quadrant_of items) words item is
-fit_of kinds.Size items words item room is = size_fit (quadrant_of items) words item is
-fit_of kinds.Bottom items words item room is = bottom_fit (quadrant_of items) words item room is
-fit_of kinds.Left items words item room is = left_fit (quadrant_of items) words item room is
-fit_of kinds.End items words item room is =
-    end_fit (quadrant_of items) words item (Ok EndLine) refl is
+pub line_of : (kind : LineKind) (items : List QuadrantItem) (words : List (List ℕ)) (item : QuadrantItem) → (row_of kind).has_room items words ≡ true → (row_of kind).fields items words ≡ Ok item → IsLine (quadrant_of items) kind item
+line_of kinds.Quadrant items words item room is = header_line (quadrant_of items) words item is
+line_of kinds.Symbol items words item room is = symbol_line (quadrant_of items) words item room is
+line_of kinds.Rule items words item room is = rule_line (quadrant_of items) words item is
+line_of kinds.Size items words item room is = size_line (quadrant_of items) words item is
+line_of kinds.Bottom items words item room is = bottom_line (quadrant_of items) words item room is
+line_of kinds.Left items words item room is = left_line (quadrant_of items) words item room is
+line_of kinds.End items words item room is = end_line (quadrant_of items) words item is
 
 -- the limits are told by the quadrant so far
 pub room_by_quadrant : (kind : LineKind) (a b : List QuadrantItem) (words : List (List ℕ)) → quadrant_of a ≡ quadrant_of b → (row_of kind).has_room a words ≡ (row_of kind).has_room b words
@@ -127,12 +122,60 @@ room_by_quadrant kinds.Left a b words same = ap (λ q. left_row.has_room q words
 room_by_quadrant kind a b words same = refl
 
 -- what may stand after what, by the keywords
-pub follows_is : (kind : LineKind) (last : Option QuadrantItem) → (row_of kind).may_follow last ≡ may_stand_after kind (option_map kind_of last)
-follows_is kinds.Quadrant (Some Header) = refl
-follows_is kinds.Symbol (Some Header) = refl
-follows_is kinds.Rule (Some Header) = refl
-follows_is kinds.Size (Some Header) = refl
-follows_is kinds.Bottom (Some Header) = refl
-follows_is kinds.Left (Some Header) = refl
-follows_is kinds.End (Some Header) = refl
-follows_is kind last = refl
+pub follows_is : (kind : LineKind) (last : Option LineKind) (q : RuleQuadrant) → (row_of kind).may_follow (option_map (λ k. (word_of_kind k, q)) last) ≡ may_stand_after kind last
+follows_is kinds.Quadrant None q = refl
+follows_is kinds.Quadrant (Some kinds.Quadrant) q = refl
+follows_is kinds.Quadrant (Some kinds.Symbol) q = refl
+follows_is kinds.Quadrant (Some kinds.Rule) q = refl
+follows_is kinds.Quadrant (Some kinds.Size) q = refl
+follows_is kinds.Quadrant (Some kinds.Bottom) q = refl
+follows_is kinds.Quadrant (Some kinds.Left) q = refl
+follows_is kinds.Quadrant (Some kinds.End) q = refl
+follows_is kinds.Symbol None q = refl
+follows_is kinds.Symbol (Some kinds.Quadrant) q = refl
+follows_is kinds.Symbol (Some kinds.Symbol) q = refl
+follows_is kinds.Symbol (Some kinds.Rule) q = refl
+follows_is kinds.Symbol (Some kinds.Size) q = refl
+follows_is kinds.Symbol (Some kinds.Bottom) q = refl
+follows_is kinds.Symbol (Some kinds.Left) q = refl
+follows_is kinds.Symbol (Some kinds.End) q = refl
+follows_is kinds.Rule None q = refl
+follows_is kinds.Rule (Some kinds.Quadrant) q = refl
+follows_is kinds.Rule (Some kinds.Symbol) q = refl
+follows_is kinds.Rule (Some kinds.Rule) q = refl
+follows_is kinds.Rule (Some kinds.Size) q = refl
+follows_is kinds.Rule (Some kinds.Bottom) q = refl
+follows_is kinds.Rule (Some kinds.Left) q = refl
+follows_is kinds.Rule (Some kinds.End) q = refl
+follows_is kinds.Size None q = refl
+follows_is kinds.Size (Some kinds.Quadrant) q = refl
+follows_is kinds.Size (Some kinds.Symbol) q = refl
+follows_is kinds.Size (Some kinds.Rule) q = refl
+follows_is kinds.Size (Some kinds.Size) q = refl
+follows_is kinds.Size (Some kinds.Bottom) q = refl
+follows_is kinds.Size (Some kinds.Left) q = refl
+follows_is kinds.Size (Some kinds.End) q = refl
+follows_is kinds.Bottom None q = refl
+follows_is kinds.Bottom (Some kinds.Quadrant) q = refl
+follows_is kinds.Bottom (Some kinds.Symbol) q = refl
+follows_is kinds.Bottom (Some kinds.Rule) q = refl
+follows_is kinds.Bottom (Some kinds.Size) q = refl
+follows_is kinds.Bottom (Some kinds.Bottom) q = refl
+follows_is kinds.Bottom (Some kinds.Left) q = refl
+follows_is kinds.Bottom (Some kinds.End) q = refl
+follows_is kinds.Left None q = refl
+follows_is kinds.Left (Some kinds.Quadrant) q = refl
+follows_is kinds.Left (Some kinds.Symbol) q = refl
+follows_is kinds.Left (Some kinds.Rule) q = refl
+follows_is kinds.Left (Some kinds.Size) q = refl
+follows_is kinds.Left (Some kinds.Bottom) q = refl
+follows_is kinds.Left (Some kinds.Left) q = refl
+follows_is kinds.Left (Some kinds.End) q = refl
+follows_is kinds.End None q = refl
+follows_is kinds.End (Some kinds.Quadrant) q = refl
+follows_is kinds.End (Some kinds.Symbol) q = refl
+follows_is kinds.End (Some kinds.Rule) q = refl
+follows_is kinds.End (Some kinds.Size) q = refl
+follows_is kinds.End (Some kinds.Bottom) q = refl
+follows_is kinds.End (Some kinds.Left) q = refl
+follows_is kinds.End (Some kinds.End) q = refl

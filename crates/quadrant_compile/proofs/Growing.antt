@@ -13,9 +13,11 @@ use Rattle.design.specs.Laws.{HasDeterministicGrowth}
 use Rattle.design.proofs.Rows.{places_are_cells, cells_are_filled, deterministic_rows}
 use Rattle.quadrant_compile.specs.declared.tile.Kind.TheVariants.{Corner}
 use Rattle.quadrant_compile.specs.declared.tile.Kind.{Kind}
-use Rattle.quadrant_compile.specs.Quadrants.{RuleQuadrant, IsQuadrant, IsRecurrence}
-use Rattle.quadrant_compile.specs.Tiles.{cell_for, kind_at}
-use Rattle.quadrant_compile.specs.QuadrantSystems.{tiles_of, area_of, quadrant_system}
+use Rattle.quadrant_compile.specs.Quadrants.{RuleQuadrant, IsQuadrant}
+use Rattle.quadrant_compile.specs.Recurrence.{IsRecurrence}
+use Rattle.quadrant_compile.specs.Recurrence.{cell_for, kind_at}
+use Rattle.quadrant_compile.specs.QuadrantSystems.{tiles_of, quadrant_system}
+use Rattle.quadrant_compile.specs.Inner.Listed.{area_of}
 use Rattle.quadrant_compile.specs.Laws.{IsInQuadrant, IsFullGrowth}
 use Rattle.quadrant_compile.proofs.Listed.{is_tile_set, kind_listed}
 use Rattle.quadrant_compile.proofs.QuadrantRows.{quadrant_rows, are_grown, is_in, cell_there}

@@ -1,5 +1,6 @@
 pub mod RuleTables
 pub mod Fits
+pub mod Lines
 pub mod Built
 pub mod Borders
 pub mod Ruling

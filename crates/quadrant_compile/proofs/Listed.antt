@@ -18,9 +18,10 @@ use Rattle.quadrant_compile.specs.declared.tile.Kind.{Kind}
 use Rattle.quadrant_compile.specs.declared.tile.Kind.TheVariants.{Corner, Bottom, Left, Cell}
 use Rattle.quadrant_compile.specs.declared.tile.Label.{Label}
 use Rattle.quadrant_compile.specs.declared.tile.Label.TheVariants.{Eastward, Northward, Column, Row}
-use Rattle.quadrant_compile.specs.Quadrants.{RuleQuadrant, IsQuadrant, answer_of, pairs_below, has_rule, ruled_pairs}
+use Rattle.quadrant_compile.specs.Quadrants.{RuleQuadrant, IsQuadrant, answer_among, pairs_below, has_rule, ruled_pairs}
 use Rattle.quadrant_compile.specs.Tiles.{cell_side, label_on}
-use Rattle.quadrant_compile.specs.QuadrantSystems.{kinds, labels, pair_number, tiles_of}
+use Rattle.quadrant_compile.specs.QuadrantSystems.{tiles_of}
+use Rattle.quadrant_compile.specs.Inner.Listed.{kinds, labels}
 use Rattle.quadrant_compile.specs.Inner.Listed.{kind_number, label_number}
 use Rattle.quadrant_compile.specs.Inner.Members.{IsKind, IsLabel}
 use Rattle.quadrant_compile.proofs.Ruling.{answer_bounds, pair_bounds, bottom_known, left_known}
@@ -41,10 +42,13 @@ module _ (q : RuleQuadrant) (is_quadrant : IsQuadrant q) where
   range_length : {X : Type 0} (f : ℕ → X) (a n : ℕ) → length (map f (range_with_len a n)) ≡ n
   range_length f a n = length-map (range_with_len a n) f ∙ length-range_with_len a n
 
-  pairs_placed : IsNumbered (pair_number q) 0 (pairs_below n)
+  abbrev pair_number : ℕ × ℕ → ℕ
+  pair_number pair = pair.0 * length q.symbols + pair.1
+
+  pairs_placed : IsNumbered pair_number 0 (pairs_below n)
   pairs_placed =
       let start : 0 + 0 * n ≡ 0 = omega arith in
-      subst (λ m. IsNumbered (pair_number q) m (pairs_below n)) start (numbered-pairs (pair_number q) 0 n 0 n (λ p a less. omega arith))
+      subst (λ m. IsNumbered pair_number m (pairs_below n)) start (numbered-pairs pair_number 0 n 0 n (λ p a less. omega arith))
 
   -- the parts of the list of kinds
   abbrev bottoms : List Kind
@@ -62,7 +66,7 @@ module _ (q : RuleQuadrant) (is_quadrant : IsQuadrant q) where
     numbered-then (kind_number q) 1 (suc q.width) bottoms (lefts ++ cells) (numbered-range (kind_number q) Bottom 1 1 q.width (λ i less. refl)) (let h = range_length Bottom 1 q.width in omega (arith, h))
         (numbered-then (kind_number q) (suc q.width) (suc q.width + q.height) lefts cells (numbered-range (kind_number q) Left (suc q.width) 1 q.height (λ i less. omega arith)) (ap (λ m. suc q.width + m) (range_length Left 1 q.height))
         (numbered-map (kind_number q) (λ p. Cell p.0 p.1) (suc q.width + q.height) (ruled_pairs q)
-        (numbered-kept (pair_number q) (λ p. kind_number q (Cell p.0 p.1)) (has_rule q) (suc q.width + q.height) (pairs_below n) pairs_placed (λ x. refl)))),
+        (numbered-kept pair_number (λ p. kind_number q (Cell p.0 p.1)) (has_rule q) (suc q.width + q.height) (pairs_below n) pairs_placed (λ x. refl)))),
   )
 
   -- the parts of the list of labels
@@ -92,7 +96,7 @@ module _ (q : RuleQuadrant) (is_quadrant : IsQuadrant q) where
   from_one f n zero some within = let never : ⊥ = omega (arith, some) in absurd never
   from_one f n (suc i) some within = let same : 1 + i ≡ suc i = omega arith in subst (λ m. Contains (map f (range_with_len 1 n)) (f m)) same (range-has f 1 n i (omega (arith, within)))
 
-  rule_listed : (a b : ℕ) → is_some (answer_of q a b) ≡ true → Contains (ruled_pairs q) (a, b)
+  rule_listed : (a b : ℕ) → is_some (answer_among q.rules a b) ≡ true → Contains (ruled_pairs q) (a, b)
   rule_listed a b rule =
       let bounds = pair_bounds q is_quadrant a b rule in
       let same : 0 + a ≡ a = omega arith in
@@ -151,7 +155,7 @@ module _ (q : RuleQuadrant) (is_quadrant : IsQuadrant q) where
     | inr past ↦ rw (not_less i m past) tt
   ]
 
-  cell_label : (a b : ℕ) (x : Answer) (d : Side) → answer_of q a b ≡ Some x → IfSome (cell_side a b x d) (IsLabel q)
+  cell_label : (a b : ℕ) (x : Answer) (d : Side) → answer_among q.rules a b ≡ Some x → IfSome (cell_side a b x d) (IsLabel q)
   cell_label a b x North rule = (answer_bounds q is_quadrant a b x rule).north
   cell_label a b x East rule = (answer_bounds q is_quadrant a b x rule).east
   cell_label a b x South rule = (answer_bounds q is_quadrant a b x rule).south
@@ -171,7 +175,7 @@ module _ (q : RuleQuadrant) (is_quadrant : IsQuadrant q) where
   side_label (Left j) South within = within
   side_label (Left j) West within = tt
   side_label (Cell a b) d rule =
-      let x = some_is (answer_of q a b) rule in
+      let x = some_is (answer_among q.rules a b) rule in
       let IsOf : Option Answer → Type 0 = λ o. IfSome (option_and_then (λ y. cell_side a b y d) o) (IsLabel q) in
       subst IsOf (sym (x.1)) (cell_label a b x.0 d x.1)
 

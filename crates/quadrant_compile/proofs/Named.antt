@@ -1,5 +1,6 @@
 -- The names of a quadrant's types and glues, and that its system is valid.
 use Rattle.std.proofs.Common.{◌≡◌, ◌<◌, ◌≤◌, ℕ, List, [], ◌∷◌, ◌++◌, length, Contains, refl, sym, ◌∙◌, ap, arith, codes}
+use Rattle.std.specs.List.{slice_index_or}
 use Rattle.std.proofs.lemmas.Int.{ints}
 use Rattle.atam.specs.Sites.{IsBox, InBox}
 use Rattle.atam.specs.TileSystem.{IsName, IsValid}
@@ -12,7 +13,8 @@ use Rattle.quadrant_compile.specs.declared.tile.Kind.TheVariants.{Corner, Bottom
 use Rattle.quadrant_compile.specs.declared.tile.Label.{Label}
 use Rattle.quadrant_compile.specs.declared.tile.Label.TheVariants.{Eastward, Northward, Column, Row}
 use Rattle.quadrant_compile.specs.Quadrants.{RuleQuadrant, IsQuadrant}
-use Rattle.quadrant_compile.specs.QuadrantSystems.{kinds, symbol_name, tiles_of, area_of, quadrant_system}
+use Rattle.quadrant_compile.specs.QuadrantSystems.{tiles_of, quadrant_system}
+use Rattle.quadrant_compile.specs.Inner.Listed.{kinds, area_of}
 use Rattle.quadrant_compile.specs.Inner.Listed.{kind_name, label_name}
 use Rattle.quadrant_compile.specs.Inner.Members.{IsKind, IsLabel}
 use Rattle.quadrant_compile.proofs.Ruling.{pair_bounds}
@@ -36,15 +38,15 @@ head_of [] = 0
 head_of (x ∷ xs) = x
 
 module _ (q : RuleQuadrant) (is_quadrant : IsQuadrant q) where
-  symbol_short : (a : ℕ) → a < length q.symbols → IsShort (symbol_name q a)
+  symbol_short : (a : ℕ) → a < length q.symbols → IsShort ((slice_index_or q.symbols a []))
   symbol_short a less = short_name q.symbols is_quadrant.symbol_names a less
 
-  same_symbol : (a b : ℕ) → a < length q.symbols → b < length q.symbols → symbol_name q a ≡ symbol_name q b → a ≡ b
+  same_symbol : (a b : ℕ) → a < length q.symbols → b < length q.symbols → (slice_index_or q.symbols a []) ≡ (slice_index_or q.symbols b []) → a ≡ b
   same_symbol a b a_less b_less same = one_name q.symbols is_quadrant.symbol_names a b a_less b_less same
 
-  same_pair : (a b c d : ℕ) → a < length q.symbols → b < length q.symbols → c < length q.symbols → d < length q.symbols → symbol_name q a ++ codes ":" ++ symbol_name q b ≡ symbol_name q c ++ codes ":" ++ symbol_name q d → (a ≡ c) × (b ≡ d)
+  same_pair : (a b c d : ℕ) → a < length q.symbols → b < length q.symbols → c < length q.symbols → d < length q.symbols → (slice_index_or q.symbols a []) ++ codes ":" ++ (slice_index_or q.symbols b []) ≡ (slice_index_or q.symbols c []) ++ codes ":" ++ (slice_index_or q.symbols d []) → (a ≡ c) × (b ≡ d)
   same_pair a b c d a_less b_less c_less d_less same =
-      let both = one_pair (symbol_name q a) (symbol_name q b) (symbol_name q c) (symbol_name q d) (symbol_short a a_less).bytes (symbol_short c c_less).bytes same in
+      let both = one_pair ((slice_index_or q.symbols a [])) ((slice_index_or q.symbols b [])) ((slice_index_or q.symbols c [])) ((slice_index_or q.symbols d [])) (symbol_short a a_less).bytes (symbol_short c c_less).bytes same in
       (same_symbol a c a_less c_less both.0, same_symbol b d b_less d_less both.1)
 
   kind_named : (k : Kind) → IsKind q k → IsName (kind_name q k)
@@ -53,7 +55,7 @@ module _ (q : RuleQuadrant) (is_quadrant : IsQuadrant q) where
   kind_named (Left j) kind = let most = is_quadrant.row_count in let within = kind.1 in numbered_name (codes "a:") j (omega (arith, within, most)) (omega arith) refl
   kind_named (Cell a b) kind =
       let r = pair_bounds q is_quadrant a b kind in
-      named 113 (symbol_name q a ++ codes ":" ++ symbol_name q b) refl (rest-pair (symbol_name q a) (symbol_name q b) (symbol_short a r.0) (symbol_short b r.1))
+      named 113 ((slice_index_or q.symbols a []) ++ codes ":" ++ (slice_index_or q.symbols b [])) refl (rest-pair ((slice_index_or q.symbols a [])) ((slice_index_or q.symbols b [])) (symbol_short a r.0) (symbol_short b r.1))
 
   kind_coded : (k : Kind) → head_of (kind_name q k) ≡ kind_code k
   unfolding head_of kind_code
@@ -83,8 +85,8 @@ module _ (q : RuleQuadrant) (is_quadrant : IsQuadrant q) where
   one_kind j k first second code same = let never : ⊥ = omega (arith, code) in absurd never
 
   label_named : (g : Label) → IsLabel q g → IsName (label_name q g)
-  label_named (Eastward a) label = named 104 (symbol_name q a) refl (rest-short (symbol_name q a) (symbol_short a label))
-  label_named (Northward a) label = named 118 (symbol_name q a) refl (rest-short (symbol_name q a) (symbol_short a label))
+  label_named (Eastward a) label = named 104 ((slice_index_or q.symbols a [])) refl (rest-short ((slice_index_or q.symbols a [])) (symbol_short a label))
+  label_named (Northward a) label = named 118 ((slice_index_or q.symbols a [])) refl (rest-short ((slice_index_or q.symbols a [])) (symbol_short a label))
   label_named (Column i) label = let most = is_quadrant.column_count in let within = label.1 in numbered_name (codes "b:") i (omega (arith, within, most)) (omega arith) refl
   label_named (Row j) label = let most = is_quadrant.row_count in let within = label.1 in numbered_name (codes "a:") j (omega (arith, within, most)) (omega arith) refl
 

@@ -14,14 +14,17 @@ use Rattle.quadrant_compile.specs.declared.tile.Kind.{Kind}
 use Rattle.quadrant_compile.specs.declared.tile.Kind.TheVariants.{Corner, Bottom, Left, Cell}
 use Rattle.quadrant_compile.specs.declared.tile.Label.{Label}
 use Rattle.quadrant_compile.specs.declared.tile.Label.TheVariants.{Eastward, Northward, Column, Row}
-use Rattle.quadrant_compile.specs.Quadrants.{RuleQuadrant, answer, answer_of, east, north}
-use Rattle.quadrant_compile.specs.Tiles.{cell_side, label_on, strength, cell_for, kind_at}
-use Rattle.quadrant_compile.specs.QuadrantSystems.{kinds, tiles_of}
+use Rattle.quadrant_compile.specs.Quadrants.{RuleQuadrant, answer_among}
+use Rattle.quadrant_compile.specs.Recurrence.{answer, east, north}
+use Rattle.quadrant_compile.specs.Tiles.{cell_side, label_on, strength}
+use Rattle.quadrant_compile.specs.Recurrence.{cell_for, kind_at}
+use Rattle.quadrant_compile.specs.QuadrantSystems.{tiles_of}
+use Rattle.quadrant_compile.specs.Inner.Listed.{kinds}
 use Rattle.quadrant_compile.specs.Inner.Members.{IsKind}
 
 module _ (q : RuleQuadrant) where
-  cell_label : (a b : ℕ) (d : Side) (g : Label) → label_on q (Cell a b) d ≡ Some g → (x : Answer) × (answer_of q a b ≡ Some x) × (cell_side a b x d ≡ Some g)
-  cell_label a b d g has = elim (some_or_none (answer_of q a b)) [
+  cell_label : (a b : ℕ) (d : Side) (g : Label) → label_on q (Cell a b) d ≡ Some g → (x : Answer) × (answer_among q.rules a b ≡ Some x) × (cell_side a b x d ≡ Some g)
+  cell_label a b d g has = elim (some_or_none (answer_among q.rules a b)) [
     | inl none ↦ absurd (none-some g (sym (ap (option_and_then (λ x. cell_side a b x d)) none) ∙ has))
     | inr x ↦ (x.0, x.1, sym (ap (option_and_then (λ y. cell_side a b y d)) (x.1)) ∙ has)
   ]
@@ -38,7 +41,7 @@ module _ (q : RuleQuadrant) where
   is_Left (Left i) j south = cc
   is_Left (Cell a b) j south = let h = (cell_label a b South (Row j) south).2 in cc
 
-  is_Cell : (k : Kind) (a b : ℕ) → label_on q k South ≡ Some (Northward b) → label_on q k West ≡ Some (Eastward a) → (k ≡ Cell a b) × ((x : Answer) × (answer_of q a b ≡ Some x))
+  is_Cell : (k : Kind) (a b : ℕ) → label_on q k South ≡ Some (Northward b) → label_on q k West ≡ Some (Eastward a) → (k ≡ Cell a b) × ((x : Answer) × (answer_among q.rules a b ≡ Some x))
   is_Cell Corner a b south west = cc
   is_Cell (Bottom i) a b south west = cc
   is_Cell (Left j) a b south west = cc
@@ -51,8 +54,8 @@ module _ (q : RuleQuadrant) where
       let same_a : c ≡ a = cc in
       (λ z. Cell (same_a z) (same_b z), (s.0, there s.0 s.1 same_a same_b))
     where
-      there : (x : Answer) → answer_of q c d ≡ Some x → c ≡ a → d ≡ b → answer_of q a b ≡ Some x
-      there x rule same_a same_b = sym (λ z. answer_of q (same_a z) (same_b z)) ∙ rule
+      there : (x : Answer) → answer_among q.rules c d ≡ Some x → c ≡ a → d ≡ b → answer_among q.rules a b ≡ Some x
+      there x rule same_a same_b = sym (λ z. answer_among q.rules (same_a z) (same_b z)) ∙ rule
 
 module _ (q : RuleQuadrant) (listed : (k : Kind) → IsKind q k → Contains (kinds q) k) (some_column : 1 ≤ q.width) (some_row : 1 ≤ q.height) where
   abbrev tiles : TileSet Kind Label
@@ -106,7 +109,7 @@ module _ (q : RuleQuadrant) (listed : (k : Kind) → IsKind q k → Contains (ki
       × (option_and_then (λ k. label_on q k East) (cell_for q a b) ≡ option_map (λ n. Eastward n) (option_map (λ x. x.east) (answer q a b)))
   cell_for-shows None b = (refl, refl)
   cell_for-shows (Some a) None = (refl, refl)
-  cell_for-shows (Some a) (Some b) = elim (some_or_none (answer_of q a b)) [
+  cell_for-shows (Some a) (Some b) = elim (some_or_none (answer_among q.rules a b)) [
     | inl none ↦ (
       ap (λ o. option_and_then (λ k. label_on q k North) (option_map (λ z. Cell a b) o)) none ∙ sym (ap (λ o. option_map (λ n. Northward n) (option_map (λ (y : Answer). y.north) o)) none),
       ap (λ o. option_and_then (λ k. label_on q k East) (option_map (λ z. Cell a b) o)) none ∙ sym (ap (λ o. option_map (λ n. Eastward n) (option_map (λ (y : Answer). y.east) o)) none),
@@ -145,8 +148,8 @@ module _ (q : RuleQuadrant) (listed : (k : Kind) → IsKind q k → Contains (ki
   crossing : (j i : ℕ) → j < q.height → i < q.width → IsHeldByTwoOrFree tiles (row (suc j) (suc i)) (offers j (suc i)) West
   crossing j i high wide = by (east q i (suc j)) (north q (suc i) j) refl refl
     where
-      ruled : (a b : ℕ) (k : Kind) → option_map (λ z. Cell a b) (answer_of q a b) ≡ Some k → (x : Answer) × (answer_of q a b ≡ Some x) × (k ≡ Cell a b)
-      ruled a b k wanted = elim (some_or_none (answer_of q a b)) [
+      ruled : (a b : ℕ) (k : Kind) → option_map (λ z. Cell a b) (answer_among q.rules a b) ≡ Some k → (x : Answer) × (answer_among q.rules a b ≡ Some x) × (k ≡ Cell a b)
+      ruled a b k wanted = elim (some_or_none (answer_among q.rules a b)) [
         | inl none ↦ absurd (none-some k (sym (ap (option_map (λ z. Cell a b)) none) ∙ wanted))
         | inr x ↦ (x.0, x.1, same_Some k (Cell a b) (sym wanted ∙ ap (option_map (λ z. Cell a b)) (x.1)))
       ]
@@ -164,7 +167,7 @@ module _ (q : RuleQuadrant) (listed : (k : Kind) → IsKind q k → Contains (ki
           inr (free j i there (rw (south, west) (le_refl 1)))
       by (Some a) (Some b) is_a is_b =
           let there : row (suc j) (suc i) ≡ cell_for q (Some a) (Some b) = cell_there j i high wide ∙ ap (λ o. cell_for q o (north q (suc i) j)) is_a ∙ ap (cell_for q (Some a)) is_b in
-          let fits : (k : Kind) → row (suc j) (suc i) ≡ Some k → (x : Answer) × (answer_of q a b ≡ Some x) × (k ≡ Cell a b) = λ k wanted. ruled a b k (sym there ∙ wanted) in
+          let fits : (k : Kind) → row (suc j) (suc i) ≡ Some k → (x : Answer) × (answer_among q.rules a b ≡ Some x) × (k ≡ Cell a b) = λ k wanted. ruled a b k (sym there ∙ wanted) in
           inl (record {
             lower = Northward b;
             side = Eastward a;
@@ -289,7 +292,7 @@ module _ (q : RuleQuadrant) (listed : (k : Kind) → IsKind q k → Contains (ki
   cell_kind : (a b : Option ℕ) (k : Kind) → cell_for q a b ≡ Some k → IsKind q k
   cell_kind None b k wanted = absurd (none-some k wanted)
   cell_kind (Some a) None k wanted = absurd (none-some k wanted)
-  cell_kind (Some a) (Some b) k wanted = elim (some_or_none (answer_of q a b)) [
+  cell_kind (Some a) (Some b) k wanted = elim (some_or_none (answer_among q.rules a b)) [
     | inl none ↦ absurd (none-some k (sym (ap (option_map (λ z. Cell a b)) none) ∙ wanted))
     | inr x ↦ subst (IsKind q) (same_Some (Cell a b) k (sym (ap (option_map (λ z. Cell a b)) (x.1)) ∙ wanted)) (ap is_some (x.1))
   ]

@@ -1,7 +1,8 @@
 -- The recurrence of a quadrant has one solution.
 use Rattle.std.proofs.Common.{◌≡◌, ℕ, zero, suc, Option, option_map, refl, ◌∙◌, ap}
 use Rattle.quadrant_compile.specs.declared.rule.Answer.{Answer}
-use Rattle.quadrant_compile.specs.Quadrants.{RuleQuadrant, IsRecurrence, answer, east, north}
+use Rattle.quadrant_compile.specs.Quadrants.{RuleQuadrant}
+use Rattle.quadrant_compile.specs.Recurrence.{IsRecurrence, answer, east, north}
 
 pub met : (q : RuleQuadrant) → IsRecurrence q (east q) (north q)
 met q = record {

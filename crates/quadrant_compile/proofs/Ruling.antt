@@ -10,7 +10,7 @@ use Rattle.atam.proofs.Lists.{some_or_none}
 use Rattle.machine_text.proofs.Finding.{some_is, find_has, find_passes}
 use Rattle.quadrant_compile.specs.declared.rule.Answer.{Answer}
 use Rattle.quadrant_compile.specs.declared.rule.Rule.{Rule}
-use Rattle.quadrant_compile.specs.Quadrants.{RuleQuadrant, IsQuadrant, IsRuleOver, is_for, answer_of, bottom_symbol, left_symbol}
+use Rattle.quadrant_compile.specs.Quadrants.{RuleQuadrant, IsQuadrant, IsRuleOver, is_for, answer_among, bottom_symbol, left_symbol}
 
 -- a rule that is for two symbols has them
 both_same : (a b : ℕ) (t : Rule) → is_for a b t ≡ true → (t.west ≡ a) × (t.south ≡ b)
@@ -24,7 +24,7 @@ pub record IsAnswerFor (q : RuleQuadrant) (a b : ℕ) (answer : Answer) : Type 0
   pub north : answer.north < length q.symbols
 
 module _ (q : RuleQuadrant) (is_quadrant : IsQuadrant q) where
-  pub answer_bounds : (a b : ℕ) (answer : Answer) → answer_of q a b ≡ Some answer → IsAnswerFor q a b answer
+  pub answer_bounds : (a b : ℕ) (answer : Answer) → answer_among q.rules a b ≡ Some answer → IsAnswerFor q a b answer
   answer_bounds a b answer there = elim (some_or_none (find (is_for a b) q.rules)) [
     | inl none ↦ absurd (none-some answer (sym (ap (option_map (λ (t : Rule). t.answer)) none) ∙ there))
     | inr t ↦
@@ -39,9 +39,9 @@ module _ (q : RuleQuadrant) (is_quadrant : IsQuadrant q) where
         }
   ]
 
-  pub pair_bounds : (a b : ℕ) → is_some (answer_of q a b) ≡ true → (a < length q.symbols) × (b < length q.symbols)
+  pub pair_bounds : (a b : ℕ) → is_some (answer_among q.rules a b) ≡ true → (a < length q.symbols) × (b < length q.symbols)
   pair_bounds a b ruled =
-      let answer = some_is (answer_of q a b) ruled in
+      let answer = some_is (answer_among q.rules a b) ruled in
       let bounds = answer_bounds a b answer.0 answer.1 in
       (bounds.west, bounds.south)
 
@@ -50,8 +50,8 @@ module _ (q : RuleQuadrant) (is_quadrant : IsQuadrant q) where
   in_range_or None is = (tt, tt)
   in_range_or (Some x) is = is x (λ z. Some x)
 
-  pub answer_in_range : (a b : ℕ) → IfSome (answer_of q a b) (λ x. x.east < length q.symbols) × IfSome (answer_of q a b) (λ x. x.north < length q.symbols)
-  answer_in_range a b = in_range_or (answer_of q a b) (λ x there. let bounds = answer_bounds a b x there in (bounds.east, bounds.north))
+  pub answer_in_range : (a b : ℕ) → IfSome (answer_among q.rules a b) (λ x. x.east < length q.symbols) × IfSome (answer_among q.rules a b) (λ x. x.north < length q.symbols)
+  answer_in_range a b = in_range_or (answer_among q.rules a b) (λ x there. let bounds = answer_bounds a b x there in (bounds.east, bounds.north))
 
   -- the symbol at a border, given or not
   border_known : (given : List ℕ) (i : ℕ) → All (λ a. a < length q.symbols) given → get_or given i 0 < length q.symbols

@@ -7,8 +7,8 @@ use Rattle.design.specs.TileSets.{cell_site}
 use Rattle.quadrant_compile.specs.declared.tile.Kind.{Kind}
 use Rattle.quadrant_compile.specs.declared.tile.Kind.TheVariants.{Corner, Bottom, Left, Cell}
 use Rattle.quadrant_compile.specs.Quadrants.{RuleQuadrant}
-use Rattle.quadrant_compile.specs.Tiles.{cell_for}
-use Rattle.quadrant_compile.specs.QuadrantSystems.{kinds}
+use Rattle.quadrant_compile.specs.Recurrence.{cell_for}
+use Rattle.quadrant_compile.specs.Inner.Listed.{kinds}
 
 -- the symbols from the west and from the south that a kind of tile is for
 abbrev pub symbols_of : Kind → Option (ℕ × ℕ)

@@ -3,7 +3,7 @@ use Rattle.std.specs.Prelude.{◌≡◌, ℕ, List, [], ◌∷◌, ◌++◌, cod
 use Rattle.quadrant_compile.specs.declared.rule.Rule.{Rule}
 use Rattle.quadrant_compile.specs.declared.tile.Kind.TheVariants.{Corner, Bottom, Left, Cell}
 use Rattle.quadrant_compile.specs.Quadrants.{RuleQuadrant}
-use Rattle.quadrant_compile.specs.Tiles.{kind_at}
+use Rattle.quadrant_compile.specs.Recurrence.{kind_at}
 
 -- the rule for two symbols that gives one symbol to the east and to the north
 abbrev pub gives : ℕ → ℕ → ℕ → Rule

@@ -8,9 +8,10 @@ use Rattle.atam.specs.Growth.{IsLegal, IsProducible, IsClosedInBox}
 use Rattle.design.specs.TileSets.{cell_site, type_id}
 use Rattle.design.specs.Laws.{HasDeterministicGrowth}
 use Rattle.quadrant_compile.specs.declared.tile.Kind.{Kind}
-use Rattle.quadrant_compile.specs.Quadrants.{RuleQuadrant, IsQuadrant, IsRecurrence, east, north}
-use Rattle.quadrant_compile.specs.Tiles.{cell_for, kind_at}
-use Rattle.quadrant_compile.specs.QuadrantSystems.{tiles_of, area_of, quadrant_system}
+use Rattle.quadrant_compile.specs.Quadrants.{RuleQuadrant, IsQuadrant}
+use Rattle.quadrant_compile.specs.Recurrence.{IsRecurrence, east, north}
+use Rattle.quadrant_compile.specs.Recurrence.{cell_for, kind_at}
+use Rattle.quadrant_compile.specs.QuadrantSystems.{tiles_of, quadrant_system}
 
 -- what goes east and what goes north is the recurrence's
 abbrev pub TheRecurrenceIsMet : Type 0
@@ -35,7 +36,7 @@ PlacesAreOfTheQuadrant = (q : RuleQuadrant) (s : List Place) → IsQuadrant q �
 
 -- and lies in the box
 abbrev pub PlacesAreInTheBox : Type 0
-PlacesAreInTheBox = (q : RuleQuadrant) (s : List Place) → IsQuadrant q → IsLegal (quadrant_system q) s → (i : ℕ) (p : Place) → slice_get s i ≡ Some p → InBox (area_of q) p.site
+PlacesAreInTheBox = (q : RuleQuadrant) (s : List Place) → IsQuadrant q → IsLegal (quadrant_system q) s → (i : ℕ) (p : Place) → slice_get s i ≡ Some p → InBox (quadrant_system q).area p.site
 
 -- an assembly of the quadrant's tiles that nothing extends in the box
 pub record IsFullGrowth (q : RuleQuadrant) (tiles : List Place) : Type 0 where

@@ -1,4 +1,5 @@
 pub mod Quadrants
+pub mod Recurrence
 pub mod QuadrantText
 pub mod Tiles
 pub mod QuadrantSystems

@@ -2,7 +2,8 @@
 ghost use Rattle.std.specs.Prelude.{◌≡◌, ◌<◌, ◌≤◌, ◌-◌, ◌^◌, ℕ, Option, is_some, slice_get};
 ghost use Rattle.atam.specs.Placements.{tile_at};
 ghost use Rattle.design.specs.TileSets.{cell_site};
-ghost use Rattle.quadrant_compile.specs.Quadrants.{IsRecurrence, IsQuadrant};
+ghost use Rattle.quadrant_compile.specs.Quadrants.{IsQuadrant};
+ghost use Rattle.quadrant_compile.specs.Recurrence.{IsRecurrence};
 ghost use Rattle.quadrant_compile.specs.Cells.{HasCells, cell_at, ruled_inputs, type_symbols};
 ghost use Rattle.quadrant_compile.specs.Laws.{IsFullGrowth};
 

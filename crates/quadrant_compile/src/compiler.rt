@@ -1,6 +1,7 @@
 // A quadrant as a tile system.
 ghost use Rattle.std.specs.Prelude.{◌≡◌, IfOk};
-ghost use Rattle.quadrant_compile.specs.QuadrantSystems.{area_of, quadrant_system};
+ghost use Rattle.quadrant_compile.specs.QuadrantSystems.{quadrant_system};
+ghost use Rattle.quadrant_compile.specs.Inner.Listed.{area_of};
 
 use crate::listing::{kinds, labels};
 use crate::names::{add_kind_name, add_label_name};

@@ -1,7 +1,7 @@
 // The lists of a quadrant's kinds and labels.
 ghost use Rattle.std.specs.Prelude.{◌≡◌, ◌-◌, map, IfOk};
 ghost use Rattle.std.specs.List.{range_with_len};
-ghost use Rattle.quadrant_compile.specs.QuadrantSystems.{kinds, labels};
+ghost use Rattle.quadrant_compile.specs.Inner.Listed.{kinds, labels};
 
 use crate::quadrant::Quadrant;
 use crate::tile::{Kind, Label};

@@ -1,6 +1,6 @@
 // The names of kinds and labels.
-ghost use Rattle.std.specs.Prelude.{◌≡◌, ◌≤◌, ◌<◌, ◌+◌, ◌∷◌, ◌++◌, codes, decimal, length};
-ghost use Rattle.quadrant_compile.specs.QuadrantSystems.{symbol_name};
+ghost use Rattle.std.specs.Prelude.{◌≡◌, ◌≤◌, ◌<◌, ◌+◌, [], ◌∷◌, ◌++◌, codes, decimal, length};
+ghost use Rattle.std.specs.List.{slice_index_or};
 ghost use Rattle.quadrant_compile.specs.Inner.Listed.{kind_name, label_name};
 ghost use Rattle.quadrant_compile.specs.Inner.Members.{IsKind, IsLabel};
 ghost use Rattle.quadrant_compile.specs.Quadrants.{IsQuadrant};
@@ -60,9 +60,11 @@ fn add_paired(text: &mut ShortText, quadrant: &Quadrant, west: u32, south: u32)
     requires west { west < length quadrant.now.symbols }
     requires south { south < length quadrant.now.symbols }
     requires room { length text.old
-        + (3 + length (symbol_name quadrant.now west) + length (symbol_name quadrant.now south)) ≤ SHORT_ROOM }
+        + (3 + length (slice_index_or quadrant.now.symbols west [])
+        + length (slice_index_or quadrant.now.symbols south [])) ≤ SHORT_ROOM }
     ensures { text.new ≡ text.old
-        ++ (codes "q:" ++ (symbol_name quadrant.now west ++ codes ":" ++ symbol_name quadrant.now south)) }
+        ++ (codes "q:" ++ (slice_index_or quadrant.now.symbols west [] ++ codes ":"
+        ++ slice_index_or quadrant.now.symbols south [])) }
 {
     add_prefixed(text, b'q', symbol_name(quadrant, west));
     text.add(b":");
@@ -72,7 +74,7 @@ fn add_paired(text: &mut ShortText, quadrant: &Quadrant, west: u32, south: u32)
 #[tactic(auto, using(std::proofs::lemmas::Option::get_or_from_slice_get))]
 fn symbol_name(quadrant: &Quadrant, symbol: u32) -> &[u8]
     requires { symbol < length quadrant.now.symbols }
-    ensures { result.now ≡ symbol_name quadrant.now symbol }
+    ensures { result.now ≡ slice_index_or quadrant.now.symbols symbol [] }
 {
     quadrant.symbol_name(symbol)
 }

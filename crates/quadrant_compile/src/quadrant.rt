@@ -1,6 +1,6 @@
 // A quadrant.
 ghost use Rattle.std.specs.Prelude.{◌≡◌, ◌<◌, ◌≤◌, length, slice_get, Some, IfOk, IfSome};
-ghost use Rattle.quadrant_compile.specs.Quadrants.{IsQuadrant, answer_of, bottom_symbol, left_symbol, ruled_pairs};
+ghost use Rattle.quadrant_compile.specs.Quadrants.{IsQuadrant, answer_among, bottom_symbol, left_symbol, ruled_pairs};
 
 use crate::parts::QuadrantParts;
 use crate::rule::Answer;
@@ -102,7 +102,7 @@ impl Quadrant {
     pub fn answer(&self, west: u32, south: u32) -> Option<Answer>
         requires west { west < length self.now.symbols }
         requires south { south < length self.now.symbols }
-        ensures answer { result ≡ answer_of self.now west south }
+        ensures answer { result ≡ answer_among self.now.rules west south }
         ensures east { IfSome result (λ answer. answer.east < length self.now.symbols) }
         ensures north { IfSome result (λ answer. answer.north < length self.now.symbols) }
     {

@@ -1,7 +1,8 @@
 // The table of a quadrant's tiles.
 ghost use Rattle.std.specs.Prelude.{◌≡◌};
+ghost use Rattle.design.specs.Sides.{label_ahead};
 ghost use Rattle.quadrant_compile.specs.Quadrants.{IsQuadrant, RuleQuadrant};
-ghost use Rattle.quadrant_compile.specs.Tiles.{label_on, next_column, next_row, strength};
+ghost use Rattle.quadrant_compile.specs.Tiles.{label_on, strength};
 ghost use Rattle.quadrant_compile.specs.Inner.Members.{IsKind};
 
 use crate::quadrant::Quadrant;
@@ -80,7 +81,7 @@ fn cell_label(quadrant: &Quadrant, west: u32, south: u32, side: Side) -> Option<
 
 // The label between a tile of the bottom border and the next one.
 fn next_column(quadrant: &Quadrant, column: u32) -> Option<Label>
-    ensures { result ≡ next_column quadrant.now column }
+    ensures { result ≡ label_ahead Label.Column quadrant.now.width column }
 {
     if column < quadrant.width() {
         Some(Label::Column { column: column + 1 })
@@ -91,7 +92,7 @@ fn next_column(quadrant: &Quadrant, column: u32) -> Option<Label>
 
 // The label between a tile of the left border and the next one.
 fn next_row(quadrant: &Quadrant, row: u32) -> Option<Label>
-    ensures { result ≡ next_row quadrant.now row }
+    ensures { result ≡ label_ahead Label.Row quadrant.now.height row }
 {
     if row < quadrant.height() {
         Some(Label::Row { row: row + 1 })

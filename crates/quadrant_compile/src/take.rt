@@ -3,9 +3,10 @@ ghost use Rattle.std.specs.Prelude.{◌≡◌, ◌≤◌, ◌<◌, ℕ, List, tr
 ghost use Rattle.quadrant_compile.specs.declared.limits.TheConstants.{MOST_SYMBOLS};
 ghost use Rattle.quadrant_compile.specs.Quadrants.{RuleQuadrant, answer_among};
 ghost use Rattle.quadrant_compile.specs.QuadrantText.{QuadrantItem, rule_in, quadrant_of};
-ghost use Rattle.quadrant_compile.specs.Inner.Keywords.{row_of, quadrant_row, symbol_row, rule_row, size_row, bottom_row, left_row};
+ghost use Rattle.quadrant_compile.specs.Inner.Keywords.{row_of, word_of_kind, quadrant_row, symbol_row, rule_row, size_row, bottom_row, left_row};
 ghost use Rattle.quadrant_compile.specs.Inner.Borders.{border_kind};
-ghost use Rattle.quadrant_compile.specs.Inner.SoFar.{quadrant_in, Gets};
+ghost use Rattle.quadrant_compile.specs.Inner.SoFar.{quadrant_in};
+ghost use Rattle.machine_text.specs.NameChecks.{Gets};
 ghost use Rattle.tile_io.specs.Lines.{words_of};
 ghost use Rattle.machine_text.specs.MachineText.{references};
 
@@ -28,7 +29,7 @@ pub(crate) fn take_item(
     requires words { (row_of kind).has_words (length words.now) ≡ true }
     requires few { length parts.old.symbols ≤ MOST_SYMBOLS }
     ensures { (earlier : List QuadrantItem) → quadrant_in parts.old ≡ quadrant_of earlier →
-        Gets kind ((row_of kind).fields earlier words.now) (quadrant_in parts.old)
+        Gets (word_of_kind kind) ((row_of kind).fields earlier words.now) (quadrant_in parts.old)
         (quadrant_in parts.new) result }
 {
     match kind {
@@ -50,7 +51,7 @@ pub(crate) fn take_border(
     line: &[u8],
 ) -> Result<(), LineStop>
     ensures { (earlier : List QuadrantItem) → quadrant_in parts.old ≡ quadrant_of earlier →
-        Gets (border_kind border)
+        Gets (word_of_kind (border_kind border))
         ((row_of (border_kind border)).fields earlier (words_of line.now))
         (quadrant_in parts.old) (quadrant_in parts.new) result }
 {
@@ -64,7 +65,7 @@ pub(crate) fn take_border(
 fn check_version(words: &LineWords) -> Result<(), LineStop>
     requires { length words.now ≡ 2 }
     ensures { (q : RuleQuadrant) →
-        Gets LineKind.Quadrant (quadrant_row.fields q words.now) q q result }
+        Gets quadrant_row.word (quadrant_row.fields q words.now) q q result }
 {
     if !is_word(words.word(1), b"1") {
         return Err(LineStop::Fault(Cause::NoHeader));
@@ -76,7 +77,7 @@ fn check_version(words: &LineWords) -> Result<(), LineStop>
 fn take_symbol(alloc: Global, parts: &mut QuadrantParts, words: &LineWords) -> Result<(), LineStop>
     requires words { length words.now ≡ 2 }
     requires few { length parts.old.symbols ≤ MOST_SYMBOLS }
-    ensures { Gets LineKind.Symbol (symbol_row.fields (quadrant_in parts.old) words.now)
+    ensures { Gets symbol_row.word (symbol_row.fields (quadrant_in parts.old) words.now)
         (quadrant_in parts.old) (quadrant_in parts.new) result }
 {
     let name = words.word(1);
@@ -91,7 +92,7 @@ fn take_symbol(alloc: Global, parts: &mut QuadrantParts, words: &LineWords) -> R
 fn take_rule(parts: &mut QuadrantParts, words: &LineWords) -> Result<(), LineStop>
     requires words { length words.now ≡ 5 }
     requires few { length parts.old.symbols ≤ MOST_SYMBOLS }
-    ensures { Gets LineKind.Rule (rule_row.fields (quadrant_in parts.old) words.now)
+    ensures { Gets rule_row.word (rule_row.fields (quadrant_in parts.old) words.now)
         (quadrant_in parts.old) (quadrant_in parts.new) result }
 {
     let rule = read_rule(parts, words)?;
@@ -128,7 +129,7 @@ fn read_rule(parts: &QuadrantParts, words: &LineWords) -> Result<Rule, Cause>
 // Takes the fields of a `size` line.
 fn take_size(parts: &mut QuadrantParts, words: &LineWords) -> Result<(), LineStop>
     requires { length words.now ≡ 3 }
-    ensures { Gets LineKind.Size (size_row.fields (quadrant_in parts.old) words.now) (quadrant_in parts.old)
+    ensures { Gets size_row.word (size_row.fields (quadrant_in parts.old) words.now) (quadrant_in parts.old)
         (quadrant_in parts.new) result }
 {
     let width = read_count(words.word(1), 1, LONGEST_SIDE)?;
@@ -141,7 +142,7 @@ fn take_size(parts: &mut QuadrantParts, words: &LineWords) -> Result<(), LineSto
 // Takes the fields of a `bottom` line.
 fn take_bottom(alloc: Global, parts: &mut QuadrantParts, words: &LineWords) -> Result<(), LineStop>
     requires { 2 ≤ length words.now }
-    ensures { Gets LineKind.Bottom (bottom_row.fields (quadrant_in parts.old) words.now)
+    ensures { Gets bottom_row.word (bottom_row.fields (quadrant_in parts.old) words.now)
         (quadrant_in parts.old) (quadrant_in parts.new) result }
 {
     let symbols = find_names(alloc, &parts.symbols, words)?;
@@ -150,7 +151,7 @@ fn take_bottom(alloc: Global, parts: &mut QuadrantParts, words: &LineWords) -> R
 
 // The same by the bytes of the line.
 fn take_bottom_line(alloc: Global, parts: &mut QuadrantParts, line: &[u8]) -> Result<(), LineStop>
-    ensures { Gets LineKind.Bottom (bottom_row.fields (quadrant_in parts.old) (words_of line.now))
+    ensures { Gets bottom_row.word (bottom_row.fields (quadrant_in parts.old) (words_of line.now))
         (quadrant_in parts.old) (quadrant_in parts.new) result }
 {
     let symbols = find_names_of_line(alloc, &parts.symbols, line)?;
@@ -161,7 +162,7 @@ fn take_bottom_line(alloc: Global, parts: &mut QuadrantParts, line: &[u8]) -> Re
 fn keep_bottom(parts: &mut QuadrantParts, symbols: &[u32]) -> Result<(), LineStop>
     ensures { (words : List (List ℕ)) →
         references (quadrant_in parts.old).symbols (drop 1 words) ≡ Ok symbols.now →
-        Gets LineKind.Bottom (bottom_row.fields (quadrant_in parts.old) words)
+        Gets bottom_row.word (bottom_row.fields (quadrant_in parts.old) words)
         (quadrant_in parts.old) (quadrant_in parts.new) result }
 {
     match parts.bottom.extend_from_slice(symbols) {
@@ -173,7 +174,7 @@ fn keep_bottom(parts: &mut QuadrantParts, symbols: &[u32]) -> Result<(), LineSto
 // Takes the fields of a `left` line.
 fn take_left(alloc: Global, parts: &mut QuadrantParts, words: &LineWords) -> Result<(), LineStop>
     requires { 2 ≤ length words.now }
-    ensures { Gets LineKind.Left (left_row.fields (quadrant_in parts.old) words.now)
+    ensures { Gets left_row.word (left_row.fields (quadrant_in parts.old) words.now)
         (quadrant_in parts.old) (quadrant_in parts.new) result }
 {
     let symbols = find_names(alloc, &parts.symbols, words)?;
@@ -182,7 +183,7 @@ fn take_left(alloc: Global, parts: &mut QuadrantParts, words: &LineWords) -> Res
 
 // The same by the bytes of the line.
 fn take_left_line(alloc: Global, parts: &mut QuadrantParts, line: &[u8]) -> Result<(), LineStop>
-    ensures { Gets LineKind.Left (left_row.fields (quadrant_in parts.old) (words_of line.now))
+    ensures { Gets left_row.word (left_row.fields (quadrant_in parts.old) (words_of line.now))
         (quadrant_in parts.old) (quadrant_in parts.new) result }
 {
     let symbols = find_names_of_line(alloc, &parts.symbols, line)?;
@@ -193,7 +194,7 @@ fn take_left_line(alloc: Global, parts: &mut QuadrantParts, line: &[u8]) -> Resu
 fn keep_left(parts: &mut QuadrantParts, symbols: &[u32]) -> Result<(), LineStop>
     ensures { (words : List (List ℕ)) →
         references (quadrant_in parts.old).symbols (drop 1 words) ≡ Ok symbols.now →
-        Gets LineKind.Left (left_row.fields (quadrant_in parts.old) words)
+        Gets left_row.word (left_row.fields (quadrant_in parts.old) words)
         (quadrant_in parts.old) (quadrant_in parts.new) result }
 {
     match parts.left.extend_from_slice(symbols) {

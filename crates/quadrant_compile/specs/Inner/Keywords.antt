@@ -1,12 +1,11 @@
 -- The keywords of a quadrant text, as the code has them.
-use Rattle.std.specs.Prelude.{Bool, true, false, List, Option, Some, None}
+use Rattle.std.specs.Prelude.{ℕ, Bool, true, false, List, Option, Some, None}
 use Rattle.std.specs.List.{slice_index_or}
 use Rattle.tile_io.specs.Checks.{Keyword, told_by, no_row}
 use Rattle.quadrant_compile.specs.declared.line_kind.LineKind.{LineKind}
 use Rattle.quadrant_compile.specs.declared.line_kind.LineKind.TheVariants as kinds
 use Rattle.quadrant_compile.specs.Quadrants.{RuleQuadrant}
 use Rattle.quadrant_compile.specs.QuadrantText.{QuadrantItem, quadrant_of, quadrant_rows}
-use Rattle.quadrant_compile.specs.QuadrantText.QuadrantItem.{Header, SymbolLine, RuleLine, SizeLine, BottomLine, LeftLine, EndLine}
 
 -- the rows by their words
 abbrev pub quadrant_row : Keyword RuleQuadrant QuadrantItem
@@ -40,15 +39,9 @@ row_of kinds.Bottom = told_by quadrant_of bottom_row
 row_of kinds.Left = told_by quadrant_of left_row
 row_of kinds.End = told_by quadrant_of end_row
 
--- the keyword of a line
-abbrev pub kind_of : QuadrantItem → LineKind
-kind_of Header = kinds.Quadrant
-kind_of (SymbolLine name) = kinds.Symbol
-kind_of (RuleLine rule) = kinds.Rule
-kind_of (SizeLine width height) = kinds.Size
-kind_of (BottomLine symbols) = kinds.Bottom
-kind_of (LeftLine symbols) = kinds.Left
-kind_of EndLine = kinds.End
+-- the word of a keyword
+abbrev pub word_of_kind : LineKind → List ℕ
+word_of_kind kind = (row_of kind).word
 
 -- whether a keyword may stand right after a line of another one, or first
 abbrev pub may_stand_after : LineKind → Option LineKind → Bool

@@ -1,9 +1,19 @@
--- What the tables of kinds and of labels have of one of them.
+-- The lists of kinds and labels, what their tables have of one, and the box of the system.
 use Rattle.std.specs.Prelude.{ℕ, List}
+use Rattle.atam.specs.declared.area.BoxArea.{BoxArea}
 use Rattle.quadrant_compile.specs.declared.tile.Kind.{Kind}
 use Rattle.quadrant_compile.specs.declared.tile.Label.{Label}
 use Rattle.quadrant_compile.specs.Quadrants.{RuleQuadrant}
-use Rattle.quadrant_compile.specs.QuadrantSystems.{kind_row, label_row}
+use Rattle.quadrant_compile.specs.QuadrantSystems.{kind_row, label_row, tiles_of, quadrant_system}
+
+abbrev pub kinds : RuleQuadrant → List Kind
+kinds q = (tiles_of q).kinds
+
+abbrev pub labels : RuleQuadrant → List Label
+labels q = (tiles_of q).labels
+
+abbrev pub area_of : RuleQuadrant → BoxArea
+area_of q = (quadrant_system q).area
 
 -- the places in the lists of kinds and of labels
 abbrev pub kind_number : RuleQuadrant → Kind → ℕ

@@ -1,7 +1,8 @@
 use Rattle.std.proofs.Common.{arith}
 use Rattle.std.proofs.lemmas.List.{length-map}
 use Rattle.design.specs.TileSets.{glue_of, tile_type}
-use Rattle.quadrant_compile.specs.QuadrantSystems.{kinds, labels, tiles_of}
+use Rattle.quadrant_compile.specs.QuadrantSystems.{tiles_of}
+use Rattle.quadrant_compile.specs.Inner.Listed.{kinds, labels}
 use Rattle.quadrant_compile.proofs.Listed.{label_count, kind_count}
 use Rattle.quadrant_compile.proofs.Named.{quadrant_system_valid}
 use Rattle.quadrant_compile.proofs.laws.law_valid.Goals as goal

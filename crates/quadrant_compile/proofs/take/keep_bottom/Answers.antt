@@ -1,10 +1,6 @@
-use Rattle.std.proofs.Common.{List, ℕ, ap, refl}
-use Rattle.quadrant_compile.specs.QuadrantText.QuadrantItem.{BottomLine}
-use Rattle.quadrant_compile.specs.Quadrants.{RuleQuadrant}
-use Rattle.quadrant_compile.specs.Inner.SoFar.{quadrant_in}
+use Rattle.std.proofs.Common.{refl}
 use Rattle.quadrant_compile.proofs.take.keep_bottom.Goals as goal
 
 pub returns-in-Ok : goal.returns-in-Ok
 returns-in-Ok c = λ words refer.
-    let q : RuleQuadrant = quadrant_in c.args.parts.now in
-    (BottomLine c.args.symbols.now, refl, rw refer refl, ap (λ (l : List ℕ). record q { bottom = l }) c.in-Ok.ensures.items)
+    rw (refer, c.in-Ok.ensures.items) refl

@@ -1,10 +1,9 @@
 use Rattle.std.proofs.Common.{ap, refl, sym, ◌∙◌}
 use Rattle.tile_io.specs.Checks.{count_in}
-use Rattle.quadrant_compile.specs.QuadrantText.QuadrantItem.{SizeLine}
 use Rattle.quadrant_compile.proofs.take.take_size.Goals as goal
 
 pub returns : goal.returns
 returns c =
     let width = ap (count_in 1 1023) (sym c.word.ensures) ∙ sym c.in_ok-width.ensures.value in
     let height = ap (count_in 1 1023) (sym c.word-2.ensures) ∙ sym c.in_ok-height.ensures.value in
-    (SizeLine c.in_ok-width.width c.in_ok-height.height, refl, rw (width, height) refl, refl)
+    rw (width, height) refl
