@@ -1,5 +1,6 @@
 -- The row over a head that acts is held, cell by cell.
-use Rattle.std.proofs.Common.{◌≡◌, ◌≢◌, ◌<◌, ◌≤◌, ◌==◌, nat_le, cond, is_some, ℕ, zero, suc, true, false, Option, Some, None, refl, sym, ◌∙◌, ap, inl, inr, arith}
+use Rattle.std.proofs.Common.{◌-◌, ◌≡◌, ◌≢◌, ◌<◌, ◌≤◌, ◌==◌, nat_le, cond, is_some, ℕ, zero, suc, true, false, Option, Some, None, refl, sym, ◌∙◌, ap, inl, inr, arith}
+use Rattle.std.specs.Prelude.{slice_index}
 use Rattle.std.proofs.Math.Nat.{le_refl}
 use Rattle.std.proofs.lemmas.Option.{same_Some, none-some}
 use Rattle.std.proofs.lemmas.Bool.{cases_lt}
@@ -12,7 +13,7 @@ use Rattle.machine_text.specs.declared.rule.Turn.{Turn}
 use Rattle.machine_text.specs.declared.rule.Turn.TheVariants.{Left, Right, Stay}
 use Rattle.machine_text.specs.declared.rule.Rule.{Rule}
 use Rattle.machine_text.specs.declared.config.Head.{Head}
-use Rattle.machine_text.specs.Machines.{TuringMachine, Configuration, symbol_at, last_cell, action, IsMachine, IsConfigOf}
+use Rattle.machine_text.specs.Machines.{TuringMachine, Configuration, action, IsMachine, IsConfigOf}
 use Rattle.turing_compile.specs.declared.kind.Kind.{Kind}
 use Rattle.turing_compile.specs.declared.kind.Kind.TheVariants.{FromLeft, FromRight, RightOf, LeftOf}
 use Rattle.turing_compile.specs.declared.kind.Label.{Label}
@@ -29,31 +30,31 @@ module _ (M : TuringMachine) where
 
   -- a row shows a configuration upwards, and ends with its cells
   abbrev pub IsUnder : (ℕ → Option Kind) → Configuration → Type 0
-  IsUnder under c = (i : ℕ) → i ≤ last_cell M → label_shown tiles under i North ≡ upward M (cell_of c i)
+  IsUnder under c = (i : ℕ) → i ≤ M.cells - 1 → label_shown tiles under i North ≡ upward M (cell_of c i)
 
   abbrev pub EndsAt : (ℕ → Option Kind) → Type 0
-  EndsAt under = (i : ℕ) → last_cell M < i → under i ≡ None
+  EndsAt under = (i : ℕ) → M.cells - 1 < i → under i ≡ None
 
   module _ (is_machine : IsMachine M) (under : ℕ → Option Kind) (c : Configuration) (head : Head) (act : Rule) (config : IsConfigOf M c) (is_under : IsUnder under c)
       (ends : EndsAt under) (there : c.head ≡ Some head) (acts : action M c head ≡ Some act) where
     pub full : ℕ → Option Kind
-    full i = cond (nat_le i (last_cell M)) (Some (kind_over c head act i)) None
+    full i = cond (nat_le i (M.cells - 1)) (Some (kind_over c head act i)) None
 
-    full_there : (i : ℕ) → i ≤ last_cell M → full i ≡ Some (kind_over c head act i)
+    full_there : (i : ℕ) → i ≤ M.cells - 1 → full i ≡ Some (kind_over c head act i)
     unfolding full
-    full_there i within = rw (nat_le-true i (last_cell M) within) refl
+    full_there i within = rw (nat_le-true i (M.cells - 1) within) refl
 
-    full_past : (i : ℕ) → last_cell M < i → full i ≡ None
+    full_past : (i : ℕ) → M.cells - 1 < i → full i ≡ None
     unfolding full
-    full_past i past = rw (nat_le-false i (last_cell M) past) refl
+    full_past i past = rw (nat_le-false i (M.cells - 1) past) refl
 
     full_from : (i : ℕ) (k : Kind) → full i ≡ Some k → kind_over c head act i ≡ k
-    full_from i k wanted = elim (cases_lt (last_cell M) i) [
+    full_from i k wanted = elim (cases_lt (M.cells - 1) i) [
       | inl past ↦ absurd (none-some k (sym (full_past i past) ∙ wanted))
       | inr within ↦ same_Some (kind_over c head act i) k (sym (full_there i within) ∙ wanted)
     ]
 
-    full_shows : (i : ℕ) (d : Side) → i ≤ last_cell M → label_shown tiles full i d ≡ side M (kind_over c head act i) d
+    full_shows : (i : ℕ) (d : Side) → i ≤ M.cells - 1 → label_shown tiles full i d ≡ side M (kind_over c head act i) d
     full_shows i d within = shows-some tiles full i d (kind_over c head act i) (full_there i within)
 
     abbrev h : ℕ
@@ -64,9 +65,9 @@ module _ (M : TuringMachine) where
 
     -- the symbol of a cell
     abbrev at : ℕ → ℕ
-    at i = symbol_at c i
+    at i = slice_index c.symbols i
 
-    h_within : h ≤ last_cell M
+    h_within : h ≤ M.cells - 1
     h_within = (head_within M is_machine c config head there).0
 
     -- what is under the head, and under the other cells
@@ -170,7 +171,7 @@ module _ (M : TuringMachine) where
     full_west : (i : ℕ) → i < h → IsHeldByTwoOrFree tiles (full i) (label_offered tiles under full h i) East
     full_west i less =
         let inside = h_within in
-        let within : i ≤ last_cell M = omega (arith, less, inside) in
+        let within : i ≤ M.cells - 1 = omega (arith, less, inside) in
         let l = left_one act.turn i in
         let kind = over_left M c head act i less in
         inl (record {
@@ -187,7 +188,7 @@ module _ (M : TuringMachine) where
 
     full_east : (i : ℕ) → h < i → IsHeldByTwoOrFree tiles (full i) (label_offered tiles under full h i) West
     full_east zero more = let never : ⊥ = omega (arith, more) in absurd never
-    full_east (suc i) more = elim (cases_lt (last_cell M) (suc i)) [
+    full_east (suc i) more = elim (cases_lt (M.cells - 1) (suc i)) [
       | inl past ↦
           let south = shows-none tiles under (suc i) North (ends (suc i) past) in
           inr (free_east tiles under full h (suc i) (full_past (suc i) past) (east_none tiles under full h (suc i) (omega (arith, more))) south
@@ -209,7 +210,7 @@ module _ (M : TuringMachine) where
     ]
       where
         beside_weak : label_strength tiles (label_shown tiles full i East) ≤ 1
-        beside_weak = elim (cases_lt (last_cell M) i) [
+        beside_weak = elim (cases_lt (M.cells - 1) i) [
           | inl past ↦ weak_none tiles (label_shown tiles full i East) (shows-none tiles full i East (full_past i past))
           | inr within ↦ rw (full_shows i East within, to_east i more, (right_one act.turn (suc i)).weak) (le_refl 1)
         ]
@@ -218,6 +219,6 @@ module _ (M : TuringMachine) where
     full_held = record { at_start = full_start; west_of_start = full_west; east_of_start = full_east }
 
     -- it is the row that the table is to grow there
-    pub full_is : (r : ℕ → Option Kind) → ((i : ℕ) → r i ≡ cond (nat_le i (last_cell M)) (Some (kind_over c head act i)) None) → (i : ℕ) → r i ≡ full i
+    pub full_is : (r : ℕ → Option Kind) → ((i : ℕ) → r i ≡ cond (nat_le i (M.cells - 1)) (Some (kind_over c head act i)) None) → (i : ℕ) → r i ≡ full i
     unfolding full
     full_is r same i = same i

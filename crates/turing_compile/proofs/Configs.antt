@@ -1,5 +1,5 @@
 -- What the row over a configuration shows: the next one.
-use Rattle.std.proofs.Common.{◌≡◌, ◌≢◌, ◌<◌, ◌≤◌, ◌==◌, nat_lt, cond, ℕ, zero, suc, true, false, List, length, slice_index, slice_set, Option, Some, None, option_and_then, option_map, refl, sym, ◌∙◌, ap, subst, inl, inr, arith}
+use Rattle.std.proofs.Common.{◌-◌, ◌≡◌, ◌≢◌, ◌<◌, ◌≤◌, ◌==◌, nat_lt, cond, ℕ, zero, suc, true, false, List, length, slice_index, slice_set, Option, Some, None, option_and_then, option_map, refl, sym, ◌∙◌, ap, subst, inl, inr, arith}
 use Rattle.std.proofs.Math.Nat.{le_refl}
 use Rattle.std.proofs.lemmas.List.{get_or-set_same, get_or-set_other}
 use Rattle.std.proofs.lemmas.Option.{same_Some, none-some}
@@ -13,31 +13,32 @@ use Rattle.machine_text.specs.declared.rule.Turn.{Turn}
 use Rattle.machine_text.specs.declared.rule.Turn.TheVariants.{Left, Right, Stay}
 use Rattle.machine_text.specs.declared.rule.Rule.{Rule}
 use Rattle.machine_text.specs.declared.config.Head.{Head}
-use Rattle.machine_text.specs.Machines.{TuringMachine, Configuration, symbol_at, rule_of, last_cell, first, moved, acted, action, IsConfigOf}
+use Rattle.machine_text.specs.Machines.{TuringMachine, Configuration, rule_among, first, moved, acted, action, IsConfigOf}
 use Rattle.turing_compile.specs.declared.kind.Kind.{Kind}
 use Rattle.turing_compile.specs.declared.kind.Kind.TheVariants.{First, Action, FromLeft, FromRight, RightOf, LeftOf}
 use Rattle.turing_compile.specs.declared.kind.Shown.{Shown}
 use Rattle.turing_compile.specs.declared.kind.Row.{Row}
-use Rattle.turing_compile.specs.Tiles.{plain, headed, state_in, cell_of, upward, action_row, label_on, side, shown}
+use Rattle.turing_compile.specs.Tiles.{plain, headed, state_in, cell_of, upward, action_row, side, shown}
+use Rattle.turing_compile.specs.Inner.Rows.{label_on}
 use Rattle.turing_compile.proofs.MachineFacts.{head_in_cells}
 use Rattle.turing_compile.proofs.Sides.{action_side, eqb_same, eqb_other}
 
 -- the tile over a cell to the left of the head, and to the right of it, where the head goes to state q
 abbrev pub left_of : Configuration → Head → Turn → ℕ → ℕ → Kind
-left_of c head Left q i = cond (suc i == head.cell) (FromRight q (symbol_at c i)) (LeftOf (symbol_at c i))
-left_of c head Right q i = LeftOf (symbol_at c i)
-left_of c head Stay q i = LeftOf (symbol_at c i)
+left_of c head Left q i = cond (suc i == head.cell) (FromRight q (slice_index c.symbols i)) (LeftOf (slice_index c.symbols i))
+left_of c head Right q i = LeftOf (slice_index c.symbols i)
+left_of c head Stay q i = LeftOf (slice_index c.symbols i)
 
 abbrev pub right_of : Configuration → Head → Turn → ℕ → ℕ → Kind
-right_of c head Left q i = RightOf (symbol_at c i)
-right_of c head Right q i = cond (i == suc head.cell) (FromLeft q (symbol_at c i)) (RightOf (symbol_at c i))
-right_of c head Stay q i = RightOf (symbol_at c i)
+right_of c head Left q i = RightOf (slice_index c.symbols i)
+right_of c head Right q i = cond (i == suc head.cell) (FromLeft q (slice_index c.symbols i)) (RightOf (slice_index c.symbols i))
+right_of c head Stay q i = RightOf (slice_index c.symbols i)
 
 -- the tile over a cell of a configuration with this head and rule
 abbrev pub kind_over : Configuration → Head → Rule → ℕ → Kind
 kind_over c head act i =
     cond (nat_lt i head.cell) (left_of c head act.turn act.state i)
-    (cond (nat_lt head.cell i) (right_of c head act.turn act.state i) (Action head.state (symbol_at c head.cell)))
+    (cond (nat_lt head.cell i) (right_of c head act.turn act.state i) (Action head.state (slice_index c.symbols head.cell)))
 
 module _ (M : TuringMachine) where
   -- the configuration that a rule makes, of a head in cell h that goes to state p and writes b
@@ -49,7 +50,7 @@ module _ (M : TuringMachine) where
     at = record { cell = h; state = q }
 
     abbrev is_now : Turn → Configuration
-    is_now turn = record { symbols = slice_set xs h b; head = moved (last_cell M) turn h p }
+    is_now turn = record { symbols = slice_set xs h b; head = moved (M.cells - 1) turn h p }
 
     kept_symbol : (i : ℕ) → i ≢ h → slice_index (slice_set xs h b) i ≡ slice_index xs i
     kept_symbol i other = get_or-set_other xs h i b 0 other
@@ -62,61 +63,61 @@ module _ (M : TuringMachine) where
     head_shown : (i a : ℕ) → slice_index (slice_set xs h b) i ≡ a → cell_of (record { symbols = slice_set xs h b; head = Some (record { cell = i; state = p }) }) i ≡ headed p a
     head_shown i a same = λ z. record { symbol = same z; state = cond (eqb_same i z) (Some p) None }
 
-    right_away : (i : ℕ) → i ≢ suc h → state_in (moved (last_cell M) Right h p) i ≡ None
-    right_away i other = elim (nat_lt h (last_cell M)) as (λ t. state_in (cond t (Some (record { cell = suc h; state = p })) None) i ≡ None) [
+    right_away : (i : ℕ) → i ≢ suc h → state_in (moved (M.cells - 1) Right h p) i ≡ None
+    right_away i other = elim (nat_lt h (M.cells - 1)) as (λ t. state_in (cond t (Some (record { cell = suc h; state = p })) None) i ≡ None) [
       | true ↦ ap (λ t. cond t (Some p) None) (eqb_other i (suc h) other)
       | false ↦ refl
     ]
 
-    stay_away : (i : ℕ) → i ≢ h → state_in (moved (last_cell M) Stay h p) i ≡ None
+    stay_away : (i : ℕ) → i ≢ h → state_in (moved (M.cells - 1) Stay h p) i ≡ None
     stay_away i other = ap (λ t. cond t (Some p) None) (eqb_other i h other)
 
-    left_away : (n i : ℕ) → suc i ≢ n → state_in (moved (last_cell M) Left n p) i ≡ None
+    left_away : (n i : ℕ) → suc i ≢ n → state_in (moved (M.cells - 1) Left n p) i ≡ None
     left_away zero i differ = refl
     left_away (suc n) i differ = ap (λ t. cond t (Some p) None) (eqb_other i n (λ e. differ (ap suc e)))
 
     -- the tile over the head
     shown_here : (turn : Turn) → h < length xs → (action_row M q (slice_index xs h) p b turn).shows ≡ cell_of (is_now turn) h
     shown_here Stay inside = sym (head_shown h b (get_or-set_same xs h b 0 inside))
-    shown_here Right inside = sym (away_shown (moved (last_cell M) Right h p) h b (right_away h (λ e. let never : ⊥ = omega (arith, e) in never)) (get_or-set_same xs h b 0 inside))
-    shown_here Left inside = sym (away_shown (moved (last_cell M) Left h p) h b (left_away h h (λ e. let never : ⊥ = omega (arith, e) in never)) (get_or-set_same xs h b 0 inside))
+    shown_here Right inside = sym (away_shown (moved (M.cells - 1) Right h p) h b (right_away h (λ e. let never : ⊥ = omega (arith, e) in never)) (get_or-set_same xs h b 0 inside))
+    shown_here Left inside = sym (away_shown (moved (M.cells - 1) Left h p) h b (left_away h h (λ e. let never : ⊥ = omega (arith, e) in never)) (get_or-set_same xs h b 0 inside))
 
     -- those to the left of it
     shown_left : (turn : Turn) (i : ℕ) → i < h → shown M (left_of was at turn p i) ≡ Some (cell_of (is_now turn) i)
     shown_left Stay i less =
         let other : i ≢ h = λ e. let never : ⊥ = omega (arith, e, less) in never in
-        ap (λ s. Some s) (sym (away_shown (moved (last_cell M) Stay h p) i (slice_index xs i) (stay_away i other) (kept_symbol i other)))
+        ap (λ s. Some s) (sym (away_shown (moved (M.cells - 1) Stay h p) i (slice_index xs i) (stay_away i other) (kept_symbol i other)))
     shown_left Right i less =
         let other : i ≢ h = λ e. let never : ⊥ = omega (arith, e, less) in never in
-        ap (λ s. Some s) (sym (away_shown (moved (last_cell M) Right h p) i (slice_index xs i) (right_away i (λ e. let never : ⊥ = omega (arith, e, less) in never)) (kept_symbol i other)))
+        ap (λ s. Some s) (sym (away_shown (moved (M.cells - 1) Right h p) i (slice_index xs i) (right_away i (λ e. let never : ⊥ = omega (arith, e, less) in never)) (kept_symbol i other)))
     shown_left Left i less = elim (eqb_tells (suc i) h) [
       | inl same ↦
           let other : i ≢ h = λ e. let f = same.1 in let never : ⊥ = omega (arith, e, f) in never in
-          let now : moved (last_cell M) Left h p ≡ Some (record { cell = i; state = p }) = ap (λ n. moved (last_cell M) Left n p) (sym same.1) in
+          let now : moved (M.cells - 1) Left h p ≡ Some (record { cell = i; state = p }) = ap (λ n. moved (M.cells - 1) Left n p) (sym same.1) in
           ap (λ t. shown M (cond t (FromRight p (slice_index xs i)) (LeftOf (slice_index xs i)))) same.0
           ∙ ap (λ s. Some s) (sym (head_shown i (slice_index xs i) (kept_symbol i other)))
           ∙ sym (ap (λ hd. Some (cell_of (record { symbols = slice_set xs h b; head = hd }) i)) now)
       | inr differ ↦
           let other : i ≢ h = λ e. let never : ⊥ = omega (arith, e, less) in never in
           ap (λ t. shown M (cond t (FromRight p (slice_index xs i)) (LeftOf (slice_index xs i)))) differ.0
-          ∙ ap (λ s. Some s) (sym (away_shown (moved (last_cell M) Left h p) i (slice_index xs i) (left_away h i differ.1) (kept_symbol i other)))
+          ∙ ap (λ s. Some s) (sym (away_shown (moved (M.cells - 1) Left h p) i (slice_index xs i) (left_away h i differ.1) (kept_symbol i other)))
     ]
 
     -- and those to the right of it
-    shown_right : (turn : Turn) (i : ℕ) → h < i → i ≤ last_cell M → shown M (right_of was at turn p i) ≡ Some (cell_of (is_now turn) i)
+    shown_right : (turn : Turn) (i : ℕ) → h < i → i ≤ M.cells - 1 → shown M (right_of was at turn p i) ≡ Some (cell_of (is_now turn) i)
     shown_right Stay i more within =
         let other : i ≢ h = λ e. let never : ⊥ = omega (arith, e, more) in never in
-        ap (λ s. Some s) (sym (away_shown (moved (last_cell M) Stay h p) i (slice_index xs i) (stay_away i other) (kept_symbol i other)))
+        ap (λ s. Some s) (sym (away_shown (moved (M.cells - 1) Stay h p) i (slice_index xs i) (stay_away i other) (kept_symbol i other)))
     shown_right Left i more within =
         let other : i ≢ h = λ e. let never : ⊥ = omega (arith, e, more) in never in
-        ap (λ s. Some s) (sym (away_shown (moved (last_cell M) Left h p) i (slice_index xs i) (left_away h i (λ e. let never : ⊥ = omega (arith, e, more) in never)) (kept_symbol i other)))
+        ap (λ s. Some s) (sym (away_shown (moved (M.cells - 1) Left h p) i (slice_index xs i) (left_away h i (λ e. let never : ⊥ = omega (arith, e, more) in never)) (kept_symbol i other)))
     shown_right Right i more within = elim (eqb_tells i (suc h)) [
       | inl same ↦
           let e = same.1 in
           let other : i ≢ h = λ f. let never : ⊥ = omega (arith, e, f) in never in
-          let less : h < last_cell M = omega (arith, e, within) in
-          let now : moved (last_cell M) Right h p ≡ Some (record { cell = i; state = p }) =
-          ap (λ t. cond t (Some (record { cell = suc h; state = p })) None) (is_less h (last_cell M) less) ∙ ap (λ n. Some (record { cell = n; state = p })) (sym e)
+          let less : h < M.cells - 1 = omega (arith, e, within) in
+          let now : moved (M.cells - 1) Right h p ≡ Some (record { cell = i; state = p }) =
+          ap (λ t. cond t (Some (record { cell = suc h; state = p })) None) (is_less h (M.cells - 1) less) ∙ ap (λ n. Some (record { cell = n; state = p })) (sym e)
           in
           ap (λ t. shown M (cond t (FromLeft p (slice_index xs i)) (RightOf (slice_index xs i)))) same.0
           ∙ ap (λ s. Some s) (sym (head_shown i (slice_index xs i) (kept_symbol i other)))
@@ -124,7 +125,7 @@ module _ (M : TuringMachine) where
       | inr differ ↦
           let other : i ≢ h = λ e. let never : ⊥ = omega (arith, e, more) in never in
           ap (λ t. shown M (cond t (FromLeft p (slice_index xs i)) (RightOf (slice_index xs i)))) differ.0
-          ∙ ap (λ s. Some s) (sym (away_shown (moved (last_cell M) Right h p) i (slice_index xs i) (right_away i differ.1) (kept_symbol i other)))
+          ∙ ap (λ s. Some s) (sym (away_shown (moved (M.cells - 1) Right h p) i (slice_index xs i) (right_away i differ.1) (kept_symbol i other)))
     ]
 
   -- each row of the table turns up what it shows
@@ -135,7 +136,7 @@ module _ (M : TuringMachine) where
 
   north_shown : (k : Kind) (s : Shown) → shown M k ≡ Some s → side M k North ≡ upward M s
   north_shown (First i) s there = ap (upward M) (same_Some (cell_of (first M) i) s there)
-  north_shown (Action q a) s there = elim (some_or_none (rule_of M q a)) [
+  north_shown (Action q a) s there = elim (some_or_none (rule_among M.rules q a)) [
     | inl none ↦ absurd (none-some s (sym (ap (λ o. option_map (λ (r : Row). r.shows) (option_map (λ (x : Rule). action_row M q a x.state x.symbol x.turn) o)) none) ∙ there))
     | inr act ↦
         let r = action_row M q a act.0.state act.0.symbol act.0.turn in
@@ -152,7 +153,7 @@ module _ (M : TuringMachine) where
   -- which tile stands over a cell
   module _ (c : Configuration) (head : Head) (act : Rule) where
     abbrev here : Kind
-    here = Action head.state (symbol_at c head.cell)
+    here = Action head.state (slice_index c.symbols head.cell)
 
     pub over_left : (i : ℕ) → i < head.cell → kind_over c head act i ≡ left_of c head act.turn act.state i
     over_left i less = ap (λ t. cond t (left_of c head act.turn act.state i) (cond (nat_lt head.cell i) (right_of c head act.turn act.state i) here)) (is_less i head.cell less)
@@ -168,15 +169,15 @@ module _ (M : TuringMachine) where
         ap (λ t. cond t (left_of c head act.turn act.state h) (cond (nat_lt h h) (right_of c head act.turn act.state h) here)) (not_less h h (le_refl h))
         ∙ ap (λ t. cond t (right_of c head act.turn act.state h) here) (not_less h h (le_refl h))
 
-    pub side_here : (d : Side) → action M c head ≡ Some act → side M here d ≡ action_side M head.state (symbol_at c head.cell) act.state act.symbol act.turn d
-    side_here d by = ap (λ o. option_and_then (λ (r : Row). label_on r d) (option_map (λ (a : Rule). action_row M head.state (symbol_at c head.cell) a.state a.symbol a.turn) o)) by
+    pub side_here : (d : Side) → action M c head ≡ Some act → side M here d ≡ action_side M head.state (slice_index c.symbols head.cell) act.state act.symbol act.turn d
+    side_here d by = ap (λ o. option_and_then (λ (r : Row). label_on r d) (option_map (λ (a : Rule). action_row M head.state (slice_index c.symbols head.cell) a.state a.symbol a.turn) o)) by
 
     -- it shows the cell of the next configuration
-    pub shown_over : IsConfigOf M c → (i : ℕ) → c.head ≡ Some head → action M c head ≡ Some act → i ≤ last_cell M → shown M (kind_over c head act i) ≡ Some (cell_of (acted (last_cell M) c head act) i)
+    pub shown_over : IsConfigOf M c → (i : ℕ) → c.head ≡ Some head → action M c head ≡ Some act → i ≤ M.cells - 1 → shown M (kind_over c head act i) ≡ Some (cell_of (acted (M.cells - 1) c head act) i)
     shown_over config i there by within = elim (cases_order i head.cell) [
-      | inl same ↦ subst (λ n. shown M (kind_over c head act n) ≡ Some (cell_of (acted (last_cell M) c head act) n)) (sym same)
+      | inl same ↦ subst (λ n. shown M (kind_over c head act n) ≡ Some (cell_of (acted (M.cells - 1) c head act) n)) (sym same)
           (ap (shown M) over_here
-          ∙ ap (λ o. option_map (λ (r : Row). r.shows) (option_map (λ (a : Rule). action_row M head.state (symbol_at c head.cell) a.state a.symbol a.turn) o)) by
+          ∙ ap (λ o. option_map (λ (r : Row). r.shows) (option_map (λ (a : Rule). action_row M head.state (slice_index c.symbols head.cell) a.state a.symbol a.turn) o)) by
           ∙ ap (λ s. Some s) (shown_here c.symbols head.cell head.state act.state act.symbol act.turn head_inside))
       | inr rest ↦ elim rest [
         | inl less ↦ ap (shown M) (over_left i less) ∙ shown_left c.symbols head.cell head.state act.state act.symbol act.turn i less
@@ -188,5 +189,5 @@ module _ (M : TuringMachine) where
         head_inside = head_in_cells M c config head there
 
     -- so that cell's label stands on its north side
-    pub north_over : IsConfigOf M c → (i : ℕ) → c.head ≡ Some head → action M c head ≡ Some act → i ≤ last_cell M → side M (kind_over c head act i) North ≡ upward M (cell_of (acted (last_cell M) c head act) i)
-    north_over config i there by within = north_shown (kind_over c head act i) (cell_of (acted (last_cell M) c head act) i) (shown_over config i there by within)
+    pub north_over : IsConfigOf M c → (i : ℕ) → c.head ≡ Some head → action M c head ≡ Some act → i ≤ M.cells - 1 → side M (kind_over c head act i) North ≡ upward M (cell_of (acted (M.cells - 1) c head act) i)
+    north_over config i there by within = north_shown (kind_over c head act i) (cell_of (acted (M.cells - 1) c head act) i) (shown_over config i there by within)

@@ -14,13 +14,13 @@ use Rattle.machine_text.specs.declared.rule.Turn.{Turn}
 use Rattle.machine_text.specs.declared.rule.Turn.TheVariants.{Left, Right, Stay}
 use Rattle.machine_text.specs.declared.rule.Rule.{Rule}
 use Rattle.machine_text.specs.declared.config.Head.{Head}
-use Rattle.machine_text.specs.Machines.{TuringMachine, Configuration, rule_of, first, IsMachine, IsConfigOf}
+use Rattle.machine_text.specs.Machines.{TuringMachine, Configuration, rule_among, first, IsMachine, IsConfigOf}
 use Rattle.turing_compile.specs.declared.kind.Kind.{Kind}
 use Rattle.turing_compile.specs.declared.kind.Kind.TheVariants.{First, Action, FromLeft, FromRight, RightOf, LeftOf}
 use Rattle.turing_compile.specs.declared.kind.Shown.{Shown}
 use Rattle.turing_compile.specs.declared.kind.Row.{Row}
 use Rattle.turing_compile.specs.Tiles.{cell_of, plain, headed, action_row, shown}
-use Rattle.turing_compile.specs.Compiled.{kinds}
+use Rattle.turing_compile.specs.Inner.Listed.{kinds}
 use Rattle.turing_compile.specs.Rows.{type_shown, tile_shown, all_of, row_shown, head_shown, heads_from, shown_config, row_config}
 use Rattle.turing_compile.specs.Inner.Members.{IsKind}
 use Rattle.machine_text.proofs.Finding.{some_is}
@@ -59,7 +59,7 @@ module _ (M : TuringMachine) (is_machine : IsMachine M) where
   kind_cell : (k : Kind) → IsKind M k → (s : Shown) → shown M k ≡ Some s → IsCell s
   kind_cell (First i) kind s there = subst IsCell (same_Some (cell_of (first M) i) s there) (first_cell i)
   kind_cell (Action q a) kind s there =
-      let act = some_is (rule_of M q a) kind in
+      let act = some_is (rule_among M.rules q a) kind in
       let bounds = rule_bounds M is_machine q a act.0 act.1 in
       let r = action_row M q a act.0.state act.0.symbol act.0.turn in
       let same : r.shows ≡ s = same_Some r.shows s (sym (ap (λ o. option_map (λ (r : Row). r.shows) (option_map (λ (x : Rule). action_row M q a x.state x.symbol x.turn) o)) act.1) ∙ there) in

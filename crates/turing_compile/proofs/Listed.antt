@@ -1,5 +1,6 @@
 -- The table of a machine's tiles, in its order.
-use Rattle.std.proofs.Common.{◌≡◌, ◌<◌, ◌≤◌, ◌+◌, ◌*◌, is_some, ℕ, zero, suc, Bool, true, List, [], ◌∷◌, ◌++◌, length, map, filter, Option, Some, None, IfSome, option_and_then, option_map, get_or, Contains, refl, sym, ◌∙◌, ap, subst, inl, inr, arith, length-append}
+use Rattle.std.proofs.Common.{◌-◌, ◌≡◌, ◌<◌, ◌≤◌, ◌+◌, ◌*◌, is_some, ℕ, zero, suc, Bool, true, List, [], ◌∷◌, ◌++◌, length, map, filter, Option, Some, None, IfSome, option_and_then, option_map, get_or, Contains, refl, sym, ◌∙◌, ap, subst, inl, inr, arith, length-append}
+use Rattle.std.specs.Prelude.{slice_index}
 use Rattle.std.specs.List.{range_with_len}
 use Rattle.std.proofs.Math.Nat.{mul-le-mul}
 use Rattle.std.proofs.lemmas.List.{length-map}
@@ -15,14 +16,16 @@ use Rattle.design.proofs.Rows.{is_less, not_less}
 use Rattle.machine_text.specs.declared.rule.Turn.{Turn}
 use Rattle.machine_text.specs.declared.rule.Turn.TheVariants.{Left, Right, Stay}
 use Rattle.machine_text.specs.declared.rule.Rule.{Rule}
-use Rattle.machine_text.specs.Machines.{TuringMachine, Configuration, symbol_at, rule_of, last_cell, first, IsMachine, IsConfigOf}
+use Rattle.machine_text.specs.Machines.{TuringMachine, Configuration, rule_among, first, IsMachine, IsConfigOf}
 use Rattle.turing_compile.specs.declared.kind.Kind.{Kind}
 use Rattle.turing_compile.specs.declared.kind.Kind.TheVariants.{First, Action, FromLeft, FromRight, RightOf, LeftOf}
 use Rattle.turing_compile.specs.declared.kind.Label.{Label}
 use Rattle.turing_compile.specs.declared.kind.Label.TheVariants.{Symbol, Acting, Rightward, Leftward, HeadRightward, HeadLeftward, Joint}
 use Rattle.turing_compile.specs.declared.kind.Row.{Row}
-use Rattle.turing_compile.specs.Tiles.{top, cell_of, upward, state_in, action_row, label_on, side}
-use Rattle.turing_compile.specs.Compiled.{pairs, has_rule, ruled_pairs, kinds, labels, pair_number, rules_before, kind_number, label_number, tiles_of}
+use Rattle.turing_compile.specs.Tiles.{top, cell_of, upward, state_in, action_row, side}
+use Rattle.turing_compile.specs.Inner.Rows.{label_on}
+use Rattle.turing_compile.specs.Compiled.{pairs, has_rule, ruled_pairs, pair_number, rules_before, kind_number, label_number, tiles_of}
+use Rattle.turing_compile.specs.Inner.Listed.{kinds, labels}
 use Rattle.turing_compile.specs.Inner.Members.{IsKind, IsLabel}
 use Rattle.machine_text.proofs.Finding.{some_is}
 use Rattle.turing_compile.proofs.MachineFacts.{rule_bounds, symbol_below, first_config}
@@ -83,14 +86,14 @@ module _ (M : TuringMachine) (is_machine : IsMachine M) where
       (numbered-then number n (n + r) (map (λ p. Acting p.0 p.1) kept) _ (for_rules number (λ p. Acting p.0 p.1) n (λ x. refl)) (ap (λ m. n + m) (length-map kept (λ p. Acting p.0 p.1)))
       (refl, (omega arith, labels_after number n r s)))
     where
-      labels_after : (number : Label → ℕ) (n r s : ℕ) → IsNumbered (label_number M) (suc (suc ((length M.symbols) + length (ruled_pairs M)))) (map HeadRightward (range_with_len 0 (length M.states)) ++ (map HeadLeftward (range_with_len 0 (length M.states)) ++ map Joint (range_with_len 1 (last_cell M))))
+      labels_after : (number : Label → ℕ) (n r s : ℕ) → IsNumbered (label_number M) (suc (suc ((length M.symbols) + length (ruled_pairs M)))) (map HeadRightward (range_with_len 0 (length M.states)) ++ (map HeadLeftward (range_with_len 0 (length M.states)) ++ map Joint (range_with_len 1 (M.cells - 1))))
       labels_after number n r s =
           let at = suc (suc ((length M.symbols) + length (ruled_pairs M))) in
           let first = range_length HeadRightward 0 (length M.states) in
           let second = range_length HeadLeftward 0 (length M.states) in
           numbered-then (label_number M) at (at + (length M.states)) (map HeadRightward (range_with_len 0 (length M.states))) _ (numbered-range (label_number M) HeadRightward at 0 (length M.states) (λ i less. omega arith)) (ap (λ m. at + m) first)
           (numbered-then (label_number M) (at + (length M.states)) (at + (length M.states) + (length M.states)) (map HeadLeftward (range_with_len 0 (length M.states))) _ (numbered-range (label_number M) HeadLeftward (at + (length M.states)) 0 (length M.states) (λ i less. omega arith)) (ap (λ m. at + (length M.states) + m) second)
-          (numbered-range (label_number M) Joint (at + (length M.states) + (length M.states)) 1 (last_cell M) (λ i less. omega arith)))
+          (numbered-range (label_number M) Joint (at + (length M.states) + (length M.states)) 1 (M.cells - 1) (λ i less. omega arith)))
 
   pair_listed : (q a : ℕ) → q < (length M.states) → a < (length M.symbols) → Contains (pairs M) (q, a)
   pair_listed q a q_less a_less = let same : 0 + q ≡ q = omega arith in subst (λ n. Contains (pairs M) (n, a)) same (pairs-has (length M.symbols) 0 (length M.states) q a q_less a_less)
@@ -98,9 +101,9 @@ module _ (M : TuringMachine) (is_machine : IsMachine M) where
   in_range : {X : Type 0} (f : ℕ → X) (n i : ℕ) → i < n → Contains (map f (range_with_len 0 n)) (f i)
   in_range f n i less = let same : 0 + i ≡ i = omega arith in subst (λ m. Contains (map f (range_with_len 0 n)) (f m)) same (range-has f 0 n i less)
 
-  rule_listed : (q a : ℕ) → is_some (rule_of M q a) ≡ true → Contains (ruled_pairs M) (q, a)
+  rule_listed : (q a : ℕ) → is_some (rule_among M.rules q a) ≡ true → Contains (ruled_pairs M) (q, a)
   rule_listed q a rule =
-      let act = some_is (rule_of M q a) rule in
+      let act = some_is (rule_among M.rules q a) rule in
       let bounds = rule_bounds M is_machine q a act.0 act.1 in
       Contains-filter (has_rule M) (pairs M) (q, a) (pair_listed q a bounds.state bounds.symbol) rule
 
@@ -188,7 +191,7 @@ module _ (M : TuringMachine) (is_machine : IsMachine M) where
   lefts_part = map HeadLeftward (range_with_len 0 (length M.states))
 
   abbrev joints_part : List Label
-  joints_part = map Joint (range_with_len 1 (last_cell M))
+  joints_part = map Joint (range_with_len 1 (M.cells - 1))
 
   abbrev last_parts : List Label
   last_parts = rights_part ++ (lefts_part ++ joints_part)
@@ -214,7 +217,7 @@ module _ (M : TuringMachine) (is_machine : IsMachine M) where
       let within = is_label.1 in
       let one_and : 1 + i ≡ suc i = omega arith in
       past_sides (Joint (suc i)) (Contains-append_right rights_part (lefts_part ++ joints_part) (Joint (suc i)) (Contains-append_right lefts_part joints_part (Joint (suc i))
-      (subst (λ n. Contains joints_part (Joint n)) one_and (range-has Joint 1 (last_cell M) i (omega (arith, within))))))
+      (subst (λ n. Contains joints_part (Joint n)) one_and (range-has Joint 1 (M.cells - 1) i (omega (arith, within))))))
 
   -- each listed label is one of the machine
   all_are_labels : Each (IsLabel M) (labels M)
@@ -233,7 +236,7 @@ module _ (M : TuringMachine) (is_machine : IsMachine M) where
               (each-map Is HeadRightward (range_with_len 0 s) (each-range (λ i. i < s) 0 s (λ i above below. omega (arith, below))))
               (each-append Is lefts_part joints_part
               (each-map Is HeadLeftward (range_with_len 0 s) (each-range (λ i. i < s) 0 s (λ i above below. omega (arith, below))))
-              (each-map Is Joint (range_with_len 1 (last_cell M)) (each-range (λ i. (1 ≤ i) × (i ≤ last_cell M)) 1 (last_cell M) (λ i above below. (above, omega (arith, below)))))),
+              (each-map Is Joint (range_with_len 1 (M.cells - 1)) (each-range (λ i. (1 ≤ i) × (i ≤ M.cells - 1)) 1 (M.cells - 1) (λ i above below. (above, omega (arith, below)))))),
         ),
       ))
 
@@ -242,12 +245,12 @@ module _ (M : TuringMachine) (is_machine : IsMachine M) where
 
   -- each label on a side of a kind is one of the machine
   top_label : (q a : ℕ) → IfSome (top M q a) (IsLabel M)
-  top_label q a = elim (cases_Bool (is_some (rule_of M q a))) [
+  top_label q a = elim (cases_Bool (is_some (rule_among M.rules q a))) [
     | inl rule ↦ rw rule rule
     | inr none ↦ rw none tt
   ]
 
-  action_label : (q a p b : ℕ) (move : Turn) (d : Side) → is_some (rule_of M q a) ≡ true → p < (length M.states) → b < (length M.symbols) → IfSome (action_side M q a p b move d) (IsLabel M)
+  action_label : (q a p b : ℕ) (move : Turn) (d : Side) → is_some (rule_among M.rules q a) ≡ true → p < (length M.states) → b < (length M.symbols) → IfSome (action_side M q a p b move d) (IsLabel M)
   action_label q a p b Left North rule p_less b_less = b_less
   action_label q a p b Left East rule p_less b_less = tt
   action_label q a p b Left South rule p_less b_less = rule
@@ -265,21 +268,21 @@ module _ (M : TuringMachine) (is_machine : IsMachine M) where
   up_label : (c : Configuration) (i : ℕ) → IsConfigOf M c → IfSome (upward M (cell_of c i)) (IsLabel M)
   up_label c i config = by (state_in c.head i)
     where
-      by : (o : Option ℕ) → IfSome (upward M (record { symbol = symbol_at c i; state = o })) (IsLabel M)
+      by : (o : Option ℕ) → IfSome (upward M (record { symbol = slice_index c.symbols i; state = o })) (IsLabel M)
       by None = symbol_below M is_machine c config i
-      by (Some q) = top_label q (symbol_at c i)
+      by (Some q) = top_label q (slice_index c.symbols i)
 
   side_label : (k : Kind) (d : Side) → IsKind M k → IfSome (side M k d) (IsLabel M)
   side_label (First i) North within = up_label (first M) i (first_config M is_machine)
-  side_label (First i) East within = elim (cases_lt i (last_cell M)) [
-    | inl less ↦ rw (is_less i (last_cell M) less) (omega arith, omega (arith, less))
-    | inr more ↦ rw (not_less i (last_cell M) more) tt
+  side_label (First i) East within = elim (cases_lt i (M.cells - 1)) [
+    | inl less ↦ rw (is_less i (M.cells - 1) less) (omega arith, omega (arith, less))
+    | inr more ↦ rw (not_less i (M.cells - 1) more) tt
   ]
   side_label (First i) South within = tt
   side_label (First zero) West within = tt
   side_label (First (suc i)) West within = (omega arith, omega (arith, within))
   side_label (Action q a) d rule =
-      let act = some_is (rule_of M q a) rule in
+      let act = some_is (rule_among M.rules q a) rule in
       let IsOf : Option Rule → Type 0 = λ o. IfSome (option_and_then (λ (r : Row). label_on r d) (option_map (λ (x : Rule). action_row M q a x.state x.symbol x.turn) o)) (IsLabel M) in
       let bounds = rule_bounds M is_machine q a act.0 act.1 in
       subst IsOf (sym act.1) (action_label q a act.0.state act.0.symbol act.0.turn d rule bounds.next_state bounds.next_symbol)
@@ -320,7 +323,7 @@ module _ (M : TuringMachine) (is_machine : IsMachine M) where
       let g = length-map (ruled_pairs M) (λ p. Acting p.0 p.1) in
       let h = range_length HeadRightward 0 (length M.states) in
       let i = range_length HeadLeftward 0 (length M.states) in
-      let j = range_length Joint 1 (last_cell M) in
+      let j = range_length Joint 1 (M.cells - 1) in
       let p = pair_count in
       let r = rule_count in
       let states = is_machine.state_count in

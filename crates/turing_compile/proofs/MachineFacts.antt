@@ -1,6 +1,6 @@
 -- What a machine's rules and configurations keep to.
 use Rattle.std.proofs.Common.{◌≡◌, ◌<◌, ◌≤◌, ◌-◌, is_some, ℕ, zero, suc, true, List, [], ◌∷◌, length, replicate, get_or, Option, Some, IfSome, option_and_then, option_map, refl, sym, ◌∙◌, ap, subst, inl, inr, arith, length-append}
-use Rattle.std.specs.Prelude.{find}
+use Rattle.std.specs.Prelude.{slice_index, find}
 use Rattle.std.proofs.lemmas.List.{length-replicate}
 use Rattle.std.proofs.lemmas.List.Elements.{All-append, All-replicate, All-get_or}
 use Rattle.std.proofs.lemmas.Option.{same_Some, none-some, option_and_then_some}
@@ -12,7 +12,7 @@ use Rattle.machine_text.specs.declared.rule.Transition.{Transition}
 use Rattle.machine_text.specs.declared.config.Head.{Head}
 use Rattle.machine_text.proofs.Finding.{some_is, find_has, find_passes}
 use Rattle.machine_text.proofs.Steps.{IsConfigOf-acted}
-use Rattle.machine_text.specs.Machines.{TuringMachine, Configuration, symbol_at, is_for, rule_of, last_cell, first, acted, action, next, after, IsTransition, IsMachine, IsConfigOf}
+use Rattle.machine_text.specs.Machines.{TuringMachine, Configuration, is_for, rule_among, first, acted, action, next, after, IsTransition, IsMachine, IsConfigOf}
 
 -- a transition that is for a state and a symbol has them
 both_same : (s a : ℕ) (t : Transition) → is_for s a t ≡ true → (t.state ≡ s) × (t.symbol ≡ a)
@@ -33,7 +33,7 @@ head_in_cells M c config head there =
     omega (arith, less, long)
 
 module _ (M : TuringMachine) (is_machine : IsMachine M) where
-  pub rule_bounds : (q a : ℕ) (rule : Rule) → rule_of M q a ≡ Some rule → IsRuleOf M q a rule
+  pub rule_bounds : (q a : ℕ) (rule : Rule) → rule_among M.rules q a ≡ Some rule → IsRuleOf M q a rule
   rule_bounds q a rule there = elim (some_or_none (find (is_for q a) M.rules)) [
     | inl none ↦ absurd (none-some rule (sym (ap (option_map (λ (t : Transition). t.rule)) none) ∙ there))
     | inr t ↦
@@ -48,13 +48,13 @@ module _ (M : TuringMachine) (is_machine : IsMachine M) where
         }
   ]
 
-  pub pair_bounds : (q a : ℕ) → is_some (rule_of M q a) ≡ true → (q < length M.states) × (a < length M.symbols)
+  pub pair_bounds : (q a : ℕ) → is_some (rule_among M.rules q a) ≡ true → (q < length M.states) × (a < length M.symbols)
   pair_bounds q a ruled =
-      let rule = some_is (rule_of M q a) ruled in
+      let rule = some_is (rule_among M.rules q a) ruled in
       let bounds = rule_bounds q a rule.0 rule.1 in
       (bounds.state, bounds.symbol)
 
-  pub last_is : suc (last_cell M) ≡ M.cells
+  pub last_is : suc (M.cells - 1) ≡ M.cells
   last_is = let some = is_machine.some_cell in omega (arith, some)
 
   -- the next configuration comes by an action of the head
@@ -63,29 +63,29 @@ module _ (M : TuringMachine) (is_machine : IsMachine M) where
     pub act : Rule
     pub there : c.head ≡ Some head
     pub by : action M c head ≡ Some act
-    pub result : acted (last_cell M) c head act ≡ d
+    pub result : acted (M.cells - 1) c head act ≡ d
 
   pub step_from : (c d : Configuration) → next M c ≡ Some d → Step c d
   step_from c d follows = elim (some_or_none c.head) [
-    | inl none ↦ absurd (none-some d (sym (ap (option_and_then (λ head. option_map (λ act. acted (last_cell M) c head act) (action M c head))) none) ∙ follows))
+    | inl none ↦ absurd (none-some d (sym (ap (option_and_then (λ head. option_map (λ act. acted (M.cells - 1) c head act) (action M c head))) none) ∙ follows))
     | inr head ↦
-        let now : option_map (λ act. acted (last_cell M) c head.0 act) (action M c head.0) ≡ Some d =
-        sym (ap (option_and_then (λ g. option_map (λ act. acted (last_cell M) c g act) (action M c g))) head.1) ∙ follows
+        let now : option_map (λ act. acted (M.cells - 1) c head.0 act) (action M c head.0) ≡ Some d =
+        sym (ap (option_and_then (λ g. option_map (λ act. acted (M.cells - 1) c g act) (action M c g))) head.1) ∙ follows
         in
         elim (some_or_none (action M c head.0)) [
-          | inl none ↦ absurd (none-some d (sym (ap (option_map (λ act. acted (last_cell M) c head.0 act)) none) ∙ now))
+          | inl none ↦ absurd (none-some d (sym (ap (option_map (λ act. acted (M.cells - 1) c head.0 act)) none) ∙ now))
           | inr act ↦ record {
             head = head.0;
             act = act.0;
             there = head.1;
             by = act.1;
-            result = same_Some (acted (last_cell M) c head.0 act.0) d (sym (ap (option_map (λ a. acted (last_cell M) c head.0 a)) act.1) ∙ now);
+            result = same_Some (acted (M.cells - 1) c head.0 act.0) d (sym (ap (option_map (λ a. acted (M.cells - 1) c head.0 a)) act.1) ∙ now);
           }
         ]
   ]
 
   -- a configuration with facts that are used of it
-  pub symbol_below : (c : Configuration) → IsConfigOf M c → (i : ℕ) → symbol_at c i < length M.symbols
+  pub symbol_below : (c : Configuration) → IsConfigOf M c → (i : ℕ) → slice_index c.symbols i < length M.symbols
   symbol_below c config i = elim (cases_lt i (length c.symbols)) [
     | inl less ↦ All-get_or (λ a. a < length M.symbols) c.symbols i 0 less config.symbols
     | inr past ↦ let some = is_machine.some_symbol in rw (past_end c.symbols i past) (omega (arith, some))
@@ -96,7 +96,7 @@ module _ (M : TuringMachine) (is_machine : IsMachine M) where
       past_end (x ∷ xs) zero past = let never : ⊥ = omega (arith, past) in absurd never
       past_end (x ∷ xs) (suc i) past = past_end xs i (omega (arith, past))
 
-  pub head_within : (c : Configuration) → IsConfigOf M c → (head : Head) → c.head ≡ Some head → (head.cell ≤ last_cell M) × (head.state < length M.states)
+  pub head_within : (c : Configuration) → IsConfigOf M c → (head : Head) → c.head ≡ Some head → (head.cell ≤ M.cells - 1) × (head.state < length M.states)
   head_within c config head there =
       let h = subst (λ (o : Option Head). IfSome o (λ g. (g.cell < M.cells) × (g.state < length M.states))) there config.head in
       let less = h.0 in
@@ -122,5 +122,5 @@ module _ (M : TuringMachine) (is_machine : IsMachine M) where
   config_after (suc y) c there =
       option_and_then_some (next M) (after M y) c there (λ d before follows.
       let s = step_from d c follows in
-      let bounds = rule_bounds s.head.state (symbol_at d s.head.cell) s.act s.by in
+      let bounds = rule_bounds s.head.state (slice_index d.symbols s.head.cell) s.act s.by in
       subst (IsConfigOf M) s.result (IsConfigOf-acted M d s.head s.act is_machine (config_after y d before) s.there bounds.next_state bounds.next_symbol))

@@ -1,5 +1,6 @@
 -- The names of a machine's types and glues, and that its system is valid.
 use Rattle.std.proofs.Common.{◌≡◌, ◌<◌, ◌≤◌, ℕ, List, [], ◌∷◌, length, Contains, refl, sym, ◌∙◌, ap, arith, codes}
+use Rattle.std.specs.List.{slice_index_or}
 use Rattle.std.proofs.lemmas.Int.{ints}
 use Rattle.atam.specs.Sites.{IsBox, InBox}
 use Rattle.atam.specs.TileSystem.{IsName, IsValid}
@@ -11,7 +12,8 @@ use Rattle.turing_compile.specs.declared.kind.Kind.{Kind}
 use Rattle.turing_compile.specs.declared.kind.Kind.TheVariants.{First, Action, FromLeft, FromRight, RightOf, LeftOf}
 use Rattle.turing_compile.specs.declared.kind.Label.{Label}
 use Rattle.turing_compile.specs.declared.kind.Label.TheVariants.{Symbol, Acting, Rightward, Leftward, HeadRightward, HeadLeftward, Joint}
-use Rattle.turing_compile.specs.Compiled.{kinds, state_name, symbol_name, pair_name, kind_name, label_name, tiles_of, area_of, compiled}
+use Rattle.turing_compile.specs.Compiled.{pair_name, kind_name, label_name, tiles_of, compiled}
+use Rattle.turing_compile.specs.Inner.Listed.{kinds, area_of}
 use Rattle.turing_compile.specs.Inner.Members.{IsKind, IsLabel}
 use Rattle.turing_compile.proofs.MachineFacts.{pair_bounds}
 use Rattle.turing_compile.proofs.Listed.{kind_listed, listed_kind, listed_label, label_count, kind_count, is_tile_set}
@@ -40,25 +42,25 @@ head_of [] = 0
 head_of (x ∷ xs) = x
 
 module _ (M : TuringMachine) (is_machine : IsMachine M) where
-  state_short : (q : ℕ) → q < length M.states → IsShort (state_name M q)
+  state_short : (q : ℕ) → q < length M.states → IsShort (slice_index_or M.states q [])
   state_short q less = short_name M.states is_machine.state_names q less
 
-  symbol_short : (a : ℕ) → a < length M.symbols → IsShort (symbol_name M a)
+  symbol_short : (a : ℕ) → a < length M.symbols → IsShort ((slice_index_or M.symbols a []))
   symbol_short a less = short_name M.symbols is_machine.symbol_names a less
 
   pair_rest : (q a : ℕ) → q < length M.states → a < length M.symbols → IsRest (pair_name M q a)
-  pair_rest q a q_less a_less = rest-pair (state_name M q) (symbol_name M a) (state_short q q_less) (symbol_short a a_less)
+  pair_rest q a q_less a_less = rest-pair (slice_index_or M.states q []) ((slice_index_or M.symbols a [])) (state_short q q_less) (symbol_short a a_less)
 
   -- what is told by names
-  same_state : (p q : ℕ) → p < length M.states → q < length M.states → state_name M p ≡ state_name M q → p ≡ q
+  same_state : (p q : ℕ) → p < length M.states → q < length M.states → (slice_index_or M.states p []) ≡ (slice_index_or M.states q []) → p ≡ q
   same_state p q p_less q_less same = one_name M.states is_machine.state_names p q p_less q_less same
 
-  same_symbol : (a b : ℕ) → a < length M.symbols → b < length M.symbols → symbol_name M a ≡ symbol_name M b → a ≡ b
+  same_symbol : (a b : ℕ) → a < length M.symbols → b < length M.symbols → (slice_index_or M.symbols a []) ≡ (slice_index_or M.symbols b []) → a ≡ b
   same_symbol a b a_less b_less same = one_name M.symbols is_machine.symbol_names a b a_less b_less same
 
   same_pair : (p a q b : ℕ) → p < length M.states → a < length M.symbols → q < length M.states → b < length M.symbols → pair_name M p a ≡ pair_name M q b → (p ≡ q) × (a ≡ b)
   same_pair p a q b p_less a_less q_less b_less same =
-      let both = one_pair (state_name M p) (symbol_name M a) (state_name M q) (symbol_name M b) (state_short p p_less).bytes (state_short q q_less).bytes same in
+      let both = one_pair ((slice_index_or M.states p [])) ((slice_index_or M.symbols a [])) (slice_index_or M.states q []) ((slice_index_or M.symbols b [])) (state_short p p_less).bytes (state_short q q_less).bytes same in
       (same_state p q p_less q_less both.0, same_symbol a b a_less b_less both.1)
 
   kind_named : (k : Kind) → IsKind M k → IsName (kind_name M k)
@@ -66,8 +68,8 @@ module _ (M : TuringMachine) (is_machine : IsMachine M) where
   kind_named (Action q a) kind = let r = pair_bounds M is_machine q a kind in named 97 (pair_name M q a) refl (pair_rest q a r.0 r.1)
   kind_named (FromLeft q a) kind = named 82 (pair_name M q a) refl (pair_rest q a kind.0 kind.1)
   kind_named (FromRight q a) kind = named 76 (pair_name M q a) refl (pair_rest q a kind.0 kind.1)
-  kind_named (RightOf a) kind = named 114 (symbol_name M a) refl (rest-short (symbol_name M a) (symbol_short a kind))
-  kind_named (LeftOf a) kind = named 108 (symbol_name M a) refl (rest-short (symbol_name M a) (symbol_short a kind))
+  kind_named (RightOf a) kind = named 114 ((slice_index_or M.symbols a [])) refl (rest-short ((slice_index_or M.symbols a [])) (symbol_short a kind))
+  kind_named (LeftOf a) kind = named 108 ((slice_index_or M.symbols a [])) refl (rest-short ((slice_index_or M.symbols a [])) (symbol_short a kind))
 
   kind_coded : (k : Kind) → head_of (kind_name M k) ≡ kind_code k
   unfolding head_of kind_code
@@ -99,12 +101,12 @@ module _ (M : TuringMachine) (is_machine : IsMachine M) where
   one_kind j k first second code same = let never : ⊥ = omega (arith, code) in absurd never
 
   label_named : (g : Label) → IsLabel M g → IsName (label_name M g)
-  label_named (Symbol a) label = named 115 (symbol_name M a) refl (rest-short (symbol_name M a) (symbol_short a label))
+  label_named (Symbol a) label = named 115 ((slice_index_or M.symbols a [])) refl (rest-short ((slice_index_or M.symbols a [])) (symbol_short a label))
   label_named (Acting q a) label = let r = pair_bounds M is_machine q a label in named 104 (pair_name M q a) refl (pair_rest q a r.0 r.1)
   label_named Rightward label = named_byte 114 refl
   label_named Leftward label = named_byte 108 refl
-  label_named (HeadRightward q) label = named 82 (state_name M q) refl (rest-short (state_name M q) (state_short q label))
-  label_named (HeadLeftward q) label = named 76 (state_name M q) refl (rest-short (state_name M q) (state_short q label))
+  label_named (HeadRightward q) label = named 82 (slice_index_or M.states q []) refl (rest-short (slice_index_or M.states q []) (state_short q label))
+  label_named (HeadLeftward q) label = named 76 (slice_index_or M.states q []) refl (rest-short (slice_index_or M.states q []) (state_short q label))
   label_named (Joint i) label =
       let most = is_machine.cell_count in
       let within = label.1 in

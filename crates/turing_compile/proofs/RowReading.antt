@@ -9,7 +9,7 @@ use Rattle.std.proofs.lemmas.Bool.Decides.{eqb_tells}
 use Rattle.atam.specs.declared.place.Place.{Place}
 use Rattle.atam.proofs.Lists.{some_or_none}
 use Rattle.machine_text.specs.declared.config.Head.{Head}
-use Rattle.machine_text.specs.Machines.{TuringMachine, Configuration, symbol_at, IsMachine, IsConfigOf}
+use Rattle.machine_text.specs.Machines.{TuringMachine, Configuration, IsMachine, IsConfigOf}
 use Rattle.turing_compile.specs.declared.kind.Shown.{Shown}
 use Rattle.turing_compile.specs.Tiles.{state_in, cell_of}
 use Rattle.turing_compile.specs.Rows.{type_shown, tile_shown, all_of, head_shown, heads_from, shown_config, row_config}
@@ -133,7 +133,7 @@ module _ (c : Configuration) where
   no_heads : (a n : ℕ) → ((i : ℕ) → a ≤ i → i < a + n → state_in c.head i ≡ None) → heads_from a (map (cell_of c) (range_with_len a n)) ≡ []
   no_heads a zero h = refl
   no_heads a (suc n) h =
-      ap (λ o. head_shown a (record { symbol = symbol_at c a; state = o }) ++ heads_from (a + 1) (map (cell_of c) (range_with_len (a + 1) n))) (h a (omega arith) (omega arith))
+      ap (λ o. head_shown a (record { symbol = slice_index c.symbols a; state = o }) ++ heads_from (a + 1) (map (cell_of c) (range_with_len (a + 1) n))) (h a (omega arith) (omega arith))
       ∙ no_heads (a + 1) n (λ i above below. h i (omega (arith, above)) (omega (arith, below)))
 
   one_head : (head : Head) → c.head ≡ Some head → (a n : ℕ) → a ≤ head.cell → head.cell < a + n → heads_from a (map (cell_of c) (range_with_len a n)) ≡ head ∷ []
@@ -142,7 +142,7 @@ module _ (c : Configuration) where
     | inl same ↦
         let state : state_in c.head a ≡ Some head.state = ap (λ g. state_in g a) there ∙ ap (λ t. cond t (Some head.state) None) same.0 in
         let is_head : record { cell = a; state = head.state } ≡ head = λ z. record { cell = same.1 z; state = head.state } in
-        ap (λ o. head_shown a (record { symbol = symbol_at c a; state = o }) ++ heads_from (a + 1) (map (cell_of c) (range_with_len (a + 1) n))) state
+        ap (λ o. head_shown a (record { symbol = slice_index c.symbols a; state = o }) ++ heads_from (a + 1) (map (cell_of c) (range_with_len (a + 1) n))) state
         ∙ ap (λ hs. record { cell = a; state = head.state } ∷ hs) (no_heads (a + 1) n (λ i past within.
         let cell = same.1 in
         ap (λ g. state_in g i) there ∙ ap (λ t. cond t (Some head.state) None) (eqb_other i head.cell (λ e. let never : ⊥ = omega (arith, e, past, cell) in never))))
@@ -150,7 +150,7 @@ module _ (c : Configuration) where
     | inr other ↦
         let state : state_in c.head a ≡ None = ap (λ g. state_in g a) there ∙ ap (λ t. cond t (Some head.state) None) other.0 in
         let differ = other.1 in
-        ap (λ o. head_shown a (record { symbol = symbol_at c a; state = o }) ++ heads_from (a + 1) (map (cell_of c) (range_with_len (a + 1) n))) state
+        ap (λ o. head_shown a (record { symbol = slice_index c.symbols a; state = o }) ++ heads_from (a + 1) (map (cell_of c) (range_with_len (a + 1) n))) state
         ∙ one_head head there (a + 1) n (omega (arith, above, differ)) (omega (arith, below))
   ]
 

@@ -1,5 +1,6 @@
 -- The table of a machine grows the rows of its run.
-use Rattle.std.proofs.Common.{◌≡◌, ◌≢◌, ◌⊎◌, ◌<◌, ◌≤◌, ◌==◌, cond, is_some, ℕ, zero, suc, true, false, length, Option, Some, None, refl, sym, ◌∙◌, ap, subst, inl, inr, arith, zero-le}
+use Rattle.std.proofs.Common.{◌-◌, ◌≡◌, ◌≢◌, ◌⊎◌, ◌<◌, ◌≤◌, ◌==◌, cond, is_some, ℕ, zero, suc, true, false, length, Option, Some, None, refl, sym, ◌∙◌, ap, subst, inl, inr, arith, zero-le}
+use Rattle.std.specs.Prelude.{slice_index}
 use Rattle.std.proofs.Math.Nat.{le_refl}
 use Rattle.std.proofs.lemmas.Option.{same_Some, none-some, option_and_then_some}
 use Rattle.std.proofs.lemmas.Bool.{cases_lt, cases_order}
@@ -14,7 +15,7 @@ use Rattle.machine_text.specs.declared.rule.Turn.{Turn}
 use Rattle.machine_text.specs.declared.rule.Turn.TheVariants.{Left, Right, Stay}
 use Rattle.machine_text.specs.declared.rule.Rule.{Rule}
 use Rattle.machine_text.specs.declared.config.Head.{Head}
-use Rattle.machine_text.specs.Machines.{TuringMachine, Configuration, symbol_at, last_cell, first, action, next, after, IsMachine, IsConfigOf}
+use Rattle.machine_text.specs.Machines.{TuringMachine, Configuration, first, action, next, after, IsMachine, IsConfigOf}
 use Rattle.turing_compile.specs.declared.kind.Kind.{Kind}
 use Rattle.turing_compile.specs.declared.kind.Kind.TheVariants.{First, Action, FromLeft, FromRight, RightOf, LeftOf}
 use Rattle.turing_compile.specs.declared.kind.Label.TheVariants.{Acting, Joint}
@@ -40,19 +41,19 @@ module _ (M : TuringMachine) (is_machine : IsMachine M) where
       option_and_then_some (next M) (after M y) c there (λ d before follows.
       let s = step_from M is_machine d c follows in
       shows-some (tiles_of M) (row_of M (suc y)) i North (kind_over d s.head s.act i)
-      (row_acts M (after M y) d s.head s.act i before s.there s.by ∙ ap (λ t. cond t (Some (kind_over d s.head s.act i)) None) (nat_le-true i (last_cell M) within))
+      (row_acts M (after M y) d s.head s.act i before s.there s.by ∙ ap (λ t. cond t (Some (kind_over d s.head s.act i)) None) (nat_le-true i (M.cells - 1) within))
       ∙ north_over M d s.head s.act (config_after M is_machine y d before) i s.there s.by within
       ∙ ap (λ e. upward M (cell_of e i)) s.result)
 
   -- what a cell without an acting head turns up is weak
-  plain_weak : (c : Configuration) (i : ℕ) → (state_in c.head i ≡ None) ⊎ ((q : ℕ) × (state_in c.head i ≡ Some q) × (top M q (symbol_at c i) ≡ None)) →
+  plain_weak : (c : Configuration) (i : ℕ) → (state_in c.head i ≡ None) ⊎ ((q : ℕ) × (state_in c.head i ≡ Some q) × (top M q (slice_index c.symbols i) ≡ None)) →
       label_strength (tiles_of M) (upward M (cell_of c i)) ≤ 1
-  plain_weak c i (inl away) = rw (ap (λ o. upward M (record { symbol = symbol_at c i; state = o })) away) (le_refl 1)
-  plain_weak c i (inr stopped) = rw (ap (λ o. upward M (record { symbol = symbol_at c i; state = o })) stopped.1 ∙ stopped.2) zero-le
+  plain_weak c i (inl away) = rw (ap (λ o. upward M (record { symbol = slice_index c.symbols i; state = o })) away) (le_refl 1)
+  plain_weak c i (inr stopped) = rw (ap (λ o. upward M (record { symbol = slice_index c.symbols i; state = o })) stopped.1 ∙ stopped.2) zero-le
 
   under_weak : (under : ℕ → Option Kind) (c : Configuration) → IsUnder M under c → EndsAt M under → ((i : ℕ) → label_strength (tiles_of M) (upward M (cell_of c i)) ≤ 1) →
       (i : ℕ) → label_strength (tiles_of M) (label_shown (tiles_of M) under i North) ≤ 1
-  under_weak under c is_under ends weak i = elim (cases_lt (last_cell M) i) [
+  under_weak under c is_under ends weak i = elim (cases_lt (M.cells - 1) i) [
     | inl past ↦ weak_none (tiles_of M) (label_shown (tiles_of M) under i North) (shows-none (tiles_of M) under i North (ends i past))
     | inr within ↦ rw (is_under i within) (weak i)
   ]
@@ -79,13 +80,13 @@ module _ (M : TuringMachine) (is_machine : IsMachine M) where
   ]
     where
       stopped : (c : Configuration) (head : Head) → c.head ≡ Some head → action M c head ≡ None → (i : ℕ) →
-          (state_in c.head i ≡ None) ⊎ ((q : ℕ) × (state_in c.head i ≡ Some q) × (top M q (symbol_at c i) ≡ None))
+          (state_in c.head i ≡ None) ⊎ ((q : ℕ) × (state_in c.head i ≡ Some q) × (top M q (slice_index c.symbols i) ≡ None))
       stopped c head there none i = elim (eqb_tells i head.cell) [
         | inr differ ↦ inl (ap (λ g. state_in g i) there ∙ ap (λ t. cond t (Some head.state) None) differ.0)
         | inl same ↦ inr (
           head.state,
           ap (λ g. state_in g i) there ∙ ap (λ t. cond t (Some head.state) None) same.0,
-          ap (λ n. top M head.state (symbol_at c n)) same.1 ∙ ap (λ o. cond (is_some o) (Some (Acting head.state (symbol_at c head.cell))) None) none,
+          ap (λ n. top M head.state (slice_index c.symbols n)) same.1 ∙ ap (λ o. cond (is_some o) (Some (Acting head.state (slice_index c.symbols head.cell))) None) none,
         )
       ]
 
@@ -100,25 +101,25 @@ module _ (M : TuringMachine) (is_machine : IsMachine M) where
           subst (λ n. IsHeld (tiles_of M) (row_of M y) (row_of M (suc y)) n) start
           (subst (λ s. IsHeld (tiles_of M) (row_of M y) s head.cell) same (full_held M is_machine (row_of M y) c head act config is_under (row_ends M y) there acts))
 
-  first_shows : (i : ℕ) (d : Side) → i ≤ last_cell M → label_shown (tiles_of M) (row_of M 0) i d ≡ side M (First i) d
+  first_shows : (i : ℕ) (d : Side) → i ≤ M.cells - 1 → label_shown (tiles_of M) (row_of M 0) i d ≡ side M (First i) d
   first_shows i d within = shows-some (tiles_of M) (row_of M 0) i d (First i) (first_there M i within)
 
-  first_east_none : (i : ℕ) → last_cell M ≤ i → label_shown (tiles_of M) (row_of M 0) i East ≡ None
-  first_east_none i past = elim (cases_lt (last_cell M) i) [
+  first_east_none : (i : ℕ) → M.cells - 1 ≤ i → label_shown (tiles_of M) (row_of M 0) i East ≡ None
+  first_east_none i past = elim (cases_lt (M.cells - 1) i) [
     | inl beyond ↦ shows-none (tiles_of M) (row_of M 0) i East (row_ends M 0 i beyond)
-    | inr within ↦ first_shows i East within ∙ ap (λ t. cond t (Some (Joint (suc i))) None) (not_less i (last_cell M) past)
+    | inr within ↦ first_shows i East within ∙ ap (λ t. cond t (Some (Joint (suc i))) None) (not_less i (M.cells - 1) past)
   ]
 
   first_row : (i : ℕ) → IsHeldByOneOrFree (tiles_of M) (row_of M 0 (suc i)) (label_offered (tiles_of M) (λ n. None) (row_of M 0) 0 (suc i)) West
   first_row i =
       let west = from_west (tiles_of M) (λ n. None) (row_of M 0) 0 (suc i) (omega arith) in
-      elim (cases_lt (last_cell M) (suc i)) [
+      elim (cases_lt (M.cells - 1) (suc i)) [
         | inl past ↦
             inr (free (tiles_of M) (λ n. None) (row_of M 0) 0 (suc i) (row_ends M 0 (suc i) past) (east_none (tiles_of M) (λ n. None) (row_of M 0) 0 (suc i) zero-le) zero-le
             (west ∙ first_east_none i (omega (arith, past))))
         | inr within ↦ inl (record {
           label = Joint (suc i);
-          offered = west ∙ first_shows i East (omega (arith, within)) ∙ ap (λ t. cond t (Some (Joint (suc i))) None) (is_less i (last_cell M) within);
+          offered = west ∙ first_shows i East (omega (arith, within)) ∙ ap (λ t. cond t (Some (Joint (suc i))) None) (is_less i (M.cells - 1) within);
           strong = refl;
           fits = λ k wanted. ap (λ l. side M l West) (sym (first_from M (suc i) k wanted).1);
           only = λ k listed has. first_there M (suc i) within ∙ ap (λ l. Some l) (sym (is_First M k i has));
@@ -130,13 +131,13 @@ module _ (M : TuringMachine) (is_machine : IsMachine M) where
     IsLater : Kind → Type 0
     IsLater k = IsKind M k × ((n : ℕ) → k ≢ First n)
 
-    below : (i : ℕ) → symbol_at c i < length M.symbols
+    below : (i : ℕ) → slice_index c.symbols i < length M.symbols
     below i = symbol_below M is_machine c config i
 
     left_kind : (turn : Turn) (i : ℕ) → IsLater (left_of c head turn act.state i)
     unfolding IsLater
-    left_kind Left i = elim (suc i == head.cell) as (λ t. IsLater (cond t (FromRight act.state (symbol_at c i)) (LeftOf (symbol_at c i)))) [
-      | true ↦ (((rule_bounds M is_machine head.state (symbol_at c head.cell) act acts).next_state, below i), λ n e. cc)
+    left_kind Left i = elim (suc i == head.cell) as (λ t. IsLater (cond t (FromRight act.state (slice_index c.symbols i)) (LeftOf (slice_index c.symbols i)))) [
+      | true ↦ (((rule_bounds M is_machine head.state (slice_index c.symbols head.cell) act acts).next_state, below i), λ n e. cc)
       | false ↦ (below i, λ n e. cc)
     ]
     left_kind Right i = (below i, λ n e. cc)
@@ -144,8 +145,8 @@ module _ (M : TuringMachine) (is_machine : IsMachine M) where
 
     right_kind : (turn : Turn) (i : ℕ) → IsLater (right_of c head turn act.state i)
     unfolding IsLater
-    right_kind Right i = elim (i == suc head.cell) as (λ t. IsLater (cond t (FromLeft act.state (symbol_at c i)) (RightOf (symbol_at c i)))) [
-      | true ↦ (((rule_bounds M is_machine head.state (symbol_at c head.cell) act acts).next_state, below i), λ n e. cc)
+    right_kind Right i = elim (i == suc head.cell) as (λ t. IsLater (cond t (FromLeft act.state (slice_index c.symbols i)) (RightOf (slice_index c.symbols i)))) [
+      | true ↦ (((rule_bounds M is_machine head.state (slice_index c.symbols head.cell) act acts).next_state, below i), λ n e. cc)
       | false ↦ (below i, λ n e. cc)
     ]
     right_kind Left i = (below i, λ n e. cc)
@@ -156,7 +157,7 @@ module _ (M : TuringMachine) (is_machine : IsMachine M) where
     over_kind i =
         elim (cases_order i head.cell) [
           | inl same ↦
-              let here : IsLater (Action head.state (symbol_at c head.cell)) = (ap is_some acts, λ n e. cc) in
+              let here : IsLater (Action head.state (slice_index c.symbols head.cell)) = (ap is_some acts, λ n e. cc) in
               subst (λ m. IsLater (kind_over c head act m)) (sym same) (subst IsLater (sym (over_here M c head act)) here)
           | inr rest ↦ elim rest [
             | inl less ↦ subst IsLater (sym (over_left M c head act i less)) (left_kind act.turn i)
@@ -212,7 +213,7 @@ module _ (M : TuringMachine) (is_machine : IsMachine M) where
   ]
 
   south_border : (i : ℕ) → label_strength (tiles_of M) (label_shown (tiles_of M) (row_of M 0) i South) ≤ 1
-  south_border i = elim (cases_lt (last_cell M) i) [
+  south_border i = elim (cases_lt (M.cells - 1) i) [
     | inl past ↦ weak_none (tiles_of M) (label_shown (tiles_of M) (row_of M 0) i South) (shows-none (tiles_of M) (row_of M 0) i South (row_ends M 0 i past))
     | inr within ↦ weak_none (tiles_of M) (label_shown (tiles_of M) (row_of M 0) i South) (first_shows i South within)
   ]
@@ -222,7 +223,7 @@ module _ (M : TuringMachine) (is_machine : IsMachine M) where
     seed_there = first_there M 0 zero-le;
     first_start = refl;
     starts = start_within;
-    columns = λ i y k tile. elim (cases_lt (last_cell M) i) [
+    columns = λ i y k tile. elim (cases_lt (M.cells - 1) i) [
       | inl past ↦ absurd (none-some k (sym (row_ends M y i past) ∙ tile))
       | inr within ↦ let last = last_is M is_machine in omega (arith, within, last)
     ];

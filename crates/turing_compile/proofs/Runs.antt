@@ -17,7 +17,8 @@ use Rattle.machine_text.proofs.Steps.{stays_stopped}
 use Rattle.turing_compile.specs.declared.kind.Kind.{Kind}
 use Rattle.turing_compile.specs.declared.kind.Kind.TheVariants.{First}
 use Rattle.turing_compile.specs.Tiles.{shown}
-use Rattle.turing_compile.specs.Compiled.{kinds, tiles_of, area_of, compiled}
+use Rattle.turing_compile.specs.Compiled.{tiles_of, compiled}
+use Rattle.turing_compile.specs.Inner.Listed.{kinds, area_of}
 use Rattle.turing_compile.specs.Rows.{type_shown, row_config}
 use Rattle.turing_compile.specs.Laws.{ShowsRun, IsRowOf, IsFullGrowth}
 use Rattle.turing_compile.proofs.MachineFacts.{last_is, config_after}

@@ -8,12 +8,13 @@ use Rattle.design.specs.RowDesigns.{label_strength}
 use Rattle.machine_text.specs.declared.rule.Turn.{Turn}
 use Rattle.machine_text.specs.declared.rule.Turn.TheVariants.{Left, Right, Stay}
 use Rattle.machine_text.specs.declared.rule.Rule.{Rule}
-use Rattle.machine_text.specs.Machines.{TuringMachine, rule_of}
+use Rattle.machine_text.specs.Machines.{TuringMachine, rule_among}
 use Rattle.turing_compile.specs.declared.kind.Kind.{Kind}
 use Rattle.turing_compile.specs.declared.kind.Kind.TheVariants.{First, Action, FromLeft, FromRight, RightOf, LeftOf}
 use Rattle.turing_compile.specs.declared.kind.Label.{Label}
 use Rattle.turing_compile.specs.declared.kind.Label.TheVariants.{Symbol, Acting, Rightward, Leftward, HeadRightward, HeadLeftward, Joint}
-use Rattle.turing_compile.specs.Tiles.{action_row, label_on, side}
+use Rattle.turing_compile.specs.Tiles.{action_row, side}
+use Rattle.turing_compile.specs.Inner.Rows.{label_on}
 use Rattle.turing_compile.specs.Compiled.{tiles_of}
 
 pub eqb_same : (n : ℕ) → (n == n) ≡ true
@@ -35,7 +36,7 @@ module _ (M : TuringMachine) where
   pub is_First : (k : Kind) (i : ℕ) → side M k West ≡ Some (Joint (suc i)) → k ≡ First (suc i)
   is_First (First zero) i west = cc
   is_First (First (suc j)) i west = cc
-  is_First (Action q a) i west = by (rule_of M q a) west
+  is_First (Action q a) i west = by (rule_among M.rules q a) west
     where
       by : (rule : Option Rule) → option_and_then (λ r. label_on r West) (option_map (λ act. action_row M q a act.state act.symbol act.turn) rule) ≡ Some (Joint (suc i)) → Action q a ≡ First (suc i)
       by None west = cc
@@ -51,7 +52,7 @@ module _ (M : TuringMachine) where
   is_First (LeftOf a) i west = cc
 
   action_label : (q a : ℕ) (g : Label) → side M (Action q a) South ≡ Some g → g ≡ Acting q a
-  action_label q a g south = by (rule_of M q a) south
+  action_label q a g south = by (rule_among M.rules q a) south
     where
       by : (rule : Option Rule) → option_and_then (λ r. label_on r South) (option_map (λ act. action_row M q a act.state act.symbol act.turn) rule) ≡ Some g → g ≡ Acting q a
       by None south = cc
@@ -108,7 +109,7 @@ module _ (M : TuringMachine) where
 
   pub weak_sides : (k : Kind) → ((i : ℕ) → k ≢ First i) → (weight (side M k East) ≤ 1) × (weight (side M k West) ≤ 1)
   weak_sides (First i) other = absurd (other i refl)
-  weak_sides (Action q a) other = by (rule_of M q a)
+  weak_sides (Action q a) other = by (rule_among M.rules q a)
     where
       by : (rule : Option Rule) → (weight (option_and_then (λ r. label_on r East) (option_map (λ act. action_row M q a act.state act.symbol act.turn) rule)) ≤ 1)
           × (weight (option_and_then (λ r. label_on r West) (option_map (λ act. action_row M q a act.state act.symbol act.turn) rule)) ≤ 1)

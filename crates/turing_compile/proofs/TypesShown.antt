@@ -14,7 +14,8 @@ use Rattle.design.specs.TileSets.{tile_type}
 use Rattle.machine_text.specs.Machines.{TuringMachine, IsMachine}
 use Rattle.turing_compile.specs.declared.kind.Kind.{Kind}
 use Rattle.turing_compile.specs.Tiles.{shown}
-use Rattle.turing_compile.specs.Compiled.{kinds, tiles_of, compiled}
+use Rattle.turing_compile.specs.Compiled.{tiles_of, compiled}
+use Rattle.turing_compile.specs.Inner.Listed.{kinds}
 use Rattle.turing_compile.specs.Rows.{type_shown}
 use Rattle.turing_compile.specs.Inner.Members.{IsKind}
 use Rattle.turing_compile.proofs.Listed.{listed_kind}

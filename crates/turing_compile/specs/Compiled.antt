@@ -1,10 +1,9 @@
 -- The system of a machine: its tiles in their order, with their names.
 use Rattle.std.specs.Prelude.{ℕ, ◌+◌, ◌-◌, ◌*◌, pos, Bool, is_some, List, [], ◌∷◌, ◌++◌, length, map, filter, take, codes, decimal}
 use Rattle.std.specs.List.{range_with_len, flat_map, slice_index_or}
-use Rattle.atam.specs.declared.area.BoxArea.{BoxArea}
 use Rattle.atam.specs.TileSystem.{TileSystem}
 use Rattle.design.specs.TileSets.{TileSet, system_of}
-use Rattle.machine_text.specs.Machines.{TuringMachine, rule_of, last_cell}
+use Rattle.machine_text.specs.Machines.{TuringMachine, rule_among}
 use Rattle.turing_compile.specs.declared.kind.Kind.{Kind}
 use Rattle.turing_compile.specs.declared.kind.Kind.TheVariants.{First, Action, FromLeft, FromRight, RightOf, LeftOf}
 use Rattle.turing_compile.specs.declared.kind.Label.{Label}
@@ -16,31 +15,11 @@ abbrev pub pairs : TuringMachine → List (ℕ × ℕ)
 pairs M = flat_map (λ q. map (λ a. (q, a)) (range_with_len 0 (length M.symbols))) (range_with_len 0 (length M.states))
 
 abbrev pub has_rule : TuringMachine → ℕ × ℕ → Bool
-has_rule M pair = is_some (rule_of M pair.0 pair.1)
+has_rule M pair = is_some (rule_among M.rules pair.0 pair.1)
 
 -- those that have a rule
 abbrev pub ruled_pairs : TuringMachine → List (ℕ × ℕ)
 ruled_pairs M = filter (has_rule M) (pairs M)
-
--- the kinds and the labels in the order of the types and of the glues
-abbrev pub kinds : TuringMachine → List Kind
-kinds M =
-    map First (range_with_len 0 M.cells)
-    ++ (map (λ p. Action p.0 p.1) (ruled_pairs M)
-    ++ (map (λ p. FromLeft p.0 p.1) (pairs M)
-    ++ (map (λ p. FromRight p.0 p.1) (pairs M)
-    ++ (map RightOf (range_with_len 0 (length M.symbols))
-    ++ map LeftOf (range_with_len 0 (length M.symbols))))))
-
-abbrev pub labels : TuringMachine → List Label
-labels M =
-    map Symbol (range_with_len 0 (length M.symbols))
-    ++ (map (λ p. Acting p.0 p.1) (ruled_pairs M)
-    ++ (Rightward
-    ∷ Leftward
-    ∷ (map HeadRightward (range_with_len 0 (length M.states))
-    ++ (map HeadLeftward (range_with_len 0 (length M.states))
-    ++ map Joint (range_with_len 1 (last_cell M))))))
 
 -- the place of a pair among all pairs, and among those that have a rule
 abbrev pub pair_number : TuringMachine → ℕ × ℕ → ℕ
@@ -67,37 +46,45 @@ label_number M (HeadRightward q) = length M.symbols + length (ruled_pairs M) + 2
 label_number M (HeadLeftward q) = length M.symbols + length (ruled_pairs M) + 2 + length M.states + q
 label_number M (Joint i) = length M.symbols + length (ruled_pairs M) + 1 + length M.states + length M.states + i
 
--- the names of a state, of a symbol, and of both
-abbrev pub state_name : TuringMachine → ℕ → List ℕ
-state_name M q = slice_index_or M.states q []
-
-abbrev pub symbol_name : TuringMachine → ℕ → List ℕ
-symbol_name M a = slice_index_or M.symbols a []
-
+-- the name of a state and a symbol
 abbrev pub pair_name : TuringMachine → ℕ → ℕ → List ℕ
-pair_name M q a = state_name M q ++ codes ":" ++ symbol_name M a
+pair_name M q a = slice_index_or M.states q [] ++ codes ":" ++ slice_index_or M.symbols a []
 
 abbrev pub kind_name : TuringMachine → Kind → List ℕ
 kind_name M (First i) = codes "t:" ++ decimal i
 kind_name M (Action q a) = codes "a:" ++ pair_name M q a
 kind_name M (FromLeft q a) = codes "R:" ++ pair_name M q a
 kind_name M (FromRight q a) = codes "L:" ++ pair_name M q a
-kind_name M (RightOf a) = codes "r:" ++ symbol_name M a
-kind_name M (LeftOf a) = codes "l:" ++ symbol_name M a
+kind_name M (RightOf a) = codes "r:" ++ slice_index_or M.symbols a []
+kind_name M (LeftOf a) = codes "l:" ++ slice_index_or M.symbols a []
 
 abbrev pub label_name : TuringMachine → Label → List ℕ
-label_name M (Symbol a) = codes "s:" ++ symbol_name M a
+label_name M (Symbol a) = codes "s:" ++ slice_index_or M.symbols a []
 label_name M (Acting q a) = codes "h:" ++ pair_name M q a
 label_name M Rightward = codes "r"
 label_name M Leftward = codes "l"
-label_name M (HeadRightward q) = codes "R:" ++ state_name M q
-label_name M (HeadLeftward q) = codes "L:" ++ state_name M q
+label_name M (HeadRightward q) = codes "R:" ++ slice_index_or M.states q []
+label_name M (HeadLeftward q) = codes "L:" ++ slice_index_or M.states q []
 label_name M (Joint i) = codes "c:" ++ decimal i
 
 abbrev pub tiles_of : TuringMachine → TileSet Kind Label
 tiles_of M = record {
-  kinds = kinds M;
-  labels = labels M;
+  -- in the order of the types and of the glues
+  kinds =
+      map First (range_with_len 0 M.cells)
+      ++ (map (λ p. Action p.0 p.1) (ruled_pairs M)
+      ++ (map (λ p. FromLeft p.0 p.1) (pairs M)
+      ++ (map (λ p. FromRight p.0 p.1) (pairs M)
+      ++ (map RightOf (range_with_len 0 (length M.symbols))
+      ++ map LeftOf (range_with_len 0 (length M.symbols))))));
+  labels =
+      map Symbol (range_with_len 0 (length M.symbols))
+      ++ (map (λ p. Acting p.0 p.1) (ruled_pairs M)
+      ++ (Rightward
+      ∷ Leftward
+      ∷ (map HeadRightward (range_with_len 0 (length M.states))
+      ++ (map HeadLeftward (range_with_len 0 (length M.states))
+      ++ map Joint (range_with_len 1 (M.cells - 1))))));
   side = side M;
   strength = strength;
   kind_number = kind_number M;
@@ -106,10 +93,7 @@ tiles_of M = record {
   label_name = label_name M;
 }
 
--- the box of the cells and the rows
-abbrev pub area_of : TuringMachine → BoxArea
-area_of M = record { x0 = pos 0; y0 = pos 0; x1 = pos (M.cells - 1); y1 = pos (M.rows - 1) }
-
--- the system of the machine, with the first cell of the first row as its seed
+-- the system of the machine in the box of its cells and rows, the first cell of row 0 as its seed
 abbrev pub compiled : TuringMachine → TileSystem
-compiled M = system_of (tiles_of M) (First 0) (area_of M)
+compiled M = system_of (tiles_of M) (First 0)
+    (record { x0 = pos 0; y0 = pos 0; x1 = pos (M.cells - 1); y1 = pos (M.rows - 1) })

@@ -9,7 +9,7 @@ use Rattle.machine_text.specs.declared.config.Head.{Head}
 use Rattle.machine_text.specs.Machines.{TuringMachine, Configuration}
 use Rattle.turing_compile.specs.declared.kind.Shown.{Shown}
 use Rattle.turing_compile.specs.Tiles.{shown}
-use Rattle.turing_compile.specs.Compiled.{kinds}
+use Rattle.turing_compile.specs.Inner.Listed.{kinds}
 
 -- what the type with this index shows
 abbrev pub type_shown : TuringMachine → TypeId → Option Shown

@@ -1,11 +1,11 @@
 -- The tiles of a machine: for each kind of tile its labels, and what it shows.
-use Rattle.std.specs.Prelude.{ℕ, zero, suc, nat_lt, ◌==◌, if◌then◌else◌, is_some, Option, Some, None, option_map, option_and_then}
+use Rattle.std.specs.Prelude.{ℕ, ◌-◌, ◌==◌, if◌then◌else◌, is_some, slice_index, Option, Some, None, option_map, option_and_then}
 use Rattle.atam.specs.declared.site.Side.{Side}
-use Rattle.atam.specs.declared.site.Side.TheVariants.{North, East, South, West}
+use Rattle.design.specs.Sides.{by_side, label_ahead, label_behind}
 use Rattle.machine_text.specs.declared.rule.Turn.{Turn}
 use Rattle.machine_text.specs.declared.rule.Turn.TheVariants.{Left, Right, Stay}
 use Rattle.machine_text.specs.declared.config.Head.{Head}
-use Rattle.machine_text.specs.Machines.{TuringMachine, Configuration, symbol_at, rule_of, last_cell, first}
+use Rattle.machine_text.specs.Machines.{TuringMachine, Configuration, rule_among, first}
 use Rattle.turing_compile.specs.declared.kind.Kind.{Kind}
 use Rattle.turing_compile.specs.declared.kind.Kind.TheVariants.{First, Action, FromLeft, FromRight, RightOf, LeftOf}
 use Rattle.turing_compile.specs.declared.kind.Label.{Label}
@@ -27,23 +27,15 @@ state_in (Some head) i = if i == head.cell then Some head.state else None
 
 -- a cell of a configuration, as it is to be shown
 abbrev pub cell_of : Configuration → ℕ → Shown
-cell_of c i = record { symbol = symbol_at c i; state = state_in c.head i }
+cell_of c i = record { symbol = slice_index c.symbols i; state = state_in c.head i }
 
 -- the label h:Q:A of a state and a symbol, where they have a rule
 abbrev pub top : TuringMachine → ℕ → ℕ → Option Label
-top M q a = if is_some (rule_of M q a) then Some (Acting q a) else None
+top M q a = if is_some (rule_among M.rules q a) then Some (Acting q a) else None
 
 -- the label that a shown cell turns upwards
 abbrev pub upward : TuringMachine → Shown → Option Label
-upward M shown = elim (shown.state) [ None ↦ Some (Symbol shown.symbol) | Some q ↦ top M q shown.symbol ]
-
--- the labels between a cell of the first row and the cells beside it
-abbrev pub joint_right : TuringMachine → ℕ → Option Label
-joint_right M i = if nat_lt i (last_cell M) then Some (Joint (suc i)) else None
-
-abbrev pub joint_left : ℕ → Option Label
-joint_left zero = None
-joint_left (suc i) = Some (Joint (suc i))
+upward M cell = elim (cell.state) [ None ↦ Some (Symbol cell.symbol) | Some q ↦ top M q cell.symbol ]
 
 -- a row of the table, in the order north, east, south, west, shows
 abbrev pub row : Option Label → Option Label → Option Label → Option Label → Shown → Row
@@ -59,32 +51,26 @@ action_row M q a p b Stay = row (top M p b) (Some Rightward) (Some (Acting q a))
 -- The table of the tiles; an action has a row where its pair has a rule.
 -- kind: north, east, south, west, shows
 abbrev pub table : TuringMachine → Kind → Option Row
-table M (First i) = Some (row (upward M (cell_of (first M) i)) (joint_right M i) None (joint_left i) (cell_of (first M) i))
-table M (Action q a) = option_map (λ rule. action_row M q a rule.state rule.symbol rule.turn) (rule_of M q a)
+table M (First i) =
+    let cell = cell_of (first M) i in
+    Some (row (upward M cell) (label_ahead Joint (M.cells - 1) i) None (label_behind Joint i) cell)
+table M (Action q a) =
+    option_map (λ x. action_row M q a x.state x.symbol x.turn) (rule_among M.rules q a)
 table M (FromLeft q a) = Some (row (top M q a) (Some Rightward) (Some (Symbol a)) (Some (HeadRightward q)) (headed q a))
 table M (FromRight q a) = Some (row (top M q a) (Some (HeadLeftward q)) (Some (Symbol a)) (Some Leftward) (headed q a))
 table M (RightOf a) = Some (row (Some (Symbol a)) (Some Rightward) (Some (Symbol a)) (Some Rightward) (plain a))
 table M (LeftOf a) = Some (row (Some (Symbol a)) (Some Leftward) (Some (Symbol a)) (Some Leftward) (plain a))
 
-abbrev pub label_on : Row → Side → Option Label
-label_on r North = r.north
-label_on r East = r.east
-label_on r South = r.south
-label_on r West = r.west
-
--- the label on a side of a kind, and what the kind shows
+-- the label on a side of a kind
 abbrev pub side : TuringMachine → Kind → Side → Option Label
-side M k d = option_and_then (λ r. label_on r d) (table M k)
+side M k d = option_and_then (λ r. by_side r.north r.east r.south r.west d) (table M k)
 
+-- what a kind shows
 abbrev pub shown : TuringMachine → Kind → Option Shown
 shown M k = option_map (λ r. r.shows) (table M k)
 
 -- those that hold a tile alone have strength 2
 abbrev pub strength : Label → ℕ
-strength (Symbol a) = 1
 strength (Acting q a) = 2
-strength Rightward = 1
-strength Leftward = 1
-strength (HeadRightward q) = 1
-strength (HeadLeftward q) = 1
 strength (Joint i) = 2
+strength g = 1

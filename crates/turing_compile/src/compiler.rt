@@ -1,7 +1,8 @@
 // A machine as a tile system.
 ghost use Rattle.std.specs.Prelude.{◌≡◌, IfOk, IfSome};
 ghost use Rattle.machine_text.specs.Machines.{IsMachine};
-ghost use Rattle.turing_compile.specs.Compiled.{area_of, compiled};
+ghost use Rattle.turing_compile.specs.Compiled.{compiled};
+ghost use Rattle.turing_compile.specs.Inner.Listed.{area_of};
 
 use crate::kind::{Kind, Label};
 use crate::listing::{kinds, labels};

@@ -1,8 +1,9 @@
 // The lists of a machine's kinds and labels.
 ghost use Rattle.std.specs.Prelude.{◌≡◌, ◌<◌, ◌≤◌, ◌-◌, [], ◌∷◌, ◌++◌, length, map, filter, take, IfOk, OnOk};
 ghost use Rattle.std.specs.List.{range_with_len};
-ghost use Rattle.machine_text.specs.Machines.{IsMachine, last_cell};
-ghost use Rattle.turing_compile.specs.Compiled.{kinds, labels, has_rule, pairs, ruled_pairs};
+ghost use Rattle.machine_text.specs.Machines.{IsMachine};
+ghost use Rattle.turing_compile.specs.Compiled.{has_rule, pairs, ruled_pairs};
+ghost use Rattle.turing_compile.specs.Inner.Listed.{kinds, labels};
 
 use crate::kind::{Kind, Label};
 use machine_text::Machine;
@@ -41,7 +42,7 @@ fn sideways(alloc: Global, machine: &Machine) -> Result<Vec<Label>, NoMemory>
     ensures { IfOk result (λ found. found.items
         ≡ Label.Rightward ∷ Label.Leftward ∷ (map Label.HeadRightward (range_with_len 0 (length machine.now.states))
         ++ (map Label.HeadLeftward (range_with_len 0 (length machine.now.states))
-        ++ map Label.Joint (range_with_len 1 (last_cell machine.now))))) }
+        ++ map Label.Joint (range_with_len 1 (machine.now.cells - 1))))) }
 {
     let mut labels = Vec::new(alloc);
     labels.push(Label::Rightward)?;

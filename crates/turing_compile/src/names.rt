@@ -1,6 +1,7 @@
 // The names of kinds and labels.
-ghost use Rattle.std.specs.Prelude.{◌≡◌, ◌≤◌, ◌<◌, ◌+◌, ◌∷◌, ◌++◌, decimal, length};
-ghost use Rattle.turing_compile.specs.Compiled.{kind_name, label_name, pair_name, state_name, symbol_name};
+ghost use Rattle.std.specs.Prelude.{◌≡◌, ◌≤◌, ◌<◌, ◌+◌, [], ◌∷◌, ◌++◌, decimal, length};
+ghost use Rattle.std.specs.List.{slice_index_or};
+ghost use Rattle.turing_compile.specs.Compiled.{kind_name, label_name, pair_name};
 ghost use Rattle.turing_compile.specs.Inner.Members.{IsKind, IsLabel};
 ghost use Rattle.machine_text.specs.Machines.{IsMachine};
 ghost use Rattle.tile_table.specs.declared.short_text.TheConstants.{SHORT_ROOM};
@@ -65,7 +66,8 @@ fn add_paired(text: &mut ShortText, machine: &Machine, letter: u8, state: u32, s
     requires state { state < length machine.now.states }
     requires symbol { symbol < length machine.now.symbols }
     requires room { length text.old
-        + (3 + length (state_name machine.now state) + length (symbol_name machine.now symbol)) ≤ SHORT_ROOM }
+        + (3 + length (slice_index_or machine.now.states state [])
+        + length (slice_index_or machine.now.symbols symbol [])) ≤ SHORT_ROOM }
     ensures { text.new ≡ text.old ++ (letter ∷ 58 ∷ pair_name machine.now state symbol) }
 {
     add_prefixed(text, letter, state_name(machine, state));
@@ -76,7 +78,7 @@ fn add_paired(text: &mut ShortText, machine: &Machine, letter: u8, state: u32, s
 #[tactic(auto, using(std::proofs::lemmas::Option::get_or_from_slice_get))]
 fn state_name(machine: &Machine, state: u32) -> &[u8]
     requires { state < length machine.now.states }
-    ensures { result.now ≡ state_name machine.now state }
+    ensures { result.now ≡ slice_index_or machine.now.states state [] }
 {
     machine.state_name(state)
 }
@@ -84,7 +86,7 @@ fn state_name(machine: &Machine, state: u32) -> &[u8]
 #[tactic(auto, using(std::proofs::lemmas::Option::get_or_from_slice_get))]
 fn symbol_name(machine: &Machine, symbol: u32) -> &[u8]
     requires { symbol < length machine.now.symbols }
-    ensures { result.now ≡ symbol_name machine.now symbol }
+    ensures { result.now ≡ slice_index_or machine.now.symbols symbol [] }
 {
     machine.symbol_name(symbol)
 }

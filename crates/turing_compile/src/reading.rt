@@ -2,7 +2,8 @@
 ghost use Rattle.std.specs.Prelude.{◌≡◌, ◌<◌, ◌≤◌, ◌^◌, length, option_map, IfOk, IfSome};
 ghost use Rattle.atam.specs.Assembly.{Fits};
 ghost use Rattle.machine_text.specs.Machines.{IsConfigOf, IsMachine};
-ghost use Rattle.turing_compile.specs.Compiled.{compiled, kinds};
+ghost use Rattle.turing_compile.specs.Compiled.{compiled};
+ghost use Rattle.turing_compile.specs.Inner.Listed.{kinds};
 ghost use Rattle.turing_compile.specs.Rows.{heads_from, row_config, row_shown, shown_config, tile_shown, type_shown};
 ghost use Rattle.turing_compile.specs.Tiles.{shown};
 ghost use Rattle.turing_compile.specs.Inner.Members.{IsKind};

@@ -1,7 +1,9 @@
 // The table of a machine's tiles.
-ghost use Rattle.std.specs.Prelude.{◌≡◌, ◌<◌, length, Some, IfSome};
+ghost use Rattle.std.specs.Prelude.{◌≡◌, ◌<◌, ◌-◌, length, Some, IfSome};
 ghost use Rattle.machine_text.specs.Machines.{IsMachine, first};
-ghost use Rattle.turing_compile.specs.Tiles.{cell_of, headed, joint_left, joint_right, label_on, plain, strength, table, top, upward};
+ghost use Rattle.turing_compile.specs.Tiles.{cell_of, headed, plain, strength, table, top, upward};
+ghost use Rattle.turing_compile.specs.Inner.Rows.{label_on};
+ghost use Rattle.design.specs.Sides.{label_ahead, label_behind};
 ghost use Rattle.turing_compile.specs.Inner.Members.{IsKind};
 
 use crate::kind::{Kind, Label, Row, Shown};
@@ -198,7 +200,7 @@ fn upward(machine: &Machine, shown: Shown) -> Option<Label>
 // The labels between a cell of the first row and the cells beside it.
 fn joint_right(machine: &Machine, cell: u32) -> Option<Label>
     requires { cell < machine.now.cells }
-    ensures { result ≡ joint_right machine.now cell }
+    ensures { result ≡ label_ahead Label.Joint (machine.now.cells - 1) cell }
 {
     if cell < machine.cells() - 1 {
         Some(Label::Joint { cell: cell + 1 })
@@ -208,7 +210,7 @@ fn joint_right(machine: &Machine, cell: u32) -> Option<Label>
 }
 
 fn joint_left(cell: u32) -> Option<Label>
-    ensures { result ≡ joint_left cell }
+    ensures { result ≡ label_behind Label.Joint cell }
 {
     match cell {
         0 => None,

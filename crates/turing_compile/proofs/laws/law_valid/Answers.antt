@@ -1,7 +1,8 @@
 use Rattle.std.proofs.Common.{arith}
 use Rattle.std.proofs.lemmas.List.{length-map}
 use Rattle.design.specs.TileSets.{glue_of, tile_type}
-use Rattle.turing_compile.specs.Compiled.{kinds, labels, tiles_of}
+use Rattle.turing_compile.specs.Compiled.{tiles_of}
+use Rattle.turing_compile.specs.Inner.Listed.{kinds, labels}
 use Rattle.turing_compile.proofs.Listed.{label_count, kind_count}
 use Rattle.turing_compile.proofs.Named.{compiled_valid}
 use Rattle.turing_compile.proofs.laws.law_valid.Goals as goal
