@@ -1,13 +1,8 @@
 -- What stands in each cell of a counter, by its row.
 use Rattle.std.proofs.Common.{ℕ, zero, suc, ◌-◌, ◌%◌, ◌/◌, ◌^◌, ◌==◌, nat_lt, nat_le, Bool, true, ◌&&◌, cond, Option, Some, None}
-use Rattle.atam.specs.declared.site.Side.{Side}
 use Rattle.counter_compile.specs.declared.kind.Kind.{Kind}
 use Rattle.counter_compile.specs.declared.kind.Kind.TheVariants.{First, AddEast, AddMiddle, AddWest, CopyWest, CopyMiddle, CopyEast}
-use Rattle.counter_compile.specs.declared.label.Label.{Label}
-use Rattle.counter_compile.specs.Tiles.{bit, by_column, on_side, sides_of}
-
-abbrev pub side : ℕ → ℕ → Kind → Side → Option Label
-side last v k d = on_side (sides_of last v k) d
+use Rattle.counter_compile.specs.Tiles.{bit, by_column}
 
 -- whether the bits below the one of weight 2^p are all 1, so that an added 1 is carried into it
 abbrev pub carry : ℕ → ℕ → Bool

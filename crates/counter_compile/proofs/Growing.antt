@@ -14,8 +14,8 @@ use Rattle.counter_compile.specs.declared.kind.Kind.{Kind}
 use Rattle.counter_compile.specs.declared.kind.Kind.TheVariants.{First, AddEast, AddMiddle, AddWest, CopyWest, CopyMiddle, CopyEast}
 use Rattle.counter_compile.specs.declared.label.Label.{Label}
 use Rattle.counter_compile.specs.declared.label.Label.TheVariants.{BitWest, Bit, BitEast, SumEast, Carry, SumWest, GoAhead, Chain}
-use Rattle.counter_compile.specs.Tiles.{bit, by_column, xor, tiles_of}
-use Rattle.counter_compile.proofs.Cells.{side, carry, Row, Base, Adding, Copying, row_above, row_at, value_in, kind_in, cells_of}
+use Rattle.counter_compile.specs.Tiles.{bit, by_column, xor, tiles_of, side}
+use Rattle.counter_compile.proofs.Cells.{carry, Row, Base, Adding, Copying, row_above, row_at, value_in, kind_in, cells_of}
 use Rattle.counter_compile.proofs.Bits.{bit-suc, carry-suc, carry-out}
 use Rattle.counter_compile.proofs.Listed.{IsKind, kind_listed}
 

@@ -15,9 +15,8 @@ use Rattle.counter_compile.specs.declared.kind.Kind.{Kind}
 use Rattle.counter_compile.specs.declared.kind.Kind.TheVariants.{First, AddEast, AddMiddle, AddWest, CopyWest, CopyMiddle, CopyEast}
 use Rattle.counter_compile.specs.declared.label.Label.{Label}
 use Rattle.counter_compile.specs.declared.label.Label.TheVariants.{BitWest, Bit, BitEast, SumEast, Carry, SumWest, GoAhead, Chain}
-use Rattle.counter_compile.specs.Tiles.{bit, by_column, kind_number, kinds_of, tiles_of, later_kinds, fixed_labels}
+use Rattle.counter_compile.specs.Tiles.{bit, by_column, kind_number, kinds_of, tiles_of, later_kinds, fixed_labels, side}
 use Rattle.counter_compile.specs.Inner.Labels.{label_number}
-use Rattle.counter_compile.proofs.Cells.{side}
 
 -- one number more
 range-push : {X : Type 0} (f : ℕ → X) (a n : ℕ) → map f (range_with_len a n) ++ f (a + n) ∷ [] ≡ map f (range_with_len a (suc n))

@@ -18,11 +18,13 @@ use Rattle.counter_compile.specs.Tiles.{digit, shown_bit, kinds_of, tiles_of}
 abbrev pub row_count : ℕ → ℕ → ℕ
 row_count bits start = 2 * (2 ^ bits - start)
 
-abbrev pub counter_box : ℕ → ℕ → BoxArea
-counter_box bits start = record { x0 = pos 0; y0 = pos 0; x1 = pos (bits - 1); y1 = pos (row_count bits start - 1) }
-
+-- the system of a counter in the box of its columns and rows, the first tile as its seed
 abbrev pub counter_system : ℕ → ℕ → TileSystem
-counter_system bits start = system_of (tiles_of (bits - 1) start) (First 0) (counter_box bits start)
+counter_system bits start = system_of (tiles_of (bits - 1) start) (First 0)
+    (record { x0 = pos 0; y0 = pos 0; x1 = pos (bits - 1); y1 = pos (row_count bits start - 1) })
+
+abbrev pub counter_box : ℕ → ℕ → BoxArea
+counter_box bits start = (counter_system bits start).area
 
 -- why a counter is refused: it has 2 to 32 bits, starts at a number of so many bits, and has at most 1024 rows
 unfoldable pub counter_refusal : ℕ → ℕ → Option CounterStop

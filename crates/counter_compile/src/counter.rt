@@ -1,7 +1,8 @@
 // The table of a counter.
-ghost use Rattle.std.specs.Prelude.{ℕ, ◌≡◌, ◌-◌, ◌<◌, ◌^◌, ◌++◌, IfOk, map};
+ghost use Rattle.std.specs.Prelude.{ℕ, ◌≡◌, ◌-◌, ◌<◌, ◌^◌, ◌++◌, ◌&&◌, if◌then◌else◌, Some, None, IfOk, map};
 ghost use Rattle.std.specs.List.{range_with_len};
-ghost use Rattle.counter_compile.specs.Tiles.{bit, by_column, chain_east, chain_west, kinds_of, labels_of, on_side, shown_bit, sides_of, sum_west};
+ghost use Rattle.design.specs.Sides.{label_ahead, label_behind};
+ghost use Rattle.counter_compile.specs.Tiles.{bit, by_column, kinds_of, labels_of, shown_bit, tiles_of, xor};
 ghost use Rattle.counter_compile.specs.declared.label.Label.TheVariants.{Bit, BitEast, BitWest};
 
 use crate::kind::{Kind, LATER_KINDS};
@@ -87,7 +88,7 @@ impl Counter {
 
     // The label on a side of a kind.
     fn label_on(&self, kind: Kind, side: Side) -> Option<Label>
-        ensures { result ≡ on_side (sides_of self.now.last self.now.start kind) side }
+        ensures { result ≡ (tiles_of self.now.last self.now.start).side kind side }
     {
         match side {
             Side::North => self.north(kind),
@@ -98,7 +99,7 @@ impl Counter {
     }
 
     fn north(&self, kind: Kind) -> Option<Label>
-        ensures { result ≡ (sides_of self.now.last self.now.start kind).north }
+        ensures { result ≡ (tiles_of self.now.last self.now.start).side kind Side.North }
     {
         match kind {
             Kind::First(column) => Some(self.first_north(column)),
@@ -112,7 +113,7 @@ impl Counter {
     }
 
     fn east(&self, kind: Kind) -> Option<Label>
-        ensures { result ≡ (sides_of self.now.last self.now.start kind).east }
+        ensures { result ≡ (tiles_of self.now.last self.now.start).side kind Side.East }
     {
         match kind {
             Kind::First(column) => self.chain_east(column),
@@ -139,7 +140,7 @@ impl Counter {
 
     // What joins the tile of a column to the next one in the first row.
     fn chain_east(&self, column: u32) -> Option<Label>
-        ensures { result ≡ chain_east self.now.last column }
+        ensures { result ≡ label_ahead Label.Chain self.now.last column }
     {
         if column < self.last {
             Some(Label::Chain(column + 1))
@@ -150,7 +151,7 @@ impl Counter {
 }
 
 fn south(kind: Kind) -> Option<Label>
-    ensures { (last start : ℕ) → result ≡ (sides_of last start kind).south }
+    ensures { (last start : ℕ) → result ≡ (tiles_of last start).side kind Side.South }
 {
     match kind {
         Kind::First(_) => None,
@@ -163,7 +164,7 @@ fn south(kind: Kind) -> Option<Label>
 }
 
 fn west(kind: Kind) -> Option<Label>
-    ensures { (last start : ℕ) → result ≡ (sides_of last start kind).west }
+    ensures { (last start : ℕ) → result ≡ (tiles_of last start).side kind Side.West }
 {
     match kind {
         Kind::First(column) => chain_west(column),
@@ -176,7 +177,7 @@ fn west(kind: Kind) -> Option<Label>
 
 // What joins the tile of a column to the one before it in the first row.
 fn chain_west(column: u32) -> Option<Label>
-    ensures { result ≡ chain_west column }
+    ensures { result ≡ label_behind Label.Chain column }
 {
     if column == 0 {
         None
@@ -187,7 +188,7 @@ fn chain_west(column: u32) -> Option<Label>
 
 // What a row that adds shows upwards at the west end: nothing where the numbers end.
 fn sum_west(bit: bool, carry: bool) -> Option<Label>
-    ensures { result ≡ sum_west bit carry }
+    ensures { result ≡ (if bit && carry then None else Some (Label.SumWest (xor bit carry))) }
 {
     if bit && carry {
         None
