@@ -26,14 +26,15 @@ ACCEPTED = {
     ("cert_check:entry_at", "site_table:tile_on"): FIELDS,
     ("cert_check:bit", "type_cache:bond_if"): "the one is a bit of a number, and the other the strength of a bond",
     ("machine_text:is_last", "quadrant_compile:is_last", "tile_text:is_last"): LINES,
-    ("atam:side_of", "counter_compile:on_side", "replay_order:glue_on", "turing_compile:label_on", "type_cache:has",
-     "type_cache:strength_on"): FIELDS,
+    ("atam:side_of", "replay_order:glue_on", "type_cache:has", "type_cache:strength_on"): FIELDS,
     ("grow_core:place", "grow_core:state_of"): FIELDS,
     ("tile_system:glue_named", "tile_system:type_named"): FIELDS,
     ("assembly:type_in", "type_cache:type_of"): "the one is of a cell of a grid, and the other of a code of an index",
     ("machine_text:is_for", "quadrant_compile:is_for"): FIELDS,
     ("machine_text:word_of_kind", "quadrant_compile:word_of_kind"): LINES,
     ("quadrant_compile:kinds", "quadrant_compile:labels"):
+        "the one lists the kinds of a set of tiles, and the other its labels",
+    ("turing_compile:kinds", "turing_compile:labels"):
         "the one lists the kinds of a set of tiles, and the other its labels",
     ("machine_text:entry", "quadrant_compile:entry"): "they are of tables with other limits",
     ("job_board:is_unique", "tilebench:is_verified"): "they are of verdicts of other judges",
