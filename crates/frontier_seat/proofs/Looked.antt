@@ -34,7 +34,7 @@ use Rattle.frontier_seat.specs.declared.bursting.Burst.TheVariants.{Quiet, Spent
 use Rattle.frontier_seat.specs.Inner.Looks.{CanLook, CatchesUp, Puts, ClaimsAt, ClaimsPick, HasListed, HasTaken, ListsOpen, LooksAt}
 use Rattle.frontier_seat.specs.Inner.Pickers.{IsPickerOf}
 use Rattle.frontier_seat.specs.declared.grower.Grower.{Grower}
-use Rattle.frontier_seat.specs.declared.grower.Lent.{Lent}
+use Rattle.frontier_seat.specs.declared.grower.Setting.{Setting}
 use Rattle.frontier_seat.specs.declared.picking.Picker.{Picker}
 use Rattle.number_set.specs.Numbers.{Numbers, IsIn, Removes}
 use Rattle.assembly.specs.Cells.{cell_count}
@@ -131,7 +131,7 @@ goes_further a b c first second =
     }
 
 -- after a look it can look on
-pub can_again : (lent : Lent) (before after : Grower) →
+pub can_again : (lent : Setting) (before after : Grower) →
     CanLook lent before → GrowsOn before.growing after.growing → IsGrowing lent.sys.now after.growing → IsPickerOf lent.sys.now after.picker → after.work.area ≡ before.work.area →
     CanLook lent after
 can_again lent before after can goes growing picker area = record {
@@ -144,7 +144,7 @@ can_again lent before after can goes growing picker area = record {
 }
 
 -- of a seat of the table
-pub can_look : (lent : Lent) (g : Grower) → lent.area ≡ lent.sys.now.area → lent.table.now.sys ≡ lent.sys.now →
+pub can_look : (lent : Setting) (g : Grower) → lent.area ≡ lent.sys.now.area → lent.table.now.sys ≡ lent.sys.now →
     IsSeatOf lent.table.now g.growing.seat → IsGrowing g.growing.seat.sys g.growing → IsPickerOf g.growing.seat.sys g.picker → g.work.area ≡ g.growing.seat.sys.area →
     CanLook lent g
 can_look lent g box system seat growing picker area =

@@ -9,7 +9,7 @@ ghost use Rattle.frontier_seat.specs.Inner.Listings.{IsSpot};
 ghost use Rattle.frontier_seat.specs.Inner.Looks.{CanLook, HasCandidate, HasListed, TakesSteps};
 ghost use Rattle.frontier_seat.specs.Inner.Pickers.{IsPickerOf};
 
-use crate::grower::{Grower, Lent};
+use crate::grower::{Grower, Setting};
 use crate::picking::Picker;
 use crate::work_list::Spot;
 use crate::{Chooser, Growing};
@@ -32,7 +32,7 @@ impl<'i> Grower<'i> {
     // claims are made or no site is left.
     pub(crate) fn spend<C: Chooser, L: Ledger>(
         &mut self,
-        lent: Lent<'_, '_>,
+        lent: Setting<'_, '_>,
         chooser: &mut C,
         most: u32,
         steps: &mut Steps<L>,
@@ -65,7 +65,7 @@ impl<'i> Grower<'i> {
     }
 
     // Whether a type attaches at a listed site. Sites at which none does are listed no longer.
-    pub(crate) fn is_open<C: Chooser>(&mut self, lent: Lent<'_, '_>, chooser: &mut C) -> bool
+    pub(crate) fn is_open<C: Chooser>(&mut self, lent: Setting<'_, '_>, chooser: &mut C) -> bool
         requires can { CanLook lent self.old }
         requires lists { HasListed lent.sys.now self.old }
         ensures can { CanLook lent.entry self.new }

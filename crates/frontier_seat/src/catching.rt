@@ -4,21 +4,21 @@ ghost use Rattle.atam.specs.Sites.{height_of};
 ghost use Rattle.frontier_seat.specs.Inner.Listings.{IsSpot};
 ghost use Rattle.frontier_seat.specs.Inner.Looks.{CanLook, CatchesUp, HasListed};
 
-use crate::grower::{Grower, Lent};
+use crate::grower::{Grower, Setting};
 use crate::work_list::Spot;
 
 impl<'i> Grower<'i> {
     // Looks at a site where no tile was seen. Where a tile stands, it is seen, and the empty sites
     // beside it are listed.
     #[inline(always)]
-    fn see(&mut self, lent: Lent<'_, '_>, spot: Spot)
+    fn see(&mut self, lent: Setting<'_, '_>, spot: Spot)
         requires can { CanLook lent self.old }
         requires lists { HasListed lent.sys.now self.old }
         requires spot { IsSpot lent.area spot }
         ensures catches { CatchesUp lent.entry.sys.now self.old self.new }
         ensures can { CanLook lent.entry self.new }
     {
-        let Lent { sys, table, .. } = lent;
+        let Setting { sys, table, .. } = lent;
         sys.recall_valid();
         if let Some(_tile) = self.growing.grid.tile(spot.number) {
             return;
@@ -31,7 +31,7 @@ impl<'i> Grower<'i> {
     }
 
     // The same at each site of one row, if one is empty.
-    fn see_row(&mut self, lent: Lent<'_, '_>, row: u32)
+    fn see_row(&mut self, lent: Setting<'_, '_>, row: u32)
         requires can { CanLook lent self.old }
         requires lists { HasListed lent.sys.now self.old }
         requires row { row < height_of lent.area }
@@ -41,7 +41,7 @@ impl<'i> Grower<'i> {
         if self.growing.grid.is_row_full(row) {
             return;
         }
-        let Lent { sys, area, .. } = lent;
+        let Setting { sys, area, .. } = lent;
         sys.recall_valid();
         let width = area.width();
         let first = row as usize * width as usize;
@@ -53,7 +53,7 @@ impl<'i> Grower<'i> {
     }
 
     // The same in the rows beside the worker's bands.
-    pub(crate) fn see_edges(&mut self, lent: Lent<'_, '_>)
+    pub(crate) fn see_edges(&mut self, lent: Setting<'_, '_>)
         requires can { CanLook lent self.old }
         requires lists { HasListed lent.sys.now self.old }
         ensures catches { CatchesUp lent.entry.sys.now self.old self.new }

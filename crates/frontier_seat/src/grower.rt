@@ -15,7 +15,7 @@ use tile_system::{BoxArea, Site, System};
 // What a grower is lent: the system, its table, and its box, which is held by value, since what
 // stands behind a reference is read again after each store.
 #[derive(Clone, Copy)]
-pub(crate) struct Lent<'s, 't> {
+pub(crate) struct Setting<'s, 't> {
     pub(crate) sys: &'s System,
     pub(crate) table: &'t SiteTable,
     pub(crate) area: BoxArea,
@@ -45,7 +45,7 @@ impl<'i> Grower<'i> {
     #[inline(always)]
     pub(crate) fn look<C: Chooser, L: Ledger>(
         &mut self,
-        lent: Lent<'_, '_>,
+        lent: Setting<'_, '_>,
         chooser: &mut C,
         spot: Spot,
         steps: &mut Steps<L>,
@@ -68,7 +68,7 @@ impl<'i> Grower<'i> {
     #[inline(always)]
     fn look_inside<C: Chooser, L: Ledger>(
         &mut self,
-        lent: Lent<'_, '_>,
+        lent: Setting<'_, '_>,
         chooser: &mut C,
         spot: Spot,
         steps: &mut Steps<L>,
@@ -81,7 +81,7 @@ impl<'i> Grower<'i> {
         ensures tells { TellsLook lent.entry.sys.now spot.site self.old self.new result }
         ensures cost { TakesSteps self.old self.new steps.old steps.new }
     {
-        let Lent { sys, table, area } = lent;
+        let Setting { sys, table, area } = lent;
         sys.recall_valid();
         let grid = &self.growing.grid;
         let beside = beside_inner(grid, &area, spot);
@@ -108,7 +108,7 @@ impl<'i> Grower<'i> {
     #[inline(never)]
     fn look_at_edge<C: Chooser, L: Ledger>(
         &mut self,
-        lent: Lent<'_, '_>,
+        lent: Setting<'_, '_>,
         chooser: &mut C,
         site: Site,
         number: usize,
@@ -121,7 +121,7 @@ impl<'i> Grower<'i> {
         ensures tells { TellsLook lent.entry.sys.now site self.old self.new result }
         ensures cost { TakesSteps self.old self.new steps.old steps.new }
     {
-        let Lent { sys, table, .. } = lent;
+        let Setting { sys, table, .. } = lent;
         sys.recall_valid();
         let grid = &self.growing.grid;
         let beside = grid.beside_at(site, number);

@@ -13,7 +13,7 @@ ghost use Rattle.type_index.specs.Indexes.{IsIndexOf};
 ghost use Rattle.frontier_seat.specs.Inner.Looks.{ListsOpen, MayList};
 
 use crate::beside_seeds::list_beside_seeds;
-use crate::grower::{Grower, Lent};
+use crate::grower::{Grower, Setting};
 use crate::picking::Picker;
 use crate::types::Types;
 use crate::work_list::WorkList;
@@ -248,7 +248,7 @@ impl<'i> Scout<'i> {
         list_seeded(sys, &grower.growing, self.listed, &mut grower.work);
         self.listed = true;
         let area = sys.area();
-        let lent = Lent { sys, table, area };
+        let lent = Setting { sys, table, area };
         self.grower.look_in_order(lent, chooser, steps, log);
         sys.recall_valid();
         self.grower.growing.seat.recall_possible();
@@ -290,7 +290,7 @@ impl<'i> Scout<'i> {
         self.listed = true;
         self.grower.work.cut(share, of);
         let area = sys.area();
-        let lent = Lent { sys, table, area };
+        let lent = Setting { sys, table, area };
         self.grower.spend(lent, chooser, most, steps);
         let open = self.grower.is_open(lent, chooser);
         self.grower.growing.seat.recall_possible();
@@ -319,7 +319,7 @@ impl<'i> Scout<'i> {
         self.listed = true;
         self.grower.work.cut(share, of);
         let area = sys.area();
-        self.grower.see_edges(Lent { sys, table, area });
+        self.grower.see_edges(Setting { sys, table, area });
     }
 
     /// The seat, and what it has seen.

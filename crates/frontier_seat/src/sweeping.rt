@@ -7,7 +7,7 @@ ghost use Rattle.frontier_seat.specs.Growths.{GrowsOn};
 ghost use Rattle.frontier_seat.specs.Inner.Fillings.{GrewByLog};
 ghost use Rattle.frontier_seat.specs.Inner.Looks.{CanLook, HasListed, HasTaken, LooksAt, MayLogClaim, TakesSteps};
 
-use crate::grower::{Grower, Lent};
+use crate::grower::{Grower, Setting};
 use crate::work_list::Spot;
 use crate::{Chooser, ClaimLog};
 use assembly::Row;
@@ -20,7 +20,7 @@ impl<'i> Grower<'i> {
     #[inline(never)]
     pub(crate) fn look_in_order<C: Chooser, L: Ledger>(
         &mut self,
-        lent: Lent<'_, '_>,
+        lent: Setting<'_, '_>,
         chooser: &mut C,
         steps: &mut Steps<L>,
         log: &mut ClaimLog,
@@ -53,7 +53,7 @@ impl<'i> Grower<'i> {
     #[inline(always)]
     fn look_logged<C: Chooser, L: Ledger>(
         &mut self,
-        lent: Lent<'_, '_>,
+        lent: Setting<'_, '_>,
         chooser: &mut C,
         spot: Spot,
         steps: &mut Steps<L>,

@@ -24,8 +24,8 @@ const FEW_PLACES: usize = 65_536;
 /// The verdict on a full growth in its order, by the least open site outside the box. One worker
 /// looks at each place as it comes, up to the first that is held by more than the temperature;
 /// several look at ranges of many places; and none looks where it is known that each came clean.
-/// One takes as much memory as `judge_once` does, and several as much as `inputs`, each with some of
-/// its own, but for what is lent.
+/// One takes as much memory as `judge_once` does, and several as much as `inputs`, each with some
+/// of its own, but for what is lent.
 pub fn judge_grown<R: Threads + Sync>(
     rt: &R,
     alloc: Global,

@@ -1,7 +1,6 @@
 -- What is left of a growth that was watched.
-use Rattle.std.proofs.Common.{◌≡◌, ◌≢◌, ◌<◌, ◌≤◌, ◌+◌, ◌-◌, ◌^◌, ℕ, zero, suc, List, [], ◌∷◌, ◌++◌, append-nil, length, get_or, sum, bit_or, Contains, AllPairs, lit<, lit≤, refl, sym, ◌∙◌, ap, subst, arith, inl, inr}
+use Rattle.std.proofs.Common.{◌≡◌, ◌≢◌, ◌<◌, ◌≤◌, ◌+◌, ◌-◌, ◌^◌, ℕ, zero, suc, List, [], ◌++◌, append-nil, length, get_or, sum, bit_or, Contains, lit<, lit≤, sym, ◌∙◌, ap, subst, arith, inl, inr}
 use Rattle.std.specs.Int.{bit_at}
-use lib.Count.{count_leading_zeros}
 use Rattle.std.proofs.lemmas.Bool.{cases_lt}
 use Rattle.std.proofs.lemmas.Nat.Bits.{bit_at_above, bit_at_ones}
 use Rattle.std.proofs.lemmas.List.Elements.{All-contains, Contains-append_left, Contains-append_right}
@@ -12,7 +11,7 @@ use Rattle.atam.specs.TileSystem.{TileSystem, IsType, IsValid}
 use Rattle.atam.specs.Assembly.{Attaches}
 use Rattle.atam.proofs.Canon.{producible_types}
 use Rattle.atam.proofs.Closure.{closure_of_part}
-use Rattle.atam.proofs.Tiles.{same_back, SamePlacements-trans}
+use Rattle.atam.proofs.Tiles.{same_back}
 use Rattle.assembly.specs.Grids.{TileGrid}
 use Rattle.grow_core.specs.declared.placed_tile.PlacedTile.{PlacedTile}
 use Rattle.grow_core.specs.Core.{ScoutState, Owns, greatest, placed_by}

@@ -14,7 +14,7 @@ use Rattle.type_cache.specs.Clean.{OpensExact}
 use Rattle.frontier_seat.specs.declared.growing.Growing.{Growing}
 use Rattle.frontier_seat.specs.declared.grower.Grower.{Grower}
 use Rattle.frontier_seat.specs.declared.grower.Looked.{Looked}
-use Rattle.frontier_seat.specs.declared.grower.Lent.{Lent}
+use Rattle.frontier_seat.specs.declared.grower.Setting.{Setting}
 use Rattle.frontier_seat.specs.declared.work_list.Spot.{Spot}
 use Rattle.frontier_seat.specs.Growths.{ClaimsNothing, GrowsOn, IsGrowing}
 use Rattle.frontier_seat.specs.Orders.{LoggedClaims}
@@ -67,7 +67,7 @@ abbrev pub IsClosedBut : TileSystem → List Place → (ℕ → Type 0) → Type
 IsClosedBut sys tiles Listed = (n : ℕ) (t : TypeId) → n < cell_count sys.area → IsCandidate sys tiles (site_at sys.area n) t → Listed n
 
 -- the box and the table are the system's, the seat is of the table and has seen what the grid has, and what it picks by and the sites that it is to look at are the system's
-pub record CanLook (lent : Lent) (grower : Grower) : Type 0 where
+pub record CanLook (lent : Setting) (grower : Grower) : Type 0 where
   pub box : lent.area ≡ lent.sys.now.area
   pub system : lent.table.now.sys ≡ lent.sys.now
   pub seat : IsSeatOf lent.table.now grower.growing.seat

@@ -1,4 +1,4 @@
-use Rattle.std.proofs.Common.{◌<◌, ◌∙◌, length, inl, inr, sym, subst, arith}
+use Rattle.std.proofs.Common.{◌<◌, ◌∙◌, length, inl, inr, subst, arith}
 use Rattle.atam.specs.declared.area.BoxArea.{BoxArea}
 use Rattle.atam.proofs.Count.{count_in_box}
 use Rattle.assembly.specs.Cells.{cell_count}
