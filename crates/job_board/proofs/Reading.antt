@@ -21,7 +21,7 @@ use Rattle.job_board.specs.declared.position.Position.TheVariants.{AtStart, Behi
 use Rattle.job_board.specs.declared.position.BatchItem.{BatchItem}
 use Rattle.job_board.specs.declared.position.BatchItem.TheVariants.{Header, JobLine}
 use Rattle.job_board.specs.BatchLines.{batch_format, batch_table}
-use Rattle.job_board.specs.BatchText.{ReadsJob, ReadsJobs, BeginsBatch, ReadsBatch, FailsNext, FaultBatch, sites_of, FailsSystem}
+use Rattle.job_board.specs.BatchText.{ReadsJob, ReadsJobs, BeginsBatch, ReadsBatch, FailsNext, FaultBatch, ReadsBatchOrStops, sites_of, FailsSystem}
 use Rattle.job_board.specs.Inner.FoundLines.{FindsLine}
 use Rattle.job_board.specs.Inner.Reading.{BeginsAt, FindsJob, FindsEnd, FindsNext, FindsWithin, FindsSystem}
 
@@ -121,3 +121,9 @@ batch_ends text from last jobs begins finds = record { last = last; begins = beg
 
 pub batch_fails : (text : List ℕ) (from at : Mark) (jobs : List Job) (number : ℕ) (cause : Cause) → BeginsBatch text from jobs at → FailsNext text at jobs number cause → FaultBatch text from number cause
 batch_fails text from at jobs number cause begins fails = inr (jobs, at, begins, fails)
+
+-- the same where it stops, with that fault or without memory
+pub batch_stops : {Answer : Type 0} (IsReadAs : Answer → Type 0) (text : List ℕ) (from at : Mark) (jobs : List Job) (stop : TextStop) → BeginsBatch text from jobs at → FindsNext text at jobs (Err stop) →
+    ReadsBatchOrStops text from IsReadAs (Err stop)
+batch_stops IsReadAs text from at jobs (Fault fault) begins fails = batch_fails text from at jobs fault.line fault.cause begins fails
+batch_stops IsReadAs text from at jobs NoMemory begins fails = tt

@@ -7,7 +7,7 @@ use Rattle.tile_io.specs.Lines.{line_of}
 use Rattle.unique_law.specs.Outcomes.{Outcome}
 
 abbrev done : ℕ → ℕ → List ℕ
-done jobs yes = line_of (codes "done" ∷ decimal jobs ∷ codes "yes" ∷ decimal yes ∷ [])
+done jobs yeses = line_of (codes "done" ∷ decimal jobs ∷ codes "yes" ∷ decimal yeses ∷ [])
 
 pub returns-in_err-put_answers : goal.returns-in_err-put_answers
 returns-in_err-put_answers g c =

@@ -2,10 +2,10 @@ use Rattle.job_board.proofs.Told.{full_fits, order_fits, order_legal, order_same
 use Rattle.job_board.proofs.outcome.Outcome.of.Goals as goal
 
 pub least_open_outside-outside-requires-clause-fits : goal.least_open_outside-outside-requires-clause-fits
-least_open_outside-outside-requires-clause-fits c = full_fits c.args.sys.now c.args.grown.grid.tiles c.requires.full
+least_open_outside-outside-requires-clause-fits g c = full_fits c.args.sys.now c.args.grown.grid.tiles c.requires.full
 
 pub judge_grown-requires-clause-grown : goal.judge_grown-requires-clause-grown
-judge_grown-requires-clause-grown g c =
+judge_grown-requires-clause-grown g c κs within =
     let sys = c.args.sys.now in
     let tiles = c.args.grown.grid.tiles in
     let order = c.args.grown.order in
