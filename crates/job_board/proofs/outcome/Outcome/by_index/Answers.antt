@@ -5,8 +5,8 @@ use Rattle.job_board.proofs.outcome.Outcome.by_index.Goals as goal
 
 pub returns : goal.returns
 returns g c =
-    let made = c.in_ok-outcome.outcome in
-    let same : c.shrink_to_fit.new.self ≡ made.order = c.shrink_to_fit.ensures in
+    let sys = c.args.sys.now in
+    let inside = c.outcome.inside in
     subst (λ (order : List Place).
-    Answers c.args.sys.now (record { order = order; outside = made.outside; verdict = made.verdict }))
-    (sym same) c.in_ok-outcome.ensures
+    Answers sys (record { order = order; outside = inside.outside; verdict = inside.verdict }))
+    (sym c.shrink_to_fit.ensures) (subst (Answers sys) (sym c.outcome.view_is) c.in_ok-outcome.ensures)
