@@ -10,7 +10,7 @@ least_open_outside-outside-requires-clause-fits g c =
     producible_fits c.args.sys.now c.args.grid.now.area c.args.grid.now.tiles c.requires.area c.recall_sites.ensures.inside c.requires.producible
 
 pub judge_grown-requires-clause-grown : goal.judge_grown-requires-clause-grown
-judge_grown-requires-clause-grown g c =
+judge_grown-requires-clause-grown g c κs within =
     let whole = c.in_ok-order.ensures.order in
     record {
       legal = whole.legal;
