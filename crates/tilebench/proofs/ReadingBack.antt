@@ -1,7 +1,7 @@
 -- What is printed of a growth reads back, behind the spelling of its system.
 use Rattle.tile_io.specs.Lines.{first_mark}
 use Rattle.std.proofs.Common.{take, ◌≡◌, ◌≤◌, ◌<◌, ◌==◌, ◌^◌, ◌++◌, ℕ, true, false, List, Option, Some, None, All, if◌then◌else◌, refl, sym, subst, arith}
-use Rattle.std.specs.Prelude.{slice_get, false, true}
+use Rattle.std.specs.Prelude.{slice_get}
 use Rattle.std.specs.Option.{option_map_or}
 use Rattle.std.proofs.lemmas.List.Elements.{All-contains}
 use Rattle.atam.specs.declared.limits.TheConstants.{MOST_STRENGTH}
