@@ -2,7 +2,8 @@
 ghost use Rattle.std.specs.Thread.{IsSync};
 ghost use Rattle.tilebench.specs.Inner.Gives.{GivesAnswer};
 ghost use Rattle.tilebench.specs.Inner.Runs.{EndsCommand};
-ghost use Rattle.std.specs.Prelude.{◌≡◌, ◌+◌, ◌≤◌, ◌^◌, ◌++◌, None, IfOk, ◌/◌, ◌%◌, ◌∷◌, [], codes, decimal, min};
+ghost use Rattle.std.specs.Prelude.{◌≡◌, ◌+◌, ◌/◌, ◌%◌, ◌≤◌, ◌^◌, min, [], ◌∷◌, ◌++◌, codes, decimal};
+ghost use Rattle.std.specs.Prelude.{None, IfOk};
 ghost use Rattle.tile_io.specs.Prints.{Prints};
 ghost use Rattle.counter_compile.specs.Counters.{counter_refusal, counter_system};
 ghost use Rattle.seq_text.specs.GrowthLines.{closed_line};
