@@ -1,11 +1,11 @@
 -- The text of a machine: what each kept line is, which checks it has to pass, and the machine that the lines describe.
-use Rattle.std.specs.Prelude.{◌≡◌, ℕ, ◌+◌, ◌-◌, ◌==◌, true, false, is_none, is_some, not, nat_le, nat_lt, if◌then◌else◌, List, [], ◌∷◌, ◌++◌, length, drop, map, codes, bytes_eq, option_map, Result, Ok, Err}
+use Rattle.std.specs.Prelude.{◌≡◌, ℕ, ◌+◌, ◌-◌, ◌==◌, true, is_none, is_some, not, nat_le, nat_lt, if◌then◌else◌, List, [], ◌∷◌, ◌++◌, length, drop, map, codes, bytes_eq, option_map, Result, Ok, Err}
 use Rattle.std.specs.Option.{unwrap_or}
 use Rattle.tile_io.specs.declared.fault.Cause.{Cause}
 use Rattle.tile_io.specs.declared.fault.Cause.TheVariants.{NoHeader, BadName, DoubleName}
 use Rattle.tile_io.specs.declared.mark.Mark.{Mark}
 use Rattle.tile_io.specs.Formats.{Format, Reads}
-use Rattle.tile_io.specs.Checks.{◌>>=◌, require, field, count_in, declared, referred, behind, last_of, Keyword, told_by, Table, table_format, row}
+use Rattle.tile_io.specs.Checks.{◌>>=◌, require, field, count_in, declared, referred, behind, last_of, Keyword, told_by, Table, table_to_end, table_format, row}
 use Rattle.machine_text.specs.declared.rule.Turn.{Turn}
 use Rattle.machine_text.specs.declared.rule.Turn.TheVariants.{Left, Right, Stay}
 use Rattle.machine_text.specs.declared.rule.Transition.{Transition}
@@ -99,12 +99,7 @@ machine_rows =
 
 -- only the end line completes a text
 unfoldable pub machine_table : Table MachineItem
-machine_table = record {
-  keywords = map (told_by machine_of) machine_rows;
-  has_header = true;
-  is_end = λ item. bytes_eq (word_of item) (codes "end");
-  is_complete = λ items. false;
-}
+machine_table = table_to_end word_of (map (told_by machine_of) machine_rows)
 
 -- the format of machine texts
 abbrev pub machine_format : Format MachineItem

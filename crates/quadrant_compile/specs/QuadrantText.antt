@@ -1,12 +1,12 @@
 -- The text of a quadrant: what each kept line is, which checks it has to pass, and the quadrant
 -- that the lines describe.
-use Rattle.std.specs.Prelude.{◌≡◌, ℕ, ◌+◌, ◌-◌, ◌==◌, true, false, is_none, is_some, not, nat_le, nat_lt, List, [], ◌∷◌, ◌++◌, length, drop, map, codes, bytes_eq, option_map, Result, Ok}
+use Rattle.std.specs.Prelude.{◌≡◌, ℕ, ◌+◌, ◌-◌, ◌==◌, true, is_none, is_some, not, nat_le, nat_lt, List, [], ◌∷◌, ◌++◌, length, drop, map, codes, bytes_eq, option_map, Result, Ok}
 use Rattle.std.specs.Option.{unwrap_or}
 use Rattle.tile_io.specs.declared.fault.Cause.{Cause}
 use Rattle.tile_io.specs.declared.fault.Cause.TheVariants.{NoHeader, DoubleName}
 use Rattle.tile_io.specs.declared.mark.Mark.{Mark}
 use Rattle.tile_io.specs.Formats.{Format, Reads}
-use Rattle.tile_io.specs.Checks.{◌>>=◌, require, field, count_in, declared, referred, behind, last_of, Keyword, told_by, Table, table_format, row}
+use Rattle.tile_io.specs.Checks.{◌>>=◌, require, field, count_in, declared, referred, behind, last_of, Keyword, told_by, Table, table_to_end, table_format, row}
 use Rattle.machine_text.specs.Machines.{is_short_name}
 use Rattle.machine_text.specs.MachineText.{references}
 use Rattle.quadrant_compile.specs.declared.rule.Rule.{Rule}
@@ -78,12 +78,7 @@ quadrant_rows =
 
 -- only the end line completes a text
 unfoldable pub quadrant_table : Table QuadrantItem
-quadrant_table = record {
-  keywords = map (told_by quadrant_of) quadrant_rows;
-  has_header = true;
-  is_end = λ item. bytes_eq (word_of item) (codes "end");
-  is_complete = λ items. false;
-}
+quadrant_table = table_to_end word_of (map (told_by quadrant_of) quadrant_rows)
 
 -- the format of quadrant texts
 abbrev pub quadrant_format : Format QuadrantItem

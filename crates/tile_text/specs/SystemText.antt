@@ -1,5 +1,5 @@
 -- The text of a system: what each kept line is, which checks it has to pass, and the items of a system.
-use Rattle.std.specs.Prelude.{◌≡◌, ◌≢◌, ℕ, ◌==◌, Bool, true, false, not, ◌&&◌, ◌⊎◌, nat_lt, is_none, if◌then◌else◌, List, [], ◌∷◌, ◌++◌, length, map, filter_map, codes, bytes_eq, Option, Some, None, Result, Ok, Err, pos, ◌+ℤ◌, int_le}
+use Rattle.std.specs.Prelude.{◌≡◌, ◌≢◌, ℕ, ◌==◌, Bool, true, not, ◌&&◌, ◌⊎◌, nat_lt, is_none, if◌then◌else◌, List, [], ◌∷◌, ◌++◌, length, map, filter_map, codes, bytes_eq, Option, Some, None, Result, Ok, Err, pos, ◌+ℤ◌, int_le}
 use Rattle.std.specs.List.{list_any}
 use Rattle.std.specs.Option.{option_map_or}
 use Rattle.tile_io.specs.declared.fault.Cause.{Cause}
@@ -8,7 +8,7 @@ use Rattle.tile_io.specs.declared.fault.TextStop.{TextStop}
 use Rattle.tile_io.specs.declared.fault.TextStop.TheVariants as stops
 use Rattle.tile_io.specs.declared.mark.Mark.{Mark}
 use Rattle.tile_io.specs.Formats.{Format, Fault, Reads}
-use Rattle.tile_io.specs.Checks.{◌>>=◌, require, field, count_in, declared, referred, behind, last_of, Keyword, Table, table_format, row}
+use Rattle.tile_io.specs.Checks.{◌>>=◌, require, field, count_in, declared, referred, behind, last_of, Keyword, Table, table_to_end, table_format, row}
 use Rattle.atam.specs.declared.site.Site.{Site}
 use Rattle.atam.specs.Sites.{same_site}
 use Rattle.atam.specs.declared.place.GlueId.{GlueId}
@@ -148,12 +148,7 @@ system_rows version =
 
 -- only the end line completes a text
 unfoldable pub system_table : Version → Table SystemItem
-system_table version = record {
-  keywords = system_rows version;
-  has_header = true;
-  is_end = λ item. bytes_eq (word_of item) (codes "end");
-  is_complete = λ items. false;
-}
+system_table version = table_to_end word_of (system_rows version)
 
 -- the format of system texts of a version
 abbrev pub system_format : Version → Format SystemItem
