@@ -6,10 +6,10 @@ use Rattle.std.proofs.lemmas.List.Elements.{All-cons, All-from_recursion}
 use Rattle.tile_io.specs.declared.fault.Cause.TheVariants.{BadNumber}
 use Rattle.tile_io.specs.Lines.{words_of, BeginsWithLine}
 use Rattle.tile_io.specs.FrontDigits.{StartsWithDigits, HasNoDigits}
-use Rattle.tile_io.specs.Checks.{◌>>=◌, require, are_digits, without_minus, number_in, number_value, check_line, field, last_of}
+use Rattle.tile_io.specs.Checks.{◌>>=◌, require, is_digit, are_digits, without_minus, number_in, number_value, check_line, field, last_of}
 use Rattle.tile_io.proofs.Checking.{bind_ok, require_ok}
 use Rattle.tile_io.proofs.Cuts.{is_space, is_newline}
-use Rattle.tile_io.proofs.Digits.{is_digit, in_range, digits_parts, number_within, unsigned}
+use Rattle.tile_io.proofs.Digits.{in_range, digits_parts, number_within, unsigned}
 use Rattle.tile_io.proofs.Spelled.{IsWord, IsSpelled, words_of-join, begins_spelled}
 use Rattle.tile_io.proofs.WordsSpelled.{word_from}
 use Rattle.atam.specs.declared.site.Site.{Site}

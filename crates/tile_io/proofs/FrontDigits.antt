@@ -6,9 +6,9 @@ use Rattle.std.proofs.Math.Seq.{get_or-append_seam}
 use Rattle.std.proofs.lemmas.Bool.{cases_order, le-leb}
 use Rattle.std.proofs.lemmas.List.{get_or-take}
 use Rattle.std.proofs.lemmas.List.Sums.{fold_more}
-use Rattle.tile_io.specs.Checks.{are_digits, digits_value}
+use Rattle.tile_io.specs.Checks.{is_digit, are_digits, digits_value}
 use Rattle.tile_io.specs.FrontDigits.{StartsWithDigits, HasNoDigits}
-use Rattle.tile_io.proofs.Digits.{is_digit, digits_parts, digits_each, digit_at}
+use Rattle.tile_io.proofs.Digits.{digits_parts, digits_each, digit_at}
 use Rattle.tile_io.proofs.Cuts.{byte_at}
 
 -- one digit more

@@ -6,7 +6,7 @@ use Rattle.std.specs.List.{list_all}
 use Rattle.std.proofs.lemmas.Bool.{eqb-true}
 use Rattle.std.proofs.lemmas.List.Sums.{AllPass-from_list_all}
 use Rattle.std.proofs.lemmas.List.Elements.{All-cons}
-use Rattle.tile_io.proofs.Digits.{is_digit}
+use Rattle.tile_io.specs.Checks.{is_digit}
 use Rattle.tile_io.proofs.Cuts.{is_space, is_newline}
 use Rattle.tile_io.proofs.Spelled.{IsWord}
 use Rattle.tile_io.proofs.NumberSpelled.{digits_of_decimal}

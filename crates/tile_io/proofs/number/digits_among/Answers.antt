@@ -1,5 +1,6 @@
 use Rattle.std.proofs.Common.{◌≡◌, ◌≤◌, ◌<◌, ◌^◌, ◌+◌, ◌*◌, true, false, length, get_or, sym, ap, ◌∙◌, arith, below_more}
-use Rattle.tile_io.proofs.Digits.{is_digit, digit_bounds, small_more}
+use Rattle.tile_io.specs.Checks.{is_digit}
+use Rattle.tile_io.proofs.Digits.{digit_bounds, small_more}
 use Rattle.tile_io.proofs.FrontDigits.{value_none, value_more, small_digits, digits_before, no_digits_at, no_digits_to}
 use Rattle.tile_io.proofs.number.digits_among.Goals as goal
 

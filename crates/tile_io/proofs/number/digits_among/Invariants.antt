@@ -1,6 +1,5 @@
 use Rattle.std.proofs.Common.{◌≡◌, ℕ, ◌^◌, ◌+◌, ◌≤◌, ◌<◌, true, length, get_or, take}
-use Rattle.tile_io.specs.Checks.{digits_value}
-use Rattle.tile_io.proofs.Digits.{is_digit}
+use Rattle.tile_io.specs.Checks.{is_digit, digits_value}
 use Rattle.tile_io.proofs.number.digits_among.Given as goal
 
 -- the bytes so far are digits, and write the number
