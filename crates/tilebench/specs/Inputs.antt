@@ -5,7 +5,6 @@ use Rattle.tile_io.specs.declared.fault.Cause.{Cause}
 use Rattle.tile_io.specs.declared.fault.Cause.TheVariants.{TooLong}
 use Rattle.tile_io.specs.declared.fault.TextFault.{TextFault}
 use Rattle.tile_io.specs.declared.mark.Mark.{Mark}
-use Rattle.tile_io.specs.declared.limits.TheConstants.{MOST_INPUT}
 use Rattle.tile_io.specs.Checks.{nothing_more}
 use Rattle.tile_io.specs.Lines.{first_mark}
 use Rattle.tile_io.specs.Formats.{Format, Fault, IsRead}
@@ -63,7 +62,7 @@ alone value = nothing_more
 pub record IsWholeInput (left left_after : Option (List ℕ)) (input : List ℕ) : Type 0 where
   pub read : Consumes left left_after input
   pub at_end : IsAtEnd left_after
-  pub short : length input ≤ MOST_INPUT
+  pub short : length input ≤ 67108864
 
 -- an answer to all that was left of the source
 pub record AnswersInput (Answers : List ℕ → Bool → List ℕ → Type 0) (left left_after : Option (List ℕ)) (is_yes : Bool) (text : List ℕ) : Type 0 where
@@ -75,6 +74,6 @@ pub record AnswersInput (Answers : List ℕ → Bool → List ℕ → Type 0) (l
 -- all that was left of it
 abbrev pub FailsInput : (List ℕ → TextFault → Type 0) → Option (List ℕ) → Option (List ℕ) → TextFault → Type 0
 FailsInput Fails left left_after fault =
-    ((taken : List ℕ) × Consumes left left_after taken × (MOST_INPUT < length taken)
+    ((taken : List ℕ) × Consumes left left_after taken × (67108864 < length taken)
     × (fault ≡ record { line = 0; cause = TooLong }))
     ⊎ ((input : List ℕ) × IsWholeInput left left_after input × Fails input fault)

@@ -3,7 +3,6 @@ use Rattle.std.specs.Prelude.{◌≡◌, ◌≤◌, ℕ, Bool, true, false, List
 use Rattle.tile_io.specs.declared.fault.Cause.{Cause}
 use Rattle.tile_io.specs.declared.fault.TextFault.{TextFault}
 use Rattle.tile_io.specs.declared.mark.Mark.{Mark}
-use Rattle.tile_io.specs.declared.limits.TheConstants.{MOST_INPUT}
 use Rattle.tile_io.specs.Formats.{Format}
 use Rattle.site_table.specs.Seats.{GrownValue}
 use Rattle.counter_compile.specs.declared.stop.CounterStop.{CounterStop}
@@ -58,5 +57,5 @@ FailsLeft row left left_after fault =
 -- what is left of the source is known, short and taken if it is read, and no number is refused
 pub record IsReadyFor (row : RoomRow) (left : Option (List ℕ)) : Type 0 where
   pub takes : row.reads ≡ true → (input : List ℕ) × (left ≡ Some input)
-      × (length input ≤ MOST_INPUT) × row.takes input
+      × (length input ≤ 67108864) × row.takes input
   pub accepts : (stop : CounterStop) → ¬ row.refuses stop

@@ -1,6 +1,5 @@
 -- The words of the headline, from one place.
 pub use Rattle.tile_io.specs.declared.fault.TextFault.{TextFault}
-pub use Rattle.tile_io.specs.declared.limits.TheConstants.{MOST_INPUT}
 pub use Rattle.tile_io.specs.Faults.{Rose}
 pub use Rattle.atam.specs.declared.site.Site.{Site}
 pub use Rattle.atam.specs.declared.place.TypeId.{TypeId}
