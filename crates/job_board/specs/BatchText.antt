@@ -12,7 +12,6 @@ use Rattle.atam.specs.TileSystem.{TileSystem}
 use Rattle.assembly.specs.Cells.{cell_count}
 use Rattle.tile_text.specs.SystemText.{FaultAny, ReadsAny}
 use Rattle.job_board.specs.declared.job.Job.{Job}
-use Rattle.job_board.specs.declared.limits.TheConstants.{MOST_SITES}
 use Rattle.job_board.specs.declared.position.Position.TheVariants.{AtStart, Behind}
 use Rattle.job_board.specs.declared.position.BatchItem.TheVariants.{Header, JobLine}
 use Rattle.job_board.specs.BatchLines.{ReadsLine, batch_format}
@@ -37,7 +36,7 @@ pub record BeginsBatch (text : List ℕ) (from : Mark) (jobs : List Job) (to : M
   pub start : Mark
   pub header : ReadsLine AtStart text from (Some Header) start
   pub each : ReadsJobs text start 0 jobs to
-  pub few : sites_of jobs ≤ MOST_SITES
+  pub few : sites_of jobs ≤ 4194304
 
 -- and then the end of the input
 pub record ReadsBatch (text : List ℕ) (from : Mark) (jobs : List Job) : Type 0 where
@@ -55,7 +54,7 @@ FailsSystem text from jobs number cause =
     ((end : Mark) × Reads nothing_more text from [] end × (number ≡ end.line) × (cause ≡ NoEnd))
     ⊎ ((¬ HasNoMore text from) × FaultAny text from number cause)
     ⊎ ((sys : TileSystem) × (to : Mark) × ReadsAny text from sys to
-    × (MOST_SITES < sites_of jobs + cell_count sys.area)
+    × (4194304 < sites_of jobs + cell_count sys.area)
     × (number + 1 ≡ to.line) × (cause ≡ TooMany))
 
 -- what may fail behind jobs: the next line; or the input ends with no job; or there is the line of
