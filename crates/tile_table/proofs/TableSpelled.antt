@@ -52,6 +52,7 @@ module _ {K G : Type 0} (set : TileSet K G) (numbered : IsTileSet set) (seed : K
       ap (λ o. option_map_or (λ t. t.name) o []) (slice_get-map (tile_type set) set.kinds (set.kind_number k) ∙ ap (option_map (tile_type set)) (kind_there set numbered seed area k listed))
 
   word_of_side : (k : K) (d : Side) → Contains set.kinds k → side_word (system_of set seed area) (option_map (glue_id set) (set.side k d)) ≡ label_word set (set.side k d)
+  unfolding side_word
   word_of_side k d listed = by (set.side k d) refl
     where
       by : (o : Option G) → set.side k d ≡ o → side_word (system_of set seed area) (option_map (glue_id set) o) ≡ label_word set o

@@ -102,6 +102,7 @@ record IsShortWord (word : List ℕ) : Type 0 where
   short : length word ≤ 40
 
 short_side : (sys : TileSystem) (g : Option GlueId) → IsValid sys → IfSome g (λ g. g.0 < length sys.glues) → IsShortWord (side_word sys g)
+unfolding side_word
 short_side sys None valid below = record { word_is = dash_word; short = omega arith }
 short_side sys (Some g) valid below =
     let good = (named_glue sys g valid.glue_names valid.distinct_glues below).named in

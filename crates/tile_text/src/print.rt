@@ -185,6 +185,7 @@ fn put_type<K: Sink>(
 }
 
 // The name of the glue of a side, or `-`.
+#[tactic(auto, unfolding(crate::specs::Spelling::side_word))]
 fn side_name<'a>(sys: &'a System, tile: TypeId, side: Side) -> &'a [u8]
     requires { IsType sys.now tile }
     ensures { result.now ≡ side_word sys.now (side_glue sys.now tile side) }
