@@ -1,10 +1,10 @@
 -- The text of a certificate: what each kept line is, and which checks it has to pass. It follows a system text, and names the types of that system.
-use Rattle.std.specs.Prelude.{ℕ, ◌==◌, Bool, true, false, is_none, List, [], ◌∷◌, codes, position, bytes_eq, ok_or, Option, Result, Ok}
+use Rattle.std.specs.Prelude.{ℕ, ◌==◌, Bool, true, is_none, List, [], ◌∷◌, codes, position, bytes_eq, ok_or, Option, Result, Ok}
 use Rattle.tile_io.specs.declared.fault.Cause.{Cause}
 use Rattle.tile_io.specs.declared.fault.Cause.TheVariants.{BadName, OutsideBox, DoubleSite}
 use Rattle.tile_io.specs.declared.mark.Mark.{Mark}
 use Rattle.tile_io.specs.Formats.{Format, Reads}
-use Rattle.tile_io.specs.Checks.{◌>>=◌, require, field, count_in, Keyword, Table, table_format, row}
+use Rattle.tile_io.specs.Checks.{◌>>=◌, require, field, count_in, Keyword, Table, table_of_lines, table_format, row}
 use Rattle.atam.specs.Placements.{tile_at}
 use Rattle.atam.specs.TileSystem.{TileSystem}
 use Rattle.tile_text.specs.Fields.{place_field}
@@ -38,12 +38,7 @@ mark_row sys =
 
 -- the table of the certificate texts of a system: there is no header and no end line, and the input may end after any line
 unfoldable pub certificate_table : TileSystem → Table Entry
-certificate_table sys = record {
-  keywords = mark_row sys ∷ [];
-  has_header = false;
-  is_end = λ entry. false;
-  is_complete = λ entries. true;
-}
+certificate_table sys = table_of_lines (mark_row sys ∷ [])
 
 abbrev pub certificate_format : TileSystem → Format Entry
 certificate_format sys = table_format (certificate_table sys)

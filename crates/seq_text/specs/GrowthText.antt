@@ -4,7 +4,7 @@ use Rattle.tile_io.specs.declared.fault.Cause.{Cause}
 use Rattle.tile_io.specs.declared.fault.Cause.TheVariants.{OutsideBox, DoubleSite}
 use Rattle.tile_io.specs.declared.mark.Mark.{Mark}
 use Rattle.tile_io.specs.Formats.{Format, Reads}
-use Rattle.tile_io.specs.Checks.{◌>>=◌, require, field, behind, Keyword, Table, table_format, row}
+use Rattle.tile_io.specs.Checks.{◌>>=◌, require, field, behind, Keyword, Table, table_of_lines, table_format, row}
 use Rattle.atam.specs.declared.place.Place.{Place}
 use Rattle.atam.specs.Placements.{tile_at, SamePlacements}
 use Rattle.atam.specs.TileSystem.{TileSystem}
@@ -61,12 +61,7 @@ growth_rows distinct sys =
 
 -- there is no header and no end line, and the input may end after any line
 unfoldable pub growth_table : Bool → TileSystem → Table GrowthItem
-growth_table distinct sys = record {
-  keywords = growth_rows distinct sys;
-  has_header = false;
-  is_end = λ item. false;
-  is_complete = λ items. true;
-}
+growth_table distinct sys = table_of_lines (growth_rows distinct sys)
 
 -- as a sequence, whose sites may repeat
 abbrev pub sequence_format : TileSystem → Format GrowthItem

@@ -1,9 +1,9 @@
 -- The text of a schedule: which event each kept line is, and which checks it has to pass. It follows a system text, and names the types of that system.
-use Rattle.std.specs.Prelude.{ℕ, ◌==◌, true, false, List, [], ◌∷◌, codes, Result, Ok}
+use Rattle.std.specs.Prelude.{ℕ, ◌==◌, true, List, [], ◌∷◌, codes, Result, Ok}
 use Rattle.tile_io.specs.declared.fault.Cause.{Cause}
 use Rattle.tile_io.specs.declared.mark.Mark.{Mark}
 use Rattle.tile_io.specs.Formats.{Format, Reads}
-use Rattle.tile_io.specs.Checks.{◌>>=◌, field, count_in, Keyword, Table, table_format, row}
+use Rattle.tile_io.specs.Checks.{◌>>=◌, field, count_in, Keyword, Table, table_of_lines, table_format, row}
 use Rattle.atam.specs.TileSystem.{TileSystem}
 use Rattle.tile_text.specs.Fields.{site_field, place_field}
 use Rattle.atam.specs.declared.event.Event.{Event}
@@ -37,12 +37,7 @@ schedule_rows sys =
 
 -- there is no header and no end line, and the input may end after any line
 unfoldable pub schedule_table : TileSystem → Table Event
-schedule_table sys = record {
-  keywords = schedule_rows sys;
-  has_header = false;
-  is_end = λ event. false;
-  is_complete = λ events. true;
-}
+schedule_table sys = table_of_lines (schedule_rows sys)
 
 abbrev pub schedule_format : TileSystem → Format Event
 schedule_format sys = table_format (schedule_table sys)
