@@ -35,12 +35,6 @@ seen_lines sys answers = flat_map (seen_line sys) answers
 -- the answer has a line, which names a type of the system if any: each has but want of memory
 abbrev pub HasLine : TileSystem → Result Seen CoreStop → Type 0
 HasLine sys (Ok (Saw there)) = IfSome there (IsType sys)
-HasLine sys (Ok Won) = Unit {0}
 HasLine sys (Ok (Held t)) = IsType sys t
-HasLine sys (Ok (Divided name)) = Unit {0}
-HasLine sys (Ok (Joined name)) = Unit {0}
-HasLine sys (Err NoSuchScout) = Unit {0}
-HasLine sys (Err (NotSupported pull)) = Unit {0}
-HasLine sys (Err OutsideBox) = Unit {0}
-HasLine sys (Err NoNumberLeft) = Unit {0}
 HasLine sys (Err NoMemory) = ⊥
+HasLine sys _ = Unit {0}
