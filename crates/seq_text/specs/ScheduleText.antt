@@ -1,6 +1,5 @@
 -- The text of a schedule: which event each kept line is, and which checks it has to pass. It follows a system text, and names the types of that system.
-use Rattle.std.specs.Prelude.{ℕ, ◌==◌, true, List, [], ◌∷◌, codes, Result, Ok}
-use Rattle.tile_io.specs.declared.fault.Cause.{Cause}
+use Rattle.std.specs.Prelude.{ℕ, ◌==◌, true, List, [], ◌∷◌, codes, Ok}
 use Rattle.tile_io.specs.declared.mark.Mark.{Mark}
 use Rattle.tile_io.specs.Formats.{Format, Reads}
 use Rattle.tile_io.specs.Checks.{◌>>=◌, field, count_in, Keyword, Table, table_of_lines, table_format, row}
@@ -10,28 +9,25 @@ use Rattle.atam.specs.declared.event.Event.{Event}
 use Rattle.atam.specs.declared.event.Event.TheVariants.{Look, Claim, Split, Join}
 use Rattle.seq_text.specs.GrowthText.{names_of}
 
--- the number of a scout, whether there is such a one or not
-abbrev pub scout : List ℕ → Result ℕ Cause
-scout word = count_in 0 4294967295 word
-
 -- The table of keywords: the word, how many words its line has, and its fields from left to right.
--- The lines stand in any order, and a site outside the box is no fault of the text.
+-- The lines stand in any order, and neither a scout that isn't there nor a site outside the box is
+-- a fault of the text.
 abbrev pub schedule_rows : TileSystem → List (Keyword (List Event) Event)
 schedule_rows sys =
     row (codes "look") (λ n. n == 4) (λ before. true) (λ earlier words. true) (λ earlier words. do
-      w ← scout (field words 1)
+      w ← count_in 0 4294967295 (field words 1)
       m ← site_field (field words 2) (field words 3)
       Ok (Look w m))
     ∷ row (codes "claim") (λ n. n == 5) (λ before. true) (λ earlier words. true) (λ earlier words. do
-      w ← scout (field words 1)
+      w ← count_in 0 4294967295 (field words 1)
       p ← place_field (names_of sys) (field words 2) (field words 3) (field words 4)
       Ok (Claim w p.site p.tile))
     ∷ row (codes "split") (λ n. n == 2) (λ before. true) (λ earlier words. true) (λ earlier words. do
-      w ← scout (field words 1)
+      w ← count_in 0 4294967295 (field words 1)
       Ok (Split w))
     ∷ row (codes "join") (λ n. n == 3) (λ before. true) (λ earlier words. true) (λ earlier words. do
-      w ← scout (field words 1)
-      v ← scout (field words 2)
+      w ← count_in 0 4294967295 (field words 1)
+      v ← count_in 0 4294967295 (field words 2)
       Ok (Join w v))
     ∷ []
 

@@ -1,23 +1,20 @@
 -- The lines on what scouts are told.
-use Rattle.std.specs.Prelude.{ℕ, List, [], ◌∷◌, codes, decimal, flat_map, IfSome, Option, Some, None, Result, Ok, Err}
+use Rattle.std.specs.Prelude.{ℕ, List, [], ◌∷◌, codes, decimal, flat_map, IfSome, Result, Ok, Err}
+use Rattle.std.specs.Option.{option_map_or}
 use Rattle.tile_io.specs.Lines.{line_of}
-use Rattle.atam.specs.declared.place.TypeId.{TypeId}
 use Rattle.atam.specs.TileSystem.{TileSystem, IsType, type_name}
 use Rattle.atam.specs.declared.event.Seen.{Seen}
 use Rattle.atam.specs.declared.event.Seen.TheVariants.{Saw, Won, Held, Divided, Joined}
 use Rattle.atam.specs.declared.event.CoreStop.{CoreStop}
 use Rattle.atam.specs.declared.event.CoreStop.TheVariants.{NoSuchScout, NotSupported, OutsideBox, NoNumberLeft, NoMemory}
 
--- the name of a type, or `-` where there is none
-abbrev pub name_or_none : TileSystem → Option TypeId → List ℕ
-name_or_none sys None = codes "-"
-name_or_none sys (Some t) = type_name sys t
-
--- The answer to an event: what was seen at a site, that a claim was won or which type holds the
--- site, and the name of the new or of the joined scout; or why the event is refused, by its number,
--- and for a claim that isn't supported its pull. Want of memory has no line.
+-- The answer to an event: the type that was seen at a site, or `-` where there is none, that a
+-- claim was won or which type holds the site, and the name of the new or of the joined scout; or
+-- why the event is refused, by its number, and for a claim that isn't supported its pull. Want of
+-- memory has no line.
 abbrev pub seen_line : TileSystem → Result Seen CoreStop → List ℕ
-seen_line sys (Ok (Saw there)) = line_of (codes "saw" ∷ name_or_none sys there ∷ [])
+seen_line sys (Ok (Saw there)) =
+    line_of (codes "saw" ∷ option_map_or (type_name sys) there (codes "-") ∷ [])
 seen_line sys (Ok Won) = line_of (codes "won" ∷ [])
 seen_line sys (Ok (Held t)) = line_of (codes "held" ∷ type_name sys t ∷ [])
 seen_line sys (Ok (Divided name)) = line_of (codes "split" ∷ decimal name ∷ [])

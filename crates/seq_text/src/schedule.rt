@@ -1,10 +1,11 @@
 // A schedule is read from its text.
 ghost use Rattle.std.specs.Prelude.{[], ◌≡◌, ◌≤◌, true, IfOk, List, length};
 ghost use Rattle.atam.specs.TileSystem.{TileSystem};
+ghost use Rattle.tile_io.specs.Checks.{count_in};
 ghost use Rattle.tile_io.specs.NextLine.{IsMark};
 ghost use Rattle.tile_io.specs.Formats.{ReadsOrStops};
 ghost use Rattle.atam.specs.declared.event.Event.{Event};
-ghost use Rattle.seq_text.specs.ScheduleText.{schedule_format, ReadsEvents, scout};
+ghost use Rattle.seq_text.specs.ScheduleText.{schedule_format, ReadsEvents};
 ghost use Rattle.seq_text.specs.Inner.Kinds.{action_row};
 
 use crate::action::Action;
@@ -163,9 +164,9 @@ fn read_join(words: &LineWords) -> Result<Event, Cause>
     Ok(Event::Join { into, from })
 }
 
-// The number of a scout.
+// The number of a scout, whether there is such a one or not.
 fn read_scout(word: &[u8]) -> Result<u32, Cause>
-    ensures { result ≡ scout word.now }
+    ensures { result ≡ count_in 0 4294967295 word.now }
 {
     read_count(word, 0, u32::MAX)
 }

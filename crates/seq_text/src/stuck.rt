@@ -1,6 +1,7 @@
 // The line on an assembly that can't be put in order.
+ghost use Rattle.std.specs.Prelude.{codes, decimal};
 ghost use Rattle.tile_io.specs.Prints.{Prints};
-ghost use Rattle.seq_text.specs.StuckLines.{stuck_line, stuck_seed_line, stuck_at};
+ghost use Rattle.seq_text.specs.StuckLines.{stuck_line};
 
 use itoa::Buffer;
 use tile_io::{Failed, Sink, print_line};
@@ -9,7 +10,8 @@ use tile_system::Site;
 /// Writes the `stuck` line of an assembly of which so many tiles can't be reached, the least site
 /// of theirs being this one. It takes no memory.
 pub fn print_stuck<K: Sink>(left: u32, least: Site, sink: &mut K) -> Result<(), Failed>
-    ensures { Prints K.written K.faults sink.old sink.new result (stuck_line left least) }
+    ensures { Prints K.written K.faults sink.old sink.new result
+        (stuck_line (decimal left) least) }
 {
     let mut number = Buffer::new();
     let left = number.format(left).as_bytes();
@@ -19,14 +21,14 @@ pub fn print_stuck<K: Sink>(left: u32, least: Site, sink: &mut K) -> Result<(), 
 /// Writes the `stuck` line of an assembly that lacks a seed, the one of this site. It takes no
 /// memory.
 pub fn print_stuck_seed<K: Sink>(site: Site, sink: &mut K) -> Result<(), Failed>
-    ensures { Prints K.written K.faults sink.old sink.new result (stuck_seed_line site) }
+    ensures { Prints K.written K.faults sink.old sink.new result (stuck_line (codes "seed") site) }
 {
     print_site(b"seed", site, sink)
 }
 
 // Writes the line with its second word and a site.
 fn print_site<K: Sink>(what: &[u8], site: Site, sink: &mut K) -> Result<(), Failed>
-    ensures { Prints K.written K.faults sink.old sink.new result (stuck_at what.now site) }
+    ensures { Prints K.written K.faults sink.old sink.new result (stuck_line what.now site) }
 {
     let mut x = Buffer::new();
     let mut y = Buffer::new();

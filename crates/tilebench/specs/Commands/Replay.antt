@@ -1,5 +1,5 @@
 -- `replay`: an assembly in canonical order.
-use Rattle.std.specs.Prelude.{◌≡◌, ◌≢◌, ◌⊎◌, ◌<◌, ℕ, Bool, true, false, List, ◌++◌, Some, slice_get}
+use Rattle.std.specs.Prelude.{◌≡◌, ◌≢◌, ◌⊎◌, ◌<◌, ℕ, Bool, true, false, List, ◌++◌, codes, decimal, Some, slice_get}
 use Rattle.atam.specs.declared.place.Place.{Place}
 use Rattle.atam.specs.declared.site.Site.{Site}
 use Rattle.atam.specs.TileSystem.{TileSystem}
@@ -7,7 +7,7 @@ use Rattle.atam.specs.Placements.{tile_at}
 use Rattle.replay_order.specs.ReplayAnswers.{IsWholeOrder, IsStuckAt}
 use Rattle.tile_text.specs.Spelling.{spelling}
 use Rattle.seq_text.specs.GrowthLines.{place_lines}
-use Rattle.seq_text.specs.StuckLines.{stuck_line, stuck_seed_line}
+use Rattle.seq_text.specs.StuckLines.{stuck_line}
 use Rattle.tilebench.specs.Inputs.{IsAssemblyOf, IsSystemThen}
 use Rattle.seq_text.specs.GrowthText.{ReadsPlaces}
 
@@ -24,8 +24,9 @@ pub record LacksSeedAt (sys : TileSystem) (tiles : List Place) (site : Site) : T
 -- tiles can't be reached from them, with the least site of those
 abbrev pub TellsNoOrder : TileSystem → List Place → List ℕ → Type 0
 TellsNoOrder sys tiles text =
-    ((site : Site) × LacksSeedAt sys tiles site × (text ≡ stuck_seed_line site))
-    ⊎ ((left : ℕ) × (least : Site) × IsStuckAt sys tiles left least × (text ≡ stuck_line left least))
+    ((site : Site) × LacksSeedAt sys tiles site × (text ≡ stuck_line (codes "seed") site))
+    ⊎ ((left : ℕ) × (least : Site) × IsStuckAt sys tiles left least
+    × (text ≡ stuck_line (decimal left) least))
 
 -- the canonical order of the tiles, a legal sequence with exactly their placements, and its text, which reads back behind the
 -- spelling of the system
