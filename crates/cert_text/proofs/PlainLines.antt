@@ -26,10 +26,10 @@ use Rattle.seq_text.proofs.Fields.{place_of_found}
 use Rattle.seq_text.proofs.PlainLines.{number_word, number_short}
 use Rattle.cert_check.specs.declared.entry.Entry.{Entry}
 use Rattle.cert_check.specs.Certificates.{places_of}
-use Rattle.cert_text.specs.CertificateLines.{side_words, sides_word}
-use Rattle.cert_text.specs.CertificateText.{sides_field, entry_fields, mark_row, certificate_table}
+use Rattle.cert_text.specs.CertificateLines.{side_words}
+use Rattle.cert_text.specs.CertificateText.{mark_row, certificate_table}
 use Rattle.cert_text.specs.Inner.Plain.{IsPlainMark, BeginsPlain}
-use Rattle.cert_text.proofs.SidesWords.{sides_told}
+use Rattle.cert_text.proofs.SidesWords.{sides_word, sides_field, sides_told}
 
 found_by : (o : Option ℕ) (n : ℕ) → ok_or o BadName ≡ Ok n → o ≡ Some n
 found_by None n e = absurd (cc e)
@@ -115,7 +115,7 @@ module _ (sys : TileSystem) (earlier : List Entry) (m : Site) (name sides rank :
   fields line plain = record { named = named; sides_read = sides_are_word sides s of_sides; rank_read = rank_is_word rank r of_rank }
 
   plain_line : (line : List ℕ) → IsPlainMark line m name sides rank → IsMarkLine sys earlier (words_of line) entry
-  unfolding entry_fields entry
+  unfolding entry
   plain_line line plain =
       let Reads : List (List ℕ) → Type 0 = λ words. IsMarkLine sys earlier words entry in
       let read : place_field (names_of sys) plain.column plain.row name ≡ Ok entry.place =

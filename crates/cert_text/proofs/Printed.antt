@@ -31,10 +31,10 @@ use Rattle.tile_text.proofs.SystemSpelled.{printed_any}
 use Rattle.seq_text.proofs.Printed.{behind_text}
 use Rattle.cert_check.specs.declared.entry.Entry.{Entry}
 use Rattle.cert_check.specs.Certificates.{places_of}
-use Rattle.cert_text.specs.CertificateLines.{mark_lines, mark_line, sides_word}
-use Rattle.cert_text.specs.CertificateText.{certificate_table, certificate_format, entry_fields, mark_row, ReadsCertificate}
+use Rattle.cert_text.specs.CertificateLines.{mark_lines, mark_line}
+use Rattle.cert_text.specs.CertificateText.{certificate_table, certificate_format, mark_row, ReadsCertificate}
 use Rattle.cert_text.specs.PrintedCertificates.{MayBePrinted, ReadsBack, printed_input}
-use Rattle.cert_text.proofs.SidesWords.{sides_told}
+use Rattle.cert_text.proofs.SidesWords.{sides_word, sides_told}
 
 abbrev entry_words : TileSystem → Entry → List (List ℕ)
 entry_words sys e = codes "mark" ∷ signed_decimal e.place.site.x ∷ signed_decimal e.place.site.y ∷ type_name sys e.place.tile ∷ sides_word e.sides ∷ decimal e.rank ∷ []
@@ -94,7 +94,7 @@ module _ (sys : TileSystem) (valid : IsValid sys) where
       }
 
   mark_checks : (done : List Entry) (e : Entry) → MayBeMarked sys e → tile_at (places_of done) e.place.site ≡ None → (certificate_format sys).check done (entry_words sys e) ≡ Ok e
-  unfolding certificate_table entry_fields place_field site_field
+  unfolding certificate_table place_field site_field
   mark_checks done e may free =
       let plain = plain_seed sys.area e.place valid.box may.inside in
       let named = named_seed sys e.place valid.type_names valid.distinct_types may.kind in

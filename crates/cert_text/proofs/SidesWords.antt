@@ -1,11 +1,19 @@
 -- The word of a set of sides reads as it.
 use Rattle.std.proofs.Common.{◌≡◌, ℕ, zero, suc, ◌≤◌, ◌<◌, Bool, true, length, Ok, refl, arith}
-use Rattle.std.specs.Prelude.{nat_le, ◌&&◌}
-use Rattle.std.specs.List.{list_all}
+use Rattle.std.specs.Prelude.{nat_le, ◌&&◌, List, [], Result, position, bytes_eq, ok_or}
+use Rattle.std.specs.List.{list_all, slice_index_or}
+use Rattle.tile_io.specs.declared.fault.Cause.{Cause}
+use Rattle.tile_io.specs.declared.fault.Cause.TheVariants.{BadName}
 use Rattle.tile_io.proofs.Spelled.{IsWord}
 use Rattle.tile_io.proofs.WordsSpelled.{word_from}
-use Rattle.cert_text.specs.CertificateLines.{sides_word}
-use Rattle.cert_text.specs.CertificateText.{sides_field}
+use Rattle.cert_text.specs.CertificateLines.{side_words}
+
+-- the word of a set of sides, and the set that a word states
+abbrev pub sides_word : ℕ → List ℕ
+sides_word sides = slice_index_or side_words sides []
+
+abbrev pub sides_field : List ℕ → Result ℕ Cause
+sides_field word = ok_or (position (bytes_eq word) side_words) BadName
 
 -- a word of at most four letters, which reads as the set
 pub record HasSidesWord (sides : ℕ) : Type 0 where

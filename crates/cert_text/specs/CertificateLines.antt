@@ -17,13 +17,10 @@ side_words =
     codes "-" ∷ codes "N" ∷ codes "E" ∷ codes "NE" ∷ codes "S" ∷ codes "NS" ∷ codes "ES" ∷ codes "NES"
     ∷ codes "W" ∷ codes "NW" ∷ codes "EW" ∷ codes "NEW" ∷ codes "SW" ∷ codes "NSW" ∷ codes "ESW" ∷ codes "NESW" ∷ []
 
-abbrev pub sides_word : ℕ → List ℕ
-sides_word sides = slice_index_or side_words sides []
-
 -- the line of an entry: a column, a row, the name of a type, a word of sides and a rank
 abbrev pub mark_line : TileSystem → Entry → List ℕ
 mark_line sys e = line_of (codes "mark" ∷ signed_decimal e.place.site.x ∷ signed_decimal e.place.site.y
-    ∷ type_name sys e.place.tile ∷ sides_word e.sides ∷ decimal e.rank ∷ [])
+    ∷ type_name sys e.place.tile ∷ slice_index_or side_words e.sides [] ∷ decimal e.rank ∷ [])
 
 -- the lines of the entries, in their order
 abbrev pub mark_lines : TileSystem → List Entry → List ℕ

@@ -1,6 +1,5 @@
 -- The text of a certificate: what each kept line is, and which checks it has to pass. It follows a system text, and names the types of that system.
-use Rattle.std.specs.Prelude.{ℕ, ◌==◌, Bool, true, is_none, List, [], ◌∷◌, codes, position, bytes_eq, ok_or, Option, Result, Ok}
-use Rattle.tile_io.specs.declared.fault.Cause.{Cause}
+use Rattle.std.specs.Prelude.{ℕ, ◌==◌, true, is_none, List, [], ◌∷◌, codes, position, bytes_eq, ok_or, Ok}
 use Rattle.tile_io.specs.declared.fault.Cause.TheVariants.{BadName, OutsideBox, DoubleSite}
 use Rattle.tile_io.specs.declared.mark.Mark.{Mark}
 use Rattle.tile_io.specs.Formats.{Format, Reads}
@@ -14,27 +13,17 @@ use Rattle.cert_check.specs.declared.entry.Entry.{Entry}
 use Rattle.cert_check.specs.Certificates.{places_of}
 use Rattle.cert_text.specs.CertificateLines.{side_words}
 
--- the stated sides: their word, as it is printed
-abbrev pub sides_field : List ℕ → Result ℕ Cause
-sides_field word = ok_or (position (bytes_eq word) side_words) BadName
-
--- the fields of a `mark` line, the last of which is the rank
-unfoldable pub entry_fields : TileSystem → List (List ℕ) → Result Entry Cause
-entry_fields sys words = do
-  p ← place_field (names_of sys) (field words 1) (field words 2) (field words 3)
-  sides ← sides_field (field words 4)
-  rank ← count_in 0 4294967295 (field words 5)
-  Ok (record { place = p; sides = sides; rank = rank })
-
--- the row of the table: the lines stand in any order, the site is in the box, and no earlier entry
--- has it
+-- The row of the table: the place, the word of its stated sides, as it is printed, and the rank.
+-- The lines stand in any order, the site is in the box, and no earlier entry has it.
 abbrev pub mark_row : TileSystem → Keyword (List Entry) Entry
 mark_row sys =
     row (codes "mark") (λ n. n == 6) (λ before. true) (λ earlier words. true) (λ earlier words. do
-      e ← entry_fields sys words
-      _ ← require (is_in_box sys.area e.place.site) OutsideBox
-      _ ← require (is_none (tile_at (places_of earlier) e.place.site)) DoubleSite
-      Ok e)
+      p ← place_field (names_of sys) (field words 1) (field words 2) (field words 3)
+      sides ← ok_or (position (bytes_eq (field words 4)) side_words) BadName
+      rank ← count_in 0 4294967295 (field words 5)
+      _ ← require (is_in_box sys.area p.site) OutsideBox
+      _ ← require (is_none (tile_at (places_of earlier) p.site)) DoubleSite
+      Ok (record { place = p; sides = sides; rank = rank }))
 
 -- the table of the certificate texts of a system: there is no header and no end line, and the input may end after any line
 unfoldable pub certificate_table : TileSystem → Table Entry

@@ -10,7 +10,7 @@ ghost use Rattle.tile_io.specs.Blocks.{ReadsInBlocks};
 ghost use Rattle.tile_io.specs.NextLine.{IsMark};
 ghost use Rattle.tile_io.specs.Formats.{ReadsOrStops};
 ghost use Rattle.cert_check.specs.Certificates.{places_of};
-ghost use Rattle.cert_text.specs.CertificateText.{ReadsCertificate, certificate_format, entry_fields, mark_row};
+ghost use Rattle.cert_text.specs.CertificateText.{ReadsCertificate, certificate_format, mark_row};
 ghost use Rattle.cert_text.specs.Inner.Plain.{BeginsPlain};
 ghost use Rattle.cert_text.specs.Inner.SoFar.{AreKept};
 ghost use Rattle.tile_io.specs.Checks.{count_in};
@@ -200,15 +200,18 @@ impl<'a> CertificateReader<'a> {
         ensures sides { IfOk result (λ e. e.sides < 16) }
         ensures free { IfOk result (λ e. tile_at self.now.grid.tiles e.place.site ≡ None) }
     {
-        let entry = read_entry(self.system, words)?;
-        let site = entry.place.site;
-        if !self.system.area().holds(site) {
+        let name = words.word(3);
+        let found = self.system.find_type(name);
+        let place = read_place(words.word(1), words.word(2), name, found)?;
+        let sides = read_sides(words.word(4))?;
+        let rank = read_rank(words.word(5))?;
+        if !self.system.area().holds(place.site) {
             return Err(Cause::OutsideBox);
         }
-        if !self.is_free(site) {
+        if !self.is_free(place.site) {
             return Err(Cause::DoubleSite);
         }
-        Ok(entry)
+        Ok(Entry { place, sides, rank })
     }
 
     // The `mark` line at the front, where it is in its plain form and no entry has its site.
@@ -260,22 +263,6 @@ impl<'a> CertificateReader<'a> {
         self.grid.put(entry.place);
         Ok(())
     }
-}
-
-// The fields of a `mark` line.
-#[tactic(auto, unfolding(crate::specs::CertificateText::entry_fields))]
-fn read_entry(sys: &System, words: &LineWords) -> Result<Entry, Cause>
-    requires { length words.now ≡ 6 }
-    ensures entry { result ≡ entry_fields sys.now words.now }
-    ensures known { IfOk result (λ e. IsType sys.now e.place.tile) }
-    ensures sides { IfOk result (λ e. e.sides < 16) }
-{
-    let name = words.word(3);
-    let found = sys.find_type(name);
-    let place = read_place(words.word(1), words.word(2), name, found)?;
-    let sides = read_sides(words.word(4))?;
-    let rank = read_rank(words.word(5))?;
-    Ok(Entry { place, sides, rank })
 }
 
 // The rank of an entry.

@@ -1,14 +1,14 @@
 // The words of sets of sides.
-ghost use Rattle.std.specs.Prelude.{◌≡◌, ◌<◌, ◌≤◌, [], ◌∷◌, ◌++◌, take, IfOk};
-ghost use Rattle.cert_text.specs.CertificateLines.{sides_word, side_letter};
-ghost use Rattle.cert_text.specs.CertificateText.{sides_field};
+ghost use Rattle.std.specs.Prelude.{◌≡◌, ◌<◌, ◌≤◌, [], ◌∷◌, ◌++◌, take, position, bytes_eq, ok_or, IfOk};
+ghost use Rattle.std.specs.List.{slice_index_or};
+ghost use Rattle.cert_text.specs.CertificateLines.{side_words, side_letter};
 
 use tile_io::Cause;
 use tile_system::Side;
 
 /// The sides that a word states, as bits.
 pub(crate) fn read_sides(word: &[u8]) -> Result<u8, Cause>
-    ensures value { result ≡ sides_field word.now }
+    ensures value { result ≡ ok_or (position (bytes_eq word.now) side_words) Cause.BadName }
     ensures small { IfOk result (λ sides. sides < 16) }
 {
     match word {
@@ -36,7 +36,7 @@ pub(crate) fn read_sides(word: &[u8]) -> Result<u8, Cause>
 /// both have.
 pub(crate) fn sides_text(sides: u8) -> (&'static [u8; 8], usize)
     requires { sides < 16 }
-    ensures text { take result.1 result.0.now ≡ sides_word sides ++ 32 ∷ [] }
+    ensures text { take result.1 result.0.now ≡ slice_index_or side_words sides [] ++ 32 ∷ [] }
     ensures short { result.1 ≤ 5 }
 {
     match sides {

@@ -2,7 +2,7 @@ use Rattle.std.proofs.Common.{◌≡◌, [], ◌∷◌, ◌++◌, codes, decimal
 use Rattle.std.proofs.lemmas.Int.{ints, to_z-of_z}
 use Rattle.std.specs.Fmt.{signed_decimal}
 use Rattle.atam.specs.TileSystem.{type_name}
-use Rattle.cert_text.specs.CertificateLines.{sides_word}
+use Rattle.cert_text.proofs.SidesWords.{sides_word}
 use Rattle.cert_text.proofs.printing.hold_mark.Goals as goal
 
 pub returns : goal.returns

@@ -11,9 +11,10 @@ use Rattle.tile_text.proofs.Boxes.{inside_passes}
 use Rattle.seq_text.proofs.Printed.{named_type}
 use Rattle.cert_check.specs.declared.entry.Entry.{Entry}
 use Rattle.cert_check.specs.Certificates.{places_of}
-use Rattle.cert_text.specs.CertificateText.{certificate_table, sides_field}
+use Rattle.cert_text.specs.CertificateText.{certificate_table}
 use Rattle.cert_text.specs.Inner.Plain.{BeginsPlain}
 use Rattle.cert_text.proofs.PlainLines.{BeginsWithMark, IsMarkLine, plain_front, mark_taken}
+use Rattle.cert_text.proofs.SidesWords.{sides_field}
 use Rattle.cert_text.proofs.reader.CertificateReaderLineReader.take_front.Goals as goal
 
 -- a `mark` line in its plain form, with a type that was found by its name
