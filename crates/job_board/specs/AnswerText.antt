@@ -1,5 +1,6 @@
 -- The text of the answers to a batch.
-use Rattle.std.specs.Prelude.{ℕ, ◌+◌, Bool, true, false, List, [], ◌∷◌, ◌++◌, length, filter, codes, decimal}
+use Rattle.std.specs.Prelude.{ℕ, Bool, true, false, List, [], ◌∷◌, ◌++◌, length, filter, flat_map, zip, codes, decimal}
+use Rattle.std.specs.List.{enumerate_from}
 use Rattle.tile_io.specs.Lines.{line_of}
 use Rattle.atam.specs.TileSystem.{TileSystem}
 use Rattle.atam.specs.declared.verdict.Verdict.{Verdict}
@@ -19,17 +20,13 @@ abbrev pub growth_text : TileSystem → Outcome → List ℕ
 growth_text sys outcome = place_lines sys outcome.order ++ closed_line sys outcome.outside ++ verdict_line sys outcome.verdict
 
 -- the line of a job, and then what answers it
-abbrev pub answer_text : ℕ → Job → Outcome → List ℕ
-answer_text number job outcome = line_of (codes "job" ∷ decimal number ∷ []) ++ growth_text job.sys outcome
+abbrev pub answer_text : ℕ × (Job × Outcome) → List ℕ
+answer_text (number, (job, outcome)) =
+    line_of (codes "job" ∷ decimal number ∷ []) ++ growth_text job.sys outcome
 
--- those of jobs that are numbered from this one on
-abbrev pub answers_from : ℕ → List Job → List Outcome → List ℕ
-answers_from number [] outcomes = []
-answers_from number (job ∷ jobs) [] = []
-answers_from number (job ∷ jobs) (outcome ∷ outcomes) = answer_text number job outcome ++ answers_from (number + 1) jobs outcomes
-
--- and then how many jobs there are, and how many of the answers are a yes
+-- those of jobs that are numbered from 0 on, and then how many jobs there are, and how many of the
+-- answers are a yes
 abbrev pub batch_text : List Job → List Outcome → List ℕ
-batch_text jobs outcomes = answers_from 0 jobs outcomes
+batch_text jobs outcomes = flat_map answer_text (enumerate_from 0 (zip jobs outcomes))
     ++ line_of (codes "done" ∷ decimal (length jobs)
     ∷ codes "yes" ∷ decimal (length (filter (λ outcome. is_unique outcome.verdict) outcomes)) ∷ [])

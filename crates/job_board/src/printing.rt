@@ -1,11 +1,12 @@
 // The lines of the answers to a batch.
-ghost use Rattle.std.specs.Prelude.{◌≡◌, All, IfSome, length, ◌∷◌, [], codes, decimal, filter};
+ghost use Rattle.std.specs.Prelude.{◌≡◌, All, IfSome, length, ◌∷◌, [], codes, decimal, filter, flat_map, zip};
+ghost use Rattle.std.specs.List.{enumerate_from};
 ghost use Rattle.atam.specs.TileSystem.{IsType};
 ghost use Rattle.tile_io.specs.Chunks.{PassesOn};
 ghost use Rattle.tile_io.specs.Prints.{Prints};
 ghost use Rattle.atam.specs.Verdicts.{NamesTypes};
 ghost use Rattle.job_board.specs.Answers.{AnswerEach, Answers};
-ghost use Rattle.job_board.specs.AnswerText.{answer_text, answers_from, batch_text, is_unique};
+ghost use Rattle.job_board.specs.AnswerText.{answer_text, batch_text, is_unique};
 ghost use Rattle.job_board.specs.AnswerText.{growth_text};
 ghost use Rattle.tile_io.specs.Lines.{line_of};
 
@@ -39,7 +40,7 @@ fn put_answers<K: Sink>(
 ) -> Result<(), Failed>
     requires { AnswerEach jobs.now outcomes.now }
     ensures { PassesOn K.written K.faults sink.old sink.new chunk.old chunk.new result
-        (answers_from 0 jobs.now outcomes.now) }
+        (flat_map answer_text (enumerate_from 0 (zip jobs.now outcomes.now))) }
 {
     let Some(first) = jobs.first() else {
         return Ok(());
@@ -69,7 +70,7 @@ fn put_answer<'a, K: Sink>(
 ) -> Result<(), Failed>
     requires { Answers job.now.sys outcome.now }
     ensures { PassesOn K.written K.faults sink.old sink.new chunk.old chunk.new result
-        (answer_text number job.now outcome.now) }
+        (answer_text (number, (job.now, outcome.now))) }
 {
     let mut text = Buffer::new();
     chunk.put_line(sink, b"job", &[text.format(number).as_bytes()])?;

@@ -5,9 +5,9 @@ use Rattle.std.proofs.lemmas.Result.{err_from_is_err_and}
 use Rattle.std.specs.Option.{option_copied}
 use Rattle.tile_io.proofs.Printing.{PassesOn-both, PassesOn-fails, PassesOn-stopped, PassesOn-text}
 use Rattle.job_board.specs.Answers.{Answers}
-use Rattle.job_board.specs.AnswerText.{answer_text, answers_from}
+use Rattle.job_board.specs.AnswerText.{answer_text}
 use Rattle.job_board.proofs.Outcomes.{AllZip-at, AllZip-length}
-use Rattle.job_board.proofs.Printed.{PassesOn-nothing, answers-empty, answers-next, answers-end}
+use Rattle.job_board.proofs.Printed.{PassesOn-nothing, answers_from, answers-empty, answers-next, answers-end}
 use Rattle.job_board.proofs.printing.put_answers.Goals as goal
 
 pub loop-number-init : goal.loop-number-init
@@ -39,9 +39,9 @@ loop-number-preserved g c =
     let there = slice_get_read outcomes _ k outcome refl (omega (arith, AllZip-length _ _ _ c.requires)) c.index-outcomes-number.is in
     let next = answers-next k k jobs outcomes job outcome here there in
     record {
-      printed = before.printed ++ answer_text k job outcome;
+      printed = before.printed ++ answer_text (k, (job, outcome));
       passes = PassesOn-both before.passes c.in_ok-put_answer.ensures;
-      others = append_assoc before.printed (answer_text k job outcome) (answers_from (k + 1) (drop (k + 1) jobs) (drop (k + 1) outcomes)) ∙ (ap (λ rest. before.printed ++ rest) (sym next) ∙ before.others);
+      others = append_assoc before.printed (answer_text (k, (job, outcome))) (answers_from (k + 1) (drop (k + 1) jobs) (drop (k + 1) outcomes)) ∙ (ap (λ rest. before.printed ++ rest) (sym next) ∙ before.others);
     }
 
 pub returns-in_err-put_answer : goal.returns-in_err-put_answer
@@ -56,7 +56,7 @@ returns-in_err-put_answer g c =
     let there = slice_get_read outcomes _ k outcome refl (omega (arith, AllZip-length _ _ _ c.requires)) c.index-outcomes-number.is in
     let next = answers-next k k jobs outcomes job outcome here there in
     let rest = answers_from (k + 1) (drop (k + 1) jobs) (drop (k + 1) outcomes) in
-    let told = append_assoc before.printed (answer_text k job outcome) rest ∙ (ap (λ more. before.printed ++ more) (sym next) ∙ before.others) in
+    let told = append_assoc before.printed (answer_text (k, (job, outcome))) rest ∙ (ap (λ more. before.printed ++ more) (sym next) ∙ before.others) in
     let p = err_from_is_err_and c.from_residual.result c.from_residual.ensures.1 in
     rw p.1 (PassesOn-text told (PassesOn-stopped rest (PassesOn-fails before.passes c.in_err-put_answer.ensures)))
 

@@ -1,7 +1,7 @@
 use Rattle.std.proofs.Common.{◌≡◌, ◌++◌, ℕ, List, drop, Ok}
 use Rattle.tile_io.specs.declared.outside.Failed.{Failed}
 use Rattle.tile_io.specs.Chunks.{PassesOn}
-use Rattle.job_board.specs.AnswerText.{answers_from}
+use Rattle.job_board.proofs.Printed.{answers_from}
 use Rattle.job_board.proofs.printing.put_answers.Given as goal
 
 -- the answers so far have been taken, and the others follow
