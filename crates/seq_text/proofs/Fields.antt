@@ -13,11 +13,10 @@ use Rattle.tile_text.specs.Fields.{place_field, site_field}
 use Rattle.tile_text.specs.SystemText.{is_in_box}
 use Rattle.tile_text.proofs.Built.{position_map}
 use Rattle.tile_text.proofs.Inverse.{place_ok}
-use Rattle.seq_text.proofs.Scratch.{places_of, may_stand}
+use Rattle.seq_text.proofs.Scratch.{placed_item, places_of, may_stand}
 use Rattle.seq_text.specs.GrowthText.{GrowthItem, names_of, place_in}
 use Rattle.seq_text.specs.Inner.Kinds.{row_of}
 use Rattle.seq_text.specs.declared.kind.LineKind.TheVariants as kinds
-use Rattle.seq_text.specs.GrowthText.GrowthItem.{PlaceLine}
 
 -- a type's place in the system is that of its name
 pub type_found : (sys : TileSystem) (name : List ℕ) → type_named sys.types name ≡ position (bytes_eq name) (names_of sys)
@@ -54,7 +53,7 @@ module _ (distinct : Bool) (sys : TileSystem) where
         free = require_ok (may_stand distinct earlier one.0.site) DoubleSite three.0 three.1;
       })
 
-  pub place_item : (earlier : List GrowthItem) (words : List (List ℕ)) (item : GrowthItem) → (row_of distinct sys kinds.Place).fields earlier words ≡ Ok item → (p : Place) × (PlaceLine p ≡ item) × MayStand distinct sys (places_of earlier) p
+  pub place_item : (earlier : List GrowthItem) (words : List (List ℕ)) (item : GrowthItem) → (row_of distinct sys kinds.Place).fields earlier words ≡ Ok item → (p : Place) × (placed_item p ≡ item) × MayStand distinct sys (places_of earlier) p
   place_item earlier words item e =
-      let one = bind_ok (place_in distinct sys (places_of earlier) words) (λ p. Ok (PlaceLine p)) item e in
+      let one = bind_ok (place_in distinct sys (places_of earlier) words) (λ p. Ok (placed_item p)) item e in
       (one.0, cc (one.2), place_stands (places_of earlier) words one.0 one.1)

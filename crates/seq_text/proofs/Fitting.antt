@@ -1,6 +1,6 @@
 -- What a growth text reads as: types of the system at sites of its box, and for a grid at distinct sites.
 use Rattle.std.proofs.Common.{◌≡◌, ℕ, ◌≤◌, Bool, true, false, cond, List, [], ◌∷◌, ◌++◌, length, codes, Some, None, Ok, refl, sym, ap, subst, ◌∙◌, arith}
-use Rattle.std.specs.Prelude.{bytes_eq, filter_map}
+use Rattle.std.specs.Prelude.{IfSome, bytes_eq}
 use Rattle.std.proofs.lemmas.List.Elements.{All-nil}
 use Rattle.tile_io.specs.declared.fault.Cause.{Cause}
 use Rattle.tile_io.specs.declared.mark.Mark.{Mark}
@@ -18,14 +18,13 @@ use Rattle.atam.proofs.Sequences.{Fits-push}
 use Rattle.assembly.specs.Grids.{TileGrid}
 use Rattle.atam.proofs.Opening.{Fits-part}
 use Rattle.tile_text.proofs.Boxes.{inside_is}
-use Rattle.seq_text.specs.GrowthText.{GrowthItem, growth_table, place_of, ReadsPlaces}
+use Rattle.seq_text.specs.GrowthText.{GrowthItem, growth_table, ReadsPlaces}
 use Rattle.seq_text.specs.Inner.Kinds.{row_of}
 use Rattle.seq_text.specs.declared.kind.LineKind.TheVariants as kinds
-use Rattle.seq_text.specs.GrowthText.GrowthItem.{PlaceLine, ClosedLine, UniqueLine}
 use Rattle.seq_text.specs.GrowthText.{ReadsGrid}
 use Rattle.seq_text.proofs.Fields.{MayStand, place_item}
 use Rattle.seq_text.proofs.Growths.{growth_format, places-push, places-same}
-use Rattle.seq_text.proofs.Scratch.{places_of, may_stand, empty_is}
+use Rattle.seq_text.proofs.Scratch.{closed_item, unique_item, places_of, may_stand, empty_is}
 
 -- the places so far fit the system, and where they have to differ their sites do
 abbrev FitSoFar : Bool → TileSystem → List Place → Type 0
@@ -44,9 +43,7 @@ fit_more distinct sys places p h good =
 
 -- a line that passes is a place that may stand there, or no place
 abbrev IsPassed : Bool → TileSystem → List Place → GrowthItem → Type 0
-IsPassed distinct sys places (PlaceLine p) = MayStand distinct sys places p
-IsPassed distinct sys places ClosedLine = Unit {0}
-IsPassed distinct sys places UniqueLine = Unit {0}
+IsPassed distinct sys places item = IfSome item.1 (MayStand distinct sys places)
 
 module _ (distinct : Bool) (sys : TileSystem) where
   passed_by : (a b d : Bool) (earlier : List GrowthItem) (words : List (List ℕ)) (item : GrowthItem) →
@@ -55,10 +52,10 @@ module _ (distinct : Bool) (sys : TileSystem) where
       let found = place_item distinct sys earlier words item (row_ok (row_of distinct sys kinds.Place) earlier words item e).3 in
       subst (IsPassed distinct sys (places_of earlier)) found.1 found.2
   passed_by false true d earlier words item e =
-      let same : ClosedLine ≡ item = cc ((row_ok (row_of distinct sys kinds.Closed) earlier words item e).3) in
+      let same : closed_item ≡ item = cc ((row_ok (row_of distinct sys kinds.Closed) earlier words item e).3) in
       subst (IsPassed distinct sys (places_of earlier)) same tt
   passed_by false false true earlier words item e =
-      let same : UniqueLine ≡ item = cc ((row_ok (row_of distinct sys kinds.Unique) earlier words item e).3) in
+      let same : unique_item ≡ item = cc ((row_ok (row_of distinct sys kinds.Unique) earlier words item e).3) in
       subst (IsPassed distinct sys (places_of earlier)) same tt
   passed_by false false false earlier words item e = absurd (cc e)
 
@@ -68,9 +65,8 @@ module _ (distinct : Bool) (sys : TileSystem) where
   passed earlier (word ∷ rest) item e = passed_by (bytes_eq word (codes "place")) (bytes_eq word (codes "closed")) (bytes_eq word (codes "unique")) earlier (word ∷ rest) item e
 
   push_places : (earlier : List GrowthItem) (item : GrowthItem) → FitSoFar distinct sys (places_of earlier) → IsPassed distinct sys (places_of earlier) item → FitSoFar distinct sys (places_of (earlier ++ item ∷ []))
-  push_places earlier (PlaceLine p) h good = subst (FitSoFar distinct sys) (sym (places-push earlier p)) (fit_more distinct sys (places_of earlier) p h good)
-  push_places earlier ClosedLine h good = subst (FitSoFar distinct sys) (sym (places-same earlier ClosedLine refl)) h
-  push_places earlier UniqueLine h good = subst (FitSoFar distinct sys) (sym (places-same earlier UniqueLine refl)) h
+  push_places earlier (word, Some p) h good = subst (FitSoFar distinct sys) (sym (places-push earlier word p)) (fit_more distinct sys (places_of earlier) p h good)
+  push_places earlier (word, None) h good = subst (FitSoFar distinct sys) (sym (places-same earlier (word, None) refl)) h
 
   none_yet : FitSoFar distinct sys (places_of [])
   none_yet = fit_none distinct sys
@@ -86,16 +82,15 @@ module _ (distinct : Bool) (sys : TileSystem) where
 pub grid_fits : (sys : TileSystem) (text : List ℕ) (from : Mark) (grid : TileGrid) → ReadsGrid sys text from grid → Fits sys grid.tiles
 grid_fits sys text from grid h = Fits-part sys grid.tiles h.places h.same.whole (places_fit true sys text from h.places h.reads).0
 
-few_places : (items : List GrowthItem) → length (filter_map place_of items) ≤ length items
+few_places : (items : List GrowthItem) → length (places_of items) ≤ length items
 few_places [] = omega arith
-few_places (PlaceLine p ∷ items) = omega (arith, few_places items)
-few_places (ClosedLine ∷ items) = omega (arith, few_places items)
-few_places (UniqueLine ∷ items) = omega (arith, few_places items)
+few_places ((word, Some p) ∷ items) = omega (arith, few_places items)
+few_places ((word, None) ∷ items) = omega (arith, few_places items)
 
 module _ (distinct : Bool) (sys : TileSystem) (text : List ℕ) (from : Mark) where
   pub places_few : (places : List Place) → ReadsPlaces distinct sys text from places → length places ≤ length text
   places_few places h =
-      let same : length places ≡ length (filter_map place_of h.items) = ap length h.places_are in
+      let same : length places ≡ length (places_of h.items) = ap length h.places_are in
       omega (arith, same, few_places h.items, reads_few (growth_format distinct sys) text from h.to h.items h.reads)
 
   pub not_both_places : (places : List Place) (number : ℕ) (cause : Cause) → ReadsPlaces distinct sys text from places → Fault (growth_format distinct sys) text from number cause → ⊥

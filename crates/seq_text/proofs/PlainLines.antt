@@ -1,5 +1,5 @@
 -- A `place` line in its plain form reads as its place.
-use Rattle.std.proofs.Common.{◌≡◌, ℕ, zero, suc, ◌+◌, ◌-◌, ◌^◌, ◌≤◌, ◌<◌, ◌==◌, Bool, true, false, cond, List, [], ◌∷◌, ◌++◌, length, codes, pos, Option, Some, None, Ok, refl, sym, ap, subst, ◌∙◌, append_assoc, length-append, arith}
+use Rattle.std.proofs.Common.{◌≡◌, ℕ, zero, suc, ◌+◌, ◌-◌, ◌^◌, ◌≤◌, ◌<◌, ◌==◌, Bool, true, false, cond, List, [], ◌∷◌, ◌++◌, length, codes, pos, Option, Some, Ok, refl, sym, ap, subst, ◌∙◌, append_assoc, length-append, arith}
 use Rattle.std.specs.Prelude.{ℤ, neg_ℤ, int_le, find, bytes_eq, option_map, slice_index}
 use Rattle.std.proofs.lemmas.Bool.{eqb-true, le-leb}
 use Rattle.std.proofs.lemmas.List.Elements.{All-cons, All-from_recursion}
@@ -23,12 +23,11 @@ use Rattle.tile_text.specs.Fields.{site_field, place_field}
 use Rattle.tile_text.specs.SystemText.{is_in_box}
 use Rattle.seq_text.specs.declared.kind.LineKind.{LineKind}
 use Rattle.seq_text.specs.declared.kind.LineKind.TheVariants as kinds
-use Rattle.seq_text.proofs.Scratch.{places_of, may_stand}
+use Rattle.seq_text.proofs.Scratch.{placed_item, places_of, may_stand}
 use Rattle.seq_text.specs.GrowthText.{GrowthItem, growth_table, place_in, names_of}
-use Rattle.seq_text.specs.GrowthText.GrowthItem.{PlaceLine, ClosedLine, UniqueLine}
-use Rattle.seq_text.specs.Inner.Kinds.{kind_of, may_stand_after, row_of}
+use Rattle.seq_text.specs.Inner.Kinds.{kind_word, may_stand_after, row_of}
 use Rattle.seq_text.proofs.Fields.{place_of_found}
-use Rattle.seq_text.proofs.Growths.{row_named}
+use Rattle.seq_text.proofs.Growths.{row_named, follows_kind}
 use Rattle.tile_text.proofs.PlainWords.{keyword_word, name_word, name_short}
 use Rattle.seq_text.specs.PlainCoordinates.{StartsWithCoordinate}
 use Rattle.seq_text.specs.Inner.Plain.{IsPlainPlace, BeginsPlain}
@@ -216,18 +215,11 @@ module _ (text : List ℕ) (m : Site) (fields name behind : List ℕ) (plain : I
   pub front_within : length behind ≤ length text
   front_within = let size : length text ≡ length front_line + 1 + length behind = front_size in omega (arith, size)
 
-place_follows : (distinct : Bool) (sys : TileSystem) (last : Option GrowthItem) → may_stand_after kinds.Place (option_map kind_of last) ≡ true → (row_of distinct sys kinds.Closed).may_follow last ≡ true
-place_follows distinct sys None e = refl
-place_follows distinct sys (Some (PlaceLine p)) e = refl
-place_follows distinct sys (Some ClosedLine) e = absurd (cc e)
-place_follows distinct sys (Some UniqueLine) e = absurd (cc e)
-
-module _ (distinct : Bool) (sys : TileSystem) (last : Option LineKind) (items : List GrowthItem) (kind : last ≡ option_map kind_of (last_of items)) where
+module _ (distinct : Bool) (sys : TileSystem) (last : Option LineKind) (items : List GrowthItem) (kind : option_map kind_word last ≡ option_map (λ item. item.0) (last_of items)) where
   -- a `place` line that passes its checks is taken as its place
-  pub place_taken : (words : List (List ℕ)) (p : Place) → IsPlaceLine distinct sys (places_of items) words p → may_stand_after kinds.Place last ≡ true → check_line (growth_table distinct sys).keywords items words ≡ Ok (PlaceLine p)
+  pub place_taken : (words : List (List ℕ)) (p : Place) → IsPlaceLine distinct sys (places_of items) words p → may_stand_after kinds.Place last ≡ true → check_line (growth_table distinct sys).keywords items words ≡ Ok (placed_item p)
   unfolding growth_table
   place_taken words p line stands =
-      let Stands : Option LineKind → Type 0 = λ l. may_stand_after kinds.Place l ≡ true in
       let keywords = (growth_table distinct sys).keywords in
       let row = row_of distinct sys kinds.Place in
       let Found : List ℕ → Type 0 = λ word. Some row ≡ find (λ r. bytes_eq word r.word) keywords in
@@ -235,4 +227,4 @@ module _ (distinct : Bool) (sys : TileSystem) (last : Option LineKind) (items : 
       let some : 0 < length words = omega (arith, line.count) in
       let count : (length words == 4) ≡ true = rw line.count refl in
       let read : place_in distinct sys (places_of items) words ≡ Ok p = line.reads in
-      check_line_by keywords row items words some found count (place_follows distinct sys (last_of items) (subst Stands kind stands)) refl ∙ rw read refl
+      check_line_by keywords row items words some found count (sym (follows_kind distinct sys kinds.Place last (last_of items) kind) ∙ stands) refl ∙ rw read refl

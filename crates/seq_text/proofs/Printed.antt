@@ -32,11 +32,10 @@ use Rattle.seq_text.specs.VerdictLines.{verdict_line}
 use Rattle.seq_text.specs.PrintedGrowths.{growth_lines, line_or_none, MayBeOpen, MayBeTold, MayBePrinted}
 use Rattle.tile_text.specs.declared.version.Version.{Version}
 use Rattle.tile_text.specs.Spelling.{spelling, spelling_by, version_of}
-use Rattle.seq_text.proofs.Scratch.{places_of, may_stand}
+use Rattle.seq_text.proofs.Scratch.{placed_item, closed_item, unique_item, places_of, may_stand}
 use Rattle.seq_text.specs.GrowthText.{GrowthItem, growth_table, place_in, ReadsPlaces}
 use Rattle.seq_text.specs.Inner.Kinds.{row_of}
 use Rattle.seq_text.specs.declared.kind.LineKind.TheVariants as kinds
-use Rattle.seq_text.specs.GrowthText.GrowthItem.{PlaceLine, ClosedLine, UniqueLine}
 use Rattle.seq_text.proofs.Growths.{growth_format, follows_places, unique_follows, unique_follows_closed, places_back, places-same}
 
 abbrev place_words : TileSystem → Place → List (List ℕ)
@@ -198,20 +197,20 @@ module _ (sys : TileSystem) (valid : IsValid sys) where
       let empty = subst Empty (take_at done (p ∷ todo) (length done) refl) (distinct-empty (done ++ p ∷ todo) (length done) p (h refl) there) in
       ap is_none empty
 
-  place_checks : (distinct : Bool) (done : List Place) (p : Place) → IsType sys p.tile → InBox sys.area p.site → may_stand distinct (places_of (map PlaceLine done)) p.site ≡ true →
-      (growth_format distinct sys).check (map PlaceLine done) (place_words sys p) ≡ Ok (PlaceLine p)
+  place_checks : (distinct : Bool) (done : List Place) (p : Place) → IsType sys p.tile → InBox sys.area p.site → may_stand distinct (places_of (map placed_item done)) p.site ≡ true →
+      (growth_format distinct sys).check (map placed_item done) (place_words sys p) ≡ Ok (placed_item p)
   unfolding growth_table place_in place_field site_field
   place_checks distinct done p typed inside free =
       let plain = plain_seed sys.area p valid.box inside in
       let named = named_seed sys p valid.type_names valid.distinct_types typed in
       rw (follows_places distinct sys done, plain.x.reads, plain.y.reads, named.named, named.placed, inside_passes sys.area p.site inside, free) refl
 
-  closed_checks : (distinct : Bool) (done : List Place) (found : Option (Site × TypeId)) → (growth_format distinct sys).check (map PlaceLine done) (closed_words sys found) ≡ Ok ClosedLine
+  closed_checks : (distinct : Bool) (done : List Place) (found : Option (Site × TypeId)) → (growth_format distinct sys).check (map placed_item done) (closed_words sys found) ≡ Ok closed_item
   unfolding growth_table
   closed_checks distinct done None = rw (follows_places distinct sys done) refl
   closed_checks distinct done (Some found) = rw (follows_places distinct sys done) refl
 
-  verdict_checks : (distinct : Bool) (before : List GrowthItem) (verdict : Verdict) → (row_of distinct sys kinds.Unique).may_follow (last_of before) ≡ true → (growth_format distinct sys).check before (verdict_words sys verdict) ≡ Ok UniqueLine
+  verdict_checks : (distinct : Bool) (before : List GrowthItem) (verdict : Verdict) → (row_of distinct sys kinds.Unique).may_follow (last_of before) ≡ true → (growth_format distinct sys).check before (verdict_words sys verdict) ≡ Ok unique_item
   unfolding growth_table
   verdict_checks distinct before Yes follows = rw follows refl
   verdict_checks distinct before (NotExact m sum) follows = rw follows refl
@@ -219,17 +218,17 @@ module _ (sys : TileSystem) (valid : IsValid sys) where
   verdict_checks distinct before (NotTerminal m t) follows = rw follows refl
 
   abbrev end_items : Option (Option (Site × TypeId)) → Option Verdict → List GrowthItem
-  end_items closed verdict = if_any (λ _. ClosedLine) closed ++ if_any (λ _. UniqueLine) verdict
+  end_items closed verdict = if_any (λ _. closed_item) closed ++ if_any (λ _. unique_item) verdict
 
-  end_check : (distinct : Bool) (done : List Place) (closed : Option (Option (Site × TypeId))) (verdict : Option Verdict) → ChecksAs (growth_format distinct sys) (map PlaceLine done) (end_words closed verdict) (end_items closed verdict)
+  end_check : (distinct : Bool) (done : List Place) (closed : Option (Option (Site × TypeId))) (verdict : Option Verdict) → ChecksAs (growth_format distinct sys) (map placed_item done) (end_words closed verdict) (end_items closed verdict)
   unfolding growth_table
   end_check distinct done None None = tt
-  end_check distinct done None (Some verdict) = (verdict_checks distinct (map PlaceLine done) verdict (unique_follows distinct sys done), refl, tt)
+  end_check distinct done None (Some verdict) = (verdict_checks distinct (map placed_item done) verdict (unique_follows distinct sys done), refl, tt)
   end_check distinct done (Some found) None = (closed_checks distinct done found, refl, tt)
-  end_check distinct done (Some found) (Some verdict) = (closed_checks distinct done found, refl, (verdict_checks distinct (map PlaceLine done ++ ClosedLine ∷ []) verdict (unique_follows_closed distinct sys done), refl, tt))
+  end_check distinct done (Some found) (Some verdict) = (closed_checks distinct done found, refl, (verdict_checks distinct (map placed_item done ++ closed_item ∷ []) verdict (unique_follows_closed distinct sys done), refl, tt))
 
   all_check : (distinct : Bool) (todo done : List Place) (closed : Option (Option (Site × TypeId))) (verdict : Option Verdict) → All (λ p. IsType sys p.tile) (done ++ todo) → All (λ p. InBox sys.area p.site) (done ++ todo) → (distinct ≡ true → HasDistinctSites (done ++ todo)) →
-      ChecksAs (growth_format distinct sys) (map PlaceLine done) (words_for todo closed verdict) (map PlaceLine todo ++ end_items closed verdict)
+      ChecksAs (growth_format distinct sys) (map placed_item done) (words_for todo closed verdict) (map placed_item todo ++ end_items closed verdict)
   unfolding growth_table
   all_check distinct [] done closed verdict types sites differ = end_check distinct done closed verdict
   all_check distinct (p ∷ todo) done closed verdict types sites differ =
@@ -238,17 +237,17 @@ module _ (sys : TileSystem) (valid : IsValid sys) where
       let inside = at_seam (λ p. InBox sys.area p.site) done p todo sites in
       let Free : List Place → Type 0 = λ l. may_stand distinct l p.site ≡ true in
       let free = subst Free (sym (places_back done)) (free_before distinct done todo p differ) in
-      let Next : List GrowthItem → Type 0 = λ l. ChecksAs (growth_format distinct sys) l (words_for todo closed verdict) (map PlaceLine todo ++ end_items closed verdict) in
+      let Next : List GrowthItem → Type 0 = λ l. ChecksAs (growth_format distinct sys) l (words_for todo closed verdict) (map placed_item todo ++ end_items closed verdict) in
       let Differ : List Place → Type 0 = λ l. distinct ≡ true → HasDistinctSites l in
       let next = all_check distinct todo (done ++ p ∷ []) closed verdict (subst (All (λ p. IsType sys p.tile)) (sym whole) types) (subst (All (λ p. InBox sys.area p.site)) (sym whole) sites) (subst Differ (sym whole) differ) in
-      (place_checks distinct done p typed inside free, refl, subst Next (map_push PlaceLine done p) next)
+      (place_checks distinct done p typed inside free, refl, subst Next (map_push placed_item done p) next)
 
-  items_places : (places : List Place) (closed : Option (Option (Site × TypeId))) (verdict : Option Verdict) → places_of (map PlaceLine places ++ end_items closed verdict) ≡ places
-  items_places places None None = ap places_of (append-nil (map PlaceLine places)) ∙ places_back places
-  items_places places None (Some verdict) = places-same (map PlaceLine places) UniqueLine refl ∙ places_back places
-  items_places places (Some found) None = places-same (map PlaceLine places) ClosedLine refl ∙ places_back places
+  items_places : (places : List Place) (closed : Option (Option (Site × TypeId))) (verdict : Option Verdict) → places_of (map placed_item places ++ end_items closed verdict) ≡ places
+  items_places places None None = ap places_of (append-nil (map placed_item places)) ∙ places_back places
+  items_places places None (Some verdict) = places-same (map placed_item places) unique_item refl ∙ places_back places
+  items_places places (Some found) None = places-same (map placed_item places) closed_item refl ∙ places_back places
   items_places places (Some found) (Some verdict) =
-      ap places_of (sym (append_assoc (map PlaceLine places) (ClosedLine ∷ []) (UniqueLine ∷ []))) ∙ places-same (map PlaceLine places ++ ClosedLine ∷ []) UniqueLine refl ∙ places-same (map PlaceLine places) ClosedLine refl ∙ places_back places
+      ap places_of (sym (append_assoc (map placed_item places) (closed_item ∷ []) (unique_item ∷ []))) ∙ places-same (map placed_item places ++ closed_item ∷ []) unique_item refl ∙ places-same (map placed_item places) closed_item refl ∙ places_back places
 
   -- the printed lines read as the places, to the end of the text
   pub printed_reads : (distinct : Bool) (places : List Place) (closed : Option (Option (Site × TypeId))) (verdict : Option Verdict) (text : List ℕ) (from : Mark) → MayBePrinted sys places closed verdict → (distinct ≡ true → HasDistinctSites places) →
@@ -257,7 +256,7 @@ module _ (sys : TileSystem) (valid : IsValid sys) where
   printed_reads distinct places closed verdict text from may differ e =
       let format = growth_format distinct sys in
       let lines = words_for places closed verdict in
-      let items = map PlaceLine places ++ end_items closed verdict in
+      let items = map placed_item places ++ end_items closed verdict in
       let spelled = all_spelled places closed verdict may.fits.types may.fits.sites may.open_site may.told in
       let whole : lines_from text from ≡ map spelled_line lines =
       ap lines_of (e ∙ lines_are places closed verdict ∙ sym (append-nil (flat_map line_of lines))) ∙ lines_of-spelling lines [] spelled ∙ ap (λ l. map spelled_line lines ++ l) lines-nil ∙ append-nil (map spelled_line lines) in

@@ -1,5 +1,5 @@
 -- The scratch grid has the places that were read.
-use Rattle.std.proofs.Common.{◌≡◌, ◌≢◌, true, Option, List, [], ◌∷◌, ◌++◌, Some, None, refl, sym, ap, subst, ◌∙◌, inl, inr}
+use Rattle.std.proofs.Common.{◌≡◌, ◌≢◌, true, Option, codes, List, [], ◌∷◌, ◌++◌, Some, None, refl, sym, ap, subst, ◌∙◌, inl, inr}
 use Rattle.std.specs.Prelude.{Bool, ◌||◌, not, filter_map, is_none, is_some}
 use Rattle.atam.proofs.Lists.{some_or_none}
 use Rattle.atam.specs.declared.site.Site.{Site}
@@ -10,12 +10,22 @@ use Rattle.atam.specs.TileSystem.{TileSystem}
 use Rattle.atam.proofs.Placements.{at_site, tile_at-here, tile_at-past, tile_at-append, tile_at-append_past}
 use Rattle.assembly.specs.Grids.{TileGrid}
 use Rattle.atam.proofs.Tiles.{SamePlacements-push, SamePlacements-trans}
-use Rattle.seq_text.specs.GrowthText.{GrowthItem, place_of}
+use Rattle.seq_text.specs.GrowthText.{GrowthItem}
 use Rattle.seq_text.specs.Inner.SoFar.{IsScratchOf, HoldsPlaces, is_free_in}
+
+-- the lines of each keyword
+abbrev pub placed_item : Place → GrowthItem
+placed_item p = (codes "place", Some p)
+
+abbrev pub closed_item : GrowthItem
+closed_item = (codes "closed", None)
+
+abbrev pub unique_item : GrowthItem
+unique_item = (codes "unique", None)
 
 -- the places of the lines, in their order
 abbrev pub places_of : List GrowthItem → List Place
-places_of items = filter_map place_of items
+places_of items = filter_map (λ item. item.1) items
 
 -- whether a tile may be placed at a site after others
 abbrev pub may_stand : Bool → List Place → Site → Bool

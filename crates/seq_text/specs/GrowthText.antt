@@ -12,22 +12,9 @@ use Rattle.assembly.specs.Grids.{TileGrid}
 use Rattle.tile_text.specs.Fields.{place_field}
 use Rattle.tile_text.specs.SystemText.{is_in_box}
 
--- what a kept line of a growth text is
-pub data GrowthItem : Type 0 where
-  PlaceLine : (place : Place) → GrowthItem
-  ClosedLine : GrowthItem
-  UniqueLine : GrowthItem
-
--- the keyword of its line
-abbrev pub word_of : GrowthItem → List ℕ
-word_of (PlaceLine p) = codes "place"
-word_of ClosedLine = codes "closed"
-word_of UniqueLine = codes "unique"
-
--- the place of a line, where it has one
-abbrev pub place_of : GrowthItem → Option Place
-place_of (PlaceLine p) = Some p
-place_of _ = None
+-- what a kept line of a growth text is: its keyword, and its place where it has one
+abbrev pub GrowthItem : Type 0
+GrowthItem = List ℕ × Option Place
 
 -- the names of the types of a system
 abbrev pub names_of : TileSystem → List (List ℕ)
@@ -42,21 +29,22 @@ place_in distinct sys earlier words = do
   _ ← require (not distinct || is_none (tile_at earlier p.site)) DoubleSite
   Ok p
 
+-- whether a line comes first, or stands right behind one of these keywords
+abbrev pub first_or_behind : List (List ℕ) → Option GrowthItem → Bool
+first_or_behind keywords before = is_none before || behind (λ item. item.0) keywords before
+
 -- The table of keywords. A row has the word, how many words its line has, behind which lines it may
 -- stand, the limit of its kind, and its fields with the checks of the whole line.
 abbrev pub growth_rows : Bool → TileSystem → List (Keyword (List GrowthItem) GrowthItem)
 growth_rows distinct sys =
-    row (codes "place") (λ n. n == 4)
-    (λ before. is_none before || behind word_of (codes "place" ∷ []) before)
+    row (codes "place") (λ n. n == 4) (first_or_behind (codes "place" ∷ []))
     (λ earlier words. true) (λ earlier words. do
-      p ← place_in distinct sys (filter_map place_of earlier) words
-      Ok (PlaceLine p))
-    ∷ row (codes "closed") (nat_le 2)
-    (λ before. is_none before || behind word_of (codes "place" ∷ []) before)
-    (λ earlier words. true) (λ earlier words. Ok ClosedLine)
-    ∷ row (codes "unique") (nat_le 2)
-    (λ before. is_none before || behind word_of (codes "place" ∷ codes "closed" ∷ []) before)
-    (λ earlier words. true) (λ earlier words. Ok UniqueLine)
+      p ← place_in distinct sys (filter_map (λ item. item.1) earlier) words
+      Ok (codes "place", Some p))
+    ∷ row (codes "closed") (nat_le 2) (first_or_behind (codes "place" ∷ []))
+    (λ earlier words. true) (λ earlier words. Ok (codes "closed", None))
+    ∷ row (codes "unique") (nat_le 2) (first_or_behind (codes "place" ∷ codes "closed" ∷ []))
+    (λ earlier words. true) (λ earlier words. Ok (codes "unique", None))
     ∷ []
 
 -- there is no header and no end line, and the input may end after any line
@@ -78,7 +66,7 @@ pub record ReadsPlaces (distinct : Bool) (sys : TileSystem) (text : List ℕ) (f
   pub items : List GrowthItem
   pub to : Mark
   pub reads : Reads (table_format (growth_table distinct sys)) text from items to
-  pub places_are : places ≡ filter_map place_of items
+  pub places_are : places ≡ filter_map (λ item. item.1) items
 
 -- the grid has the system's box and exactly the placements that the text reads as
 pub record ReadsGrid (sys : TileSystem) (text : List ℕ) (from : Mark) (grid : TileGrid) : Type 0 where

@@ -9,7 +9,6 @@ use Rattle.seq_text.specs.declared.kind.LineKind.TheVariants as kinds
 use Rattle.seq_text.specs.declared.action.Action.{Action}
 use Rattle.seq_text.specs.declared.action.Action.TheVariants as actions
 use Rattle.seq_text.specs.GrowthText.{GrowthItem, growth_rows}
-use Rattle.seq_text.specs.GrowthText.GrowthItem.{PlaceLine, ClosedLine, UniqueLine}
 use Rattle.seq_text.specs.ScheduleText.{schedule_rows}
 
 -- the row of a keyword in the table of growth texts
@@ -26,11 +25,11 @@ kind_named word =
     else if bytes_eq word (codes "unique") then Some kinds.Unique
     else None
 
--- the keyword of a line
-abbrev pub kind_of : GrowthItem → LineKind
-kind_of (PlaceLine p) = kinds.Place
-kind_of ClosedLine = kinds.Closed
-kind_of UniqueLine = kinds.Unique
+-- the word of a keyword
+abbrev pub kind_word : LineKind → List ℕ
+kind_word kinds.Place = codes "place"
+kind_word kinds.Closed = codes "closed"
+kind_word kinds.Unique = codes "unique"
 
 -- whether a keyword may stand right after a line of another one, or first
 abbrev pub may_stand_after : LineKind → Option LineKind → Bool

@@ -7,8 +7,8 @@ use Rattle.atam.specs.Placements.{tile_at, SamePlacements}
 use Rattle.atam.specs.TileSystem.{TileSystem}
 use Rattle.assembly.specs.Grids.{TileGrid}
 use Rattle.seq_text.specs.declared.kind.LineKind.{LineKind}
-use Rattle.seq_text.specs.GrowthText.{GrowthItem, place_of}
-use Rattle.seq_text.specs.Inner.Kinds.{kind_of}
+use Rattle.seq_text.specs.GrowthText.{GrowthItem}
+use Rattle.seq_text.specs.Inner.Kinds.{kind_word}
 
 -- a scratch grid of the system's box has the places
 pub record IsScratchOf (sys : TileSystem) (places : List Place) (grid : TileGrid) : Type 0 where
@@ -33,5 +33,5 @@ is_free_in (Some grid) m = is_none (tile_at grid.tiles m)
 -- the places of the lines, and the keyword of the last line
 pub record HoldsLines (sys : TileSystem) (sequence : List Place) (grid : Option TileGrid) (last : Option LineKind) (items : List GrowthItem) : Type 0 where
   pub box_area : IsOverBox sys grid
-  pub places : HoldsPlaces sys sequence grid (filter_map place_of items)
-  pub kind : last ≡ option_map kind_of (last_of items)
+  pub places : HoldsPlaces sys sequence grid (filter_map (λ item. item.1) items)
+  pub kind : option_map kind_word last ≡ option_map (λ item. item.0) (last_of items)

@@ -1,9 +1,8 @@
 use Rattle.std.proofs.Common.{◌≡◌, Err, refl, sym, rules}
 use Rattle.std.specs.Prelude.{is_some}
-use Rattle.seq_text.proofs.Scratch.{places_of}
+use Rattle.seq_text.proofs.Scratch.{placed_item, places_of}
 use Rattle.seq_text.specs.Inner.Kinds.{row_of}
 use Rattle.seq_text.specs.declared.kind.LineKind.TheVariants as kinds
-use Rattle.seq_text.specs.GrowthText.GrowthItem.{PlaceLine}
 use Rattle.seq_text.proofs.Growths.{holds_place}
 use Rattle.seq_text.proofs.reader.GrowthReader.take_place.Goals as goal
 
@@ -23,4 +22,4 @@ returns-in-Ok-clause-taken c = λ items held.
     let new = c.hold.new.self in
     let after = c.in-Ok.ensures in
     let holds = holds_place r.system.now r.sequence r.grid new.sequence new.grid r.last items p held after.box_area (after.added (places_of items) held.places) in
-    (PlaceLine p, rw read refl, refl, rw (after.system, after.last) holds)
+    (placed_item p, rw read refl, refl, rw (after.system, after.last) holds)

@@ -9,14 +9,13 @@ use Rattle.atam.specs.TileSystem.{TileSystem, IsValid, IsType, type_name}
 use Rattle.tile_system.specs.Names.{type_named}
 use Rattle.tile_text.proofs.Boxes.{inside_passes}
 use Rattle.seq_text.specs.GrowthText.{GrowthItem, growth_table}
-use Rattle.seq_text.specs.GrowthText.GrowthItem.{PlaceLine}
 use Rattle.seq_text.specs.declared.reader.GrowthReader.{GrowthReader}
 use Rattle.seq_text.specs.Inner.Plain.{BeginsPlain}
 use Rattle.seq_text.specs.Inner.SoFar.{HoldsLines}
 use Rattle.seq_text.proofs.Growths.{holds_place}
 use Rattle.seq_text.proofs.PlainLines.{BeginsWithPlace, plain_front, place_taken}
 use Rattle.seq_text.proofs.Printed.{named_type}
-use Rattle.seq_text.proofs.Scratch.{places_of, stands_is}
+use Rattle.seq_text.proofs.Scratch.{placed_item, places_of, stands_is}
 use Rattle.seq_text.proofs.reader.GrowthReaderLineReader.take_front.Goals as goal
 
 -- a `place` line in its plain form, with a type that was found by its name
@@ -47,7 +46,7 @@ returns-in-Ok-clause-taken c =
           let stands = stands_is sys r.sequence r.grid places plain.site held.places ∙ line.free in
           let taken = place_taken (is_some r.grid) sys r.last items held.kind (words_of front.line) p (front.place places stands) line.follows in
           let holds = holds_place sys r.sequence r.grid new.sequence new.grid r.last items p held after.box_area (after.added places held.places) in
-          (PlaceLine p, taken, refl, rw (after.system, after.last) holds);
+          (placed_item p, taken, refl, rw (after.system, after.last) holds);
     }
 
 pub returns-in-Err-clause-taken : goal.returns-in-Err-clause-taken
