@@ -54,8 +54,7 @@ FailsSystem text from jobs number cause =
     ((end : Mark) × Reads nothing_more text from [] end × (number ≡ end.line) × (cause ≡ NoEnd))
     ⊎ ((¬ HasNoMore text from) × FaultAny text from number cause)
     ⊎ ((sys : TileSystem) × (to : Mark) × ReadsAny text from sys to
-    × (4194304 < sites_of jobs + cell_count sys.area)
-    × (number + 1 ≡ to.line) × (cause ≡ TooMany))
+    × (4194304 < sites_of jobs + cell_count sys.area) × (number + 1 ≡ to.line) × (cause ≡ TooMany))
 
 -- what may fail behind jobs: the next line; or the input ends with no job; or there is the line of
 -- a job, and its system fails
