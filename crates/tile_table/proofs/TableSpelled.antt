@@ -34,22 +34,22 @@ same_texts f g (x ∷ xs) same =
 
 -- names are short
 module _ {K G : Type 0} (set : TileSet K G) (limits : IsWithinLimits set) where
-  pub label_short : (g : G) → Contains set.labels g → length (set.label_name g) ≤ 40
-  label_short g listed = name_short (set.label_name g) (limits.label_names g listed)
+  pub label_short : (g : G) → Contains set.labels g → length (set.label_row g).2 ≤ 40
+  label_short g listed = name_short (set.label_row g).2 (limits.label_names g listed)
 
-  pub kind_short : (k : K) → Contains set.kinds k → length (set.kind_name k) ≤ 40
-  kind_short k listed = name_short (set.kind_name k) (limits.kind_names k listed)
+  pub kind_short : (k : K) → Contains set.kinds k → length (set.kind_row k).1 ≤ 40
+  kind_short k listed = name_short (set.kind_row k).1 (limits.kind_names k listed)
 
 module _ {K G : Type 0} (set : TileSet K G) (numbered : IsTileSet set) (seed : K) (area : BoxArea) where
   -- the glue of a listed label has its name
-  label_named : (g : G) → Contains set.labels g → glue_name (system_of set seed area) (glue_id set g) ≡ set.label_name g
+  label_named : (g : G) → Contains set.labels g → glue_name (system_of set seed area) (glue_id set g) ≡ (set.label_row g).2
   label_named g listed =
-      ap (λ o. option_map_or (λ h. h.name) o []) (slice_get-map (glue_of set) set.labels (set.label_number g) ∙ ap (option_map (glue_of set)) (label_there set numbered seed area g listed))
+      ap (λ o. option_map_or (λ h. h.name) o []) (slice_get-map (glue_of set) set.labels (set.label_row g).0 ∙ ap (option_map (glue_of set)) (label_there set numbered seed area g listed))
 
   -- and the type of a listed kind its own
-  kind_named : (k : K) → Contains set.kinds k → type_name (system_of set seed area) (type_id set k) ≡ set.kind_name k
+  kind_named : (k : K) → Contains set.kinds k → type_name (system_of set seed area) (type_id set k) ≡ (set.kind_row k).1
   kind_named k listed =
-      ap (λ o. option_map_or (λ t. t.name) o []) (slice_get-map (tile_type set) set.kinds (set.kind_number k) ∙ ap (option_map (tile_type set)) (kind_there set numbered seed area k listed))
+      ap (λ o. option_map_or (λ t. t.name) o []) (slice_get-map (tile_type set) set.kinds (set.kind_row k).0 ∙ ap (option_map (tile_type set)) (kind_there set numbered seed area k listed))
 
   word_of_side : (k : K) (d : Side) → Contains set.kinds k → side_word (system_of set seed area) (option_map (glue_id set) (set.side k d)) ≡ label_word set (set.side k d)
   unfolding side_word
@@ -61,7 +61,7 @@ module _ {K G : Type 0} (set : TileSet K G) (numbered : IsTileSet set) (seed : K
 
   kind_line : (k : K) → Contains set.kinds k → kind_text set k ≡ tile_line (system_of set seed area) (tile_type set k)
   kind_line k listed =
-      let made : List ℕ → List ℕ → List ℕ → List ℕ → List ℕ = λ n e s w. line_of (codes "tile" ∷ set.kind_name k ∷ n ∷ e ∷ s ∷ w ∷ []) in
+      let made : List ℕ → List ℕ → List ℕ → List ℕ → List ℕ = λ n e s w. line_of (codes "tile" ∷ (set.kind_row k).1 ∷ n ∷ e ∷ s ∷ w ∷ []) in
       let north = word_of_side k North listed in
       let east = word_of_side k East listed in
       let south = word_of_side k South listed in

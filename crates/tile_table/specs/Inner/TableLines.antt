@@ -5,17 +5,17 @@ use Rattle.design.specs.TileSets.{TileSet}
 
 module _ {K G : Type 0} (set : TileSet K G) where
   abbrev pub label_words : G → List (List ℕ)
-  label_words g = codes "glue" ∷ set.label_name g ∷ decimal (set.strength g) ∷ []
+  label_words g = codes "glue" ∷ (set.label_row g).2 ∷ decimal (set.label_row g).1 ∷ []
 
   -- the name of a side's label, or `-`
   abbrev pub label_word : Option G → List ℕ
   label_word None = codes "-"
-  label_word (Some g) = set.label_name g
+  label_word (Some g) = (set.label_row g).2
 
   abbrev pub kind_words : K → List (List ℕ)
   kind_words k =
       codes "tile"
-      ∷ set.kind_name k
+      ∷ (set.kind_row k).1
       ∷ label_word (set.side k North)
       ∷ label_word (set.side k East)
       ∷ label_word (set.side k South)
@@ -24,4 +24,4 @@ module _ {K G : Type 0} (set : TileSet K G) where
 
   -- the seed has this kind, and is at (0, 0)
   abbrev pub seed_words : K → List (List ℕ)
-  seed_words k = codes "seed" ∷ codes "0" ∷ codes "0" ∷ set.kind_name k ∷ []
+  seed_words k = codes "seed" ∷ codes "0" ∷ codes "0" ∷ (set.kind_row k).1 ∷ []

@@ -17,6 +17,6 @@ returns g c =
     let set = g.T.Table.tiles c.args.table.now in
     let side = sym c.side.ensures ∙ c.in_ok-label.was in
     let listed = c.requires.numbered.sides c.args.kind c.args.side c.in_ok-label.label c.requires.kind side in
-    let named = c.as_slice.ensures ∙ c.add_label_name.ensures ∙ ap (λ l. l ++ set.label_name c.in_ok-label.label) c.new-name.ensures in
+    let named = c.as_slice.ensures ∙ c.add_label_name.ensures ∙ ap (λ l. l ++ (set.label_row c.in_ok-label.label).2) c.new-name.ensures in
     label_by_name set c.requires.numbered c.requires.limits c.in_ok-label.label listed c.args.builder.now _ c.find_glue.result c.requires.labels named c.find_glue.ensures
     ∙ sym (ap (option_map (glue_id set)) side)

@@ -25,13 +25,13 @@ glues_of_kind-sides-requires-clause-kind g c =
 pub push_type-requires : goal.push_type-requires
 push_type-requires g c =
     let set = g.T.Table.tiles c.args.table.now in
-    let named = c.as_slice.ensures ∙ c.add_kind_name.ensures ∙ ap (λ l. l ++ set.kind_name c.kind-item.result) c.new-name.ensures in
+    let named = c.as_slice.ensures ∙ c.add_kind_name.ensures ∙ ap (λ l. l ++ (set.kind_row c.kind-item.result).1) c.new-name.ensures in
     kind_may_come set c.requires.numbered c.requires.limits c.args.kinds.now c.requires.kinds c.loop-kind.kind-index c.loop-kind-test.true c.kind-item.result c.kind-item.is _ _ _
     c.loop-kind.invariant named c.glues_of_kind-sides.ensures
 
 pub loop-kind-preserved : goal.loop-kind-preserved
 loop-kind-preserved g c =
     let set = g.T.Table.tiles c.args.table.now in
-    let named = c.as_slice.ensures ∙ c.add_kind_name.ensures ∙ ap (λ l. l ++ set.kind_name c.kind-item.result) c.new-name.ensures in
+    let named = c.as_slice.ensures ∙ c.add_kind_name.ensures ∙ ap (λ l. l ++ (set.kind_row c.kind-item.result).1) c.new-name.ensures in
     kind_comes set c.requires.numbered c.requires.limits c.args.kinds.now c.requires.kinds c.loop-kind.kind-index c.loop-kind-test.true c.kind-item.result c.kind-item.is _ _ _ _
     c.loop-kind.invariant named c.glues_of_kind-sides.ensures c.in_ok-push_type.ensures.ok

@@ -18,13 +18,13 @@ add_label_name-requires-clause-room g c =
 pub push_glue-requires : goal.push_glue-requires
 push_glue-requires g c =
     let set = g.T.Table.tiles c.args.table.now in
-    let named = c.as_slice.ensures ∙ c.add_label_name.ensures ∙ ap (λ l. l ++ set.label_name c.label-item.result) c.new-name.ensures in
+    let named = c.as_slice.ensures ∙ c.add_label_name.ensures ∙ ap (λ l. l ++ (set.label_row c.label-item.result).2) c.new-name.ensures in
     label_may_come set c.requires.numbered c.requires.limits c.args.labels.now c.requires.labels c.loop-label.label-index c.loop-label-test.true c.label-item.result c.label-item.is _ _ _
     c.loop-label.invariant named c.strength.ensures
 
 pub loop-label-preserved : goal.loop-label-preserved
 loop-label-preserved g c =
     let set = g.T.Table.tiles c.args.table.now in
-    let named = c.as_slice.ensures ∙ c.add_label_name.ensures ∙ ap (λ l. l ++ set.label_name c.label-item.result) c.new-name.ensures in
+    let named = c.as_slice.ensures ∙ c.add_label_name.ensures ∙ ap (λ l. l ++ (set.label_row c.label-item.result).2) c.new-name.ensures in
     label_comes set c.requires.numbered c.requires.limits c.args.labels.now c.requires.labels c.loop-label.label-index c.loop-label-test.true c.label-item.result c.label-item.is _ _ _ _
     c.loop-label.invariant named c.strength.ensures c.in_ok-push_glue.ensures.ok

@@ -15,7 +15,7 @@ add_kind_name-requires-clause-room g c =
 pub unwrap-requires : goal.unwrap-requires
 unwrap-requires g c =
     let set = g.T.Table.tiles c.args.table.now in
-    let named = c.as_slice.ensures ∙ c.add_kind_name.ensures ∙ ap (λ l. l ++ set.kind_name c.args.kind) c.new-name.ensures in
+    let named = c.as_slice.ensures ∙ c.add_kind_name.ensures ∙ ap (λ l. l ++ (set.kind_row c.args.kind).1) c.new-name.ensures in
     subst (λ (o : Option TypeId). IsSome o)
     (sym (kind_by_name set c.requires.numbered c.requires.limits c.args.kind c.requires.kind c.args.builder.now _ c.find_type.result c.requires.kinds named c.find_type.ensures))
     refl
@@ -23,7 +23,7 @@ unwrap-requires g c =
 pub returns : goal.returns
 returns g c =
     let set = g.T.Table.tiles c.args.table.now in
-    let named = c.as_slice.ensures ∙ c.add_kind_name.ensures ∙ ap (λ l. l ++ set.kind_name c.args.kind) c.new-name.ensures in
+    let named = c.as_slice.ensures ∙ c.add_kind_name.ensures ∙ ap (λ l. l ++ (set.kind_row c.args.kind).1) c.new-name.ensures in
     same_Some _ _
     (sym c.unwrap.ensures
     ∙ kind_by_name set c.requires.numbered c.requires.limits c.args.kind c.requires.kind c.args.builder.now _ c.find_type.result c.requires.kinds named c.find_type.ensures)

@@ -20,5 +20,5 @@ returns-in-Some-clause-short g c =
     let listed = c.requires.numbered.sides c.args.kind c.args.side label c.requires.listed (sym c.side.ensures ∙ c.in-Some.is) in
     let short = label_short set c.requires.limits label listed in
     let more = longer c.add.new.self c.args.text.now (32 ∷ []) c.add.ensures in
-    let named = longer c.add_label_name.new.text c.add.new.self (set.label_name label) c.add_label_name.ensures in
+    let named = longer c.add_label_name.new.text c.add.new.self (set.label_row label).2 c.add_label_name.ensures in
     omega (arith, short, more, named)

@@ -14,14 +14,14 @@ pub add_side-requires-clause-room : goal.add_side-requires-clause-room
 add_side-requires-clause-room g c =
     let set = g.T.Table.tiles c.args.table.now in
     let short = kind_short set c.requires.limits c.args.kind c.requires.listed in
-    let named = named_length c.clear.new.self c.add.new.self c.add_kind_name.new.text (codes "tile ") (set.kind_name c.args.kind) 40 c.clear.ensures c.add.ensures c.add_kind_name.ensures short in
+    let named = named_length c.clear.new.self c.add.new.self c.add_kind_name.new.text (codes "tile ") (set.kind_row c.args.kind).1 40 c.clear.ensures c.add.ensures c.add_kind_name.ensures short in
     omega (arith, named)
 
 pub add_side-requires-2-clause-room : goal.add_side-requires-2-clause-room
 add_side-requires-2-clause-room g c =
     let set = g.T.Table.tiles c.args.table.now in
     let short = kind_short set c.requires.limits c.args.kind c.requires.listed in
-    let named = named_length c.clear.new.self c.add.new.self c.add_kind_name.new.text (codes "tile ") (set.kind_name c.args.kind) 40 c.clear.ensures c.add.ensures c.add_kind_name.ensures short in
+    let named = named_length c.clear.new.self c.add.new.self c.add_kind_name.new.text (codes "tile ") (set.kind_row c.args.kind).1 40 c.clear.ensures c.add.ensures c.add_kind_name.ensures short in
     let north = c.add_side.ensures.short in
     omega (arith, named, north)
 
@@ -29,7 +29,7 @@ pub add_side-requires-3-clause-room : goal.add_side-requires-3-clause-room
 add_side-requires-3-clause-room g c =
     let set = g.T.Table.tiles c.args.table.now in
     let short = kind_short set c.requires.limits c.args.kind c.requires.listed in
-    let named = named_length c.clear.new.self c.add.new.self c.add_kind_name.new.text (codes "tile ") (set.kind_name c.args.kind) 40 c.clear.ensures c.add.ensures c.add_kind_name.ensures short in
+    let named = named_length c.clear.new.self c.add.new.self c.add_kind_name.new.text (codes "tile ") (set.kind_row c.args.kind).1 40 c.clear.ensures c.add.ensures c.add_kind_name.ensures short in
     let north = c.add_side.ensures.short in
     let east = c.add_side-2.ensures.short in
     omega (arith, named, north, east)
@@ -38,7 +38,7 @@ pub add_side-requires-4-clause-room : goal.add_side-requires-4-clause-room
 add_side-requires-4-clause-room g c =
     let set = g.T.Table.tiles c.args.table.now in
     let short = kind_short set c.requires.limits c.args.kind c.requires.listed in
-    let named = named_length c.clear.new.self c.add.new.self c.add_kind_name.new.text (codes "tile ") (set.kind_name c.args.kind) 40 c.clear.ensures c.add.ensures c.add_kind_name.ensures short in
+    let named = named_length c.clear.new.self c.add.new.self c.add_kind_name.new.text (codes "tile ") (set.kind_row c.args.kind).1 40 c.clear.ensures c.add.ensures c.add_kind_name.ensures short in
     let north = c.add_side.ensures.short in
     let east = c.add_side-2.ensures.short in
     let south = c.add_side-3.ensures.short in
@@ -48,7 +48,7 @@ pub add-requires-2 : goal.add-requires-2
 add-requires-2 g c =
     let set = g.T.Table.tiles c.args.table.now in
     let short = kind_short set c.requires.limits c.args.kind c.requires.listed in
-    let named = named_length c.clear.new.self c.add.new.self c.add_kind_name.new.text (codes "tile ") (set.kind_name c.args.kind) 40 c.clear.ensures c.add.ensures c.add_kind_name.ensures short in
+    let named = named_length c.clear.new.self c.add.new.self c.add_kind_name.new.text (codes "tile ") (set.kind_row c.args.kind).1 40 c.clear.ensures c.add.ensures c.add_kind_name.ensures short in
     let north = c.add_side.ensures.short in
     let east = c.add_side-2.ensures.short in
     let south = c.add_side-3.ensures.short in

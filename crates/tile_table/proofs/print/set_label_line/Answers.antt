@@ -15,14 +15,14 @@ pub add-requires-2 : goal.add-requires-2
 add-requires-2 g c =
     let set = g.T.Table.tiles c.args.table.now in
     let short = label_short set c.requires.limits c.args.label c.requires.listed in
-    let named = named_length c.clear.new.self c.add.new.self c.add_label_name.new.text (codes "glue ") (set.label_name c.args.label) 40 c.clear.ensures c.add.ensures c.add_label_name.ensures short in
+    let named = named_length c.clear.new.self c.add.new.self c.add_label_name.new.text (codes "glue ") (set.label_row c.args.label).2 40 c.clear.ensures c.add.ensures c.add_label_name.ensures short in
     omega (arith, named)
 
 pub add_number-requires : goal.add_number-requires
 add_number-requires g c =
     let set = g.T.Table.tiles c.args.table.now in
     let short = label_short set c.requires.limits c.args.label c.requires.listed in
-    let named = named_length c.clear.new.self c.add.new.self c.add_label_name.new.text (codes "glue ") (set.label_name c.args.label) 40 c.clear.ensures c.add.ensures c.add_label_name.ensures short in
+    let named = named_length c.clear.new.self c.add.new.self c.add_label_name.new.text (codes "glue ") (set.label_row c.args.label).2 40 c.clear.ensures c.add.ensures c.add_label_name.ensures short in
     let space = longer c.add-2.new.self c.add_label_name.new.text (32 ∷ []) c.add-2.ensures in
     let weak = c.requires.limits.strengths c.args.label c.requires.listed in
     let is = c.strength.ensures in
@@ -33,7 +33,7 @@ pub add-requires-3 : goal.add-requires-3
 add-requires-3 g c =
     let set = g.T.Table.tiles c.args.table.now in
     let short = label_short set c.requires.limits c.args.label c.requires.listed in
-    let named = named_length c.clear.new.self c.add.new.self c.add_label_name.new.text (codes "glue ") (set.label_name c.args.label) 40 c.clear.ensures c.add.ensures c.add_label_name.ensures short in
+    let named = named_length c.clear.new.self c.add.new.self c.add_label_name.new.text (codes "glue ") (set.label_row c.args.label).2 40 c.clear.ensures c.add.ensures c.add_label_name.ensures short in
     let space = longer c.add-2.new.self c.add_label_name.new.text (32 ∷ []) c.add-2.ensures in
     let weak = c.requires.limits.strengths c.args.label c.requires.listed in
     let is = c.strength.ensures in

@@ -14,7 +14,7 @@ pub add-requires-2 : goal.add-requires-2
 add-requires-2 g c =
     let set = g.T.Table.tiles c.args.table.now in
     let short = kind_short set c.requires.limits c.args.kind c.requires.listed in
-    let named = named_length c.clear.new.self c.add.new.self c.add_kind_name.new.text (codes "seed 0 0 ") (set.kind_name c.args.kind) 40 c.clear.ensures c.add.ensures c.add_kind_name.ensures short in
+    let named = named_length c.clear.new.self c.add.new.self c.add_kind_name.new.text (codes "seed 0 0 ") (set.kind_row c.args.kind).1 40 c.clear.ensures c.add.ensures c.add_kind_name.ensures short in
     omega (arith, named)
 
 pub returns : goal.returns
