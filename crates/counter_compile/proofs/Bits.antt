@@ -1,10 +1,10 @@
 -- Bits and carries of a number and the next one.
-use Rattle.std.proofs.Common.{◌≡◌, ◌⊎◌, ◌<◌, ◌≤◌, nat_lt, ◌*◌, ◌/◌, ◌%◌, ◌^◌, ◌==◌, ℕ, zero, suc, Bool, true, false, ◌&&◌, refl, sym, ◌∙◌, ap, inl, inr, arith}
+use Rattle.std.proofs.Common.{◌≡◌, ◌⊎◌, ◌<◌, ◌≤◌, nat_lt, ◌*◌, ◌/◌, ◌%◌, ◌^◌, ◌==◌, ℕ, zero, suc, Bool, true, false, not, ◌&&◌, refl, sym, ◌∙◌, ap, inl, inr, arith}
 use Rattle.std.proofs.lemmas.Bool.Decides.{eqb_tells, nat_tests}
 use Rattle.std.proofs.lemmas.Nat.Bits.{bit_at-suc, bit_at_lowest, bit_at_above}
 use Rattle.std.proofs.Math.Nat.{pow-succ'}
-use Rattle.counter_compile.specs.Tiles.{bit, xor}
-use Rattle.counter_compile.proofs.Cells.{carry}
+use mathlib.Core.Bool.{xor, beq}
+use Rattle.counter_compile.proofs.Cells.{bit, carry}
 
 bit-zero : (n : ℕ) → bit 0 n ≡ (n % 2 == 1)
 bit-zero n = ap (λ m. m == 1) (bit_at_lowest n)
@@ -25,7 +25,13 @@ parity n = elim (eqb_tells (n % 2) 1) [
   ]
 ]
 
+-- as code has it
+pub xor_is : (b c : Bool) → not (beq b c) ≡ xor b c
+unfolding xor
+xor_is b c = refl
+
 xor-false : (b : Bool) → xor b false ≡ b
+unfolding xor
 xor-false true = refl
 xor-false false = refl
 
@@ -36,6 +42,7 @@ halves p n next = elim (parity n) [
 ]
 
 pub bit-suc : (p n : ℕ) → bit p (suc n) ≡ xor (bit p n) (carry p n)
+unfolding xor
 bit-suc zero n = bit-zero (suc n) ∙ by ∙ ap (λ b. xor b true) (sym (bit-zero n))
   where
     by : (suc n % 2 == 1) ≡ xor (n % 2 == 1) true

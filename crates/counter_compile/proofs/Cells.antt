@@ -1,8 +1,23 @@
 -- What stands in each cell of a counter, by its row.
-use Rattle.std.proofs.Common.{ℕ, zero, suc, ◌-◌, ◌%◌, ◌/◌, ◌^◌, ◌==◌, nat_lt, nat_le, Bool, true, ◌&&◌, cond, Option, Some, None}
+use Rattle.std.proofs.Common.{◌≡◌, refl, ap, if◌then◌else◌, ℕ, zero, suc, ◌-◌, ◌%◌, ◌/◌, ◌^◌, ◌==◌, nat_lt, nat_le, Bool, true, ◌&&◌, cond, Option, Some, None}
+use Rattle.std.specs.Int.{bit_at}
+use lib.Dec.{eqb-suc-zero}
 use Rattle.counter_compile.specs.declared.kind.Kind.{Kind}
 use Rattle.counter_compile.specs.declared.kind.Kind.TheVariants.{First, AddEast, AddMiddle, AddWest, CopyWest, CopyMiddle, CopyEast}
-use Rattle.counter_compile.specs.Tiles.{bit, by_column}
+
+-- whether the bit of weight 2^p of n is 1
+abbrev pub bit : ℕ → ℕ → Bool
+bit p n = bit_at n p == 1
+
+-- one of three: at the west end, between the ends, and at the east end
+abbrev pub by_column : {A : Type 0} → ℕ → ℕ → A → A → A → A
+by_column last zero west middle east = west
+by_column last (suc i) west middle east = if suc i == last then east else middle
+
+-- the same by its tests
+pub column_is : {A : Type 0} (last i : ℕ) (west middle east : A) → (if i == 0 then west else if i == last then east else middle) ≡ by_column last i west middle east
+column_is last zero west middle east = refl
+column_is last (suc i) west middle east = ap (λ t. cond t west (if suc i == last then east else middle)) (eqb-suc-zero i)
 
 -- whether the bits below the one of weight 2^p are all 1, so that an added 1 is carried into it
 abbrev pub carry : ℕ → ℕ → Bool

@@ -1,5 +1,6 @@
 -- What grows from a counter's tiles.
 use Rattle.std.proofs.Common.{◌≡◌, ◌<◌, ◌≤◌, ◌+◌, ◌-◌, ◌*◌, ◌/◌, ◌%◌, ◌^◌, ◌==◌, cond, not, ℕ, ℤ, zero, suc, pos, ◌≤ℤ◌, Bool, true, false, List, ◌∷◌, map, Some, slice_get, option_map, option_and_then, refl, sym, ◌∙◌, ap, subst, inl, inr, arith}
+use Rattle.std.specs.Bool.{xor}
 use Rattle.std.specs.List.{range_with_len}
 use Rattle.std.proofs.lemmas.Bool.{cases_lt}
 use Rattle.std.proofs.lemmas.Bool.Decides.{eqb_tells}
@@ -17,9 +18,10 @@ use Rattle.design.proofs.Rows.{cells_are_filled, deterministic_rows}
 use Rattle.design.proofs.Tables.{kind_there}
 use Rattle.counter_compile.specs.declared.kind.Kind.{Kind}
 use Rattle.counter_compile.specs.declared.kind.Kind.TheVariants.{First, AddEast, AddMiddle, AddWest, CopyWest, CopyMiddle, CopyEast}
-use Rattle.counter_compile.specs.Tiles.{bit, digit, by_column, xor, shown_bit, kind_number, kinds_of, tiles_of}
+use Rattle.counter_compile.specs.Tiles.{digit, shown_bit, kinds_of, tiles_of}
+use Rattle.counter_compile.specs.Inner.Rows.{kind_number}
 use Rattle.counter_compile.specs.Counters.{row_count, counter_box, counter_system, number_of, bit_in, number_in_row}
-use Rattle.counter_compile.proofs.Cells.{Row, Base, Adding, Copying, row_above, row_at, value_in, kind_in, carry, cell}
+use Rattle.counter_compile.proofs.Cells.{bit, by_column, Row, Base, Adding, Copying, row_above, row_at, value_in, kind_in, carry, cell}
 use Rattle.counter_compile.proofs.Listed.{is_tile_set}
 use Rattle.counter_compile.proofs.Growing.{counter_rows, are_grown, cell_from, cell_filled, by_column-ap, column_between, column_last, xor-true}
 use Rattle.counter_compile.proofs.Bits.{bit-suc}

@@ -1,5 +1,6 @@
 -- The rows of a counter grow as the table has them.
 use Rattle.std.proofs.Common.{◌≡◌, ◌⊎◌, ◌<◌, ◌≤◌, ◌-◌, ◌^◌, ◌==◌, ◌&&◌, nat_le, cond, ℕ, zero, suc, Bool, true, false, not, Option, Some, None, option_and_then, refl, sym, ◌∙◌, ap, subst, inl, inr, arith, zero-le}
+use mathlib.Core.Bool.{xor}
 use Rattle.std.proofs.Math.Nat.{le_refl}
 use Rattle.std.proofs.lemmas.Option.{same_Some, none-some}
 use Rattle.std.proofs.lemmas.Bool.{cases_lt, cases_order}
@@ -14,8 +15,8 @@ use Rattle.counter_compile.specs.declared.kind.Kind.{Kind}
 use Rattle.counter_compile.specs.declared.kind.Kind.TheVariants.{First, AddEast, AddMiddle, AddWest, CopyWest, CopyMiddle, CopyEast}
 use Rattle.counter_compile.specs.declared.label.Label.{Label}
 use Rattle.counter_compile.specs.declared.label.Label.TheVariants.{BitWest, Bit, BitEast, SumEast, Carry, SumWest, GoAhead, Chain}
-use Rattle.counter_compile.specs.Tiles.{bit, by_column, xor, tiles_of, side}
-use Rattle.counter_compile.proofs.Cells.{carry, Row, Base, Adding, Copying, row_above, row_at, value_in, kind_in, cells_of}
+use Rattle.counter_compile.specs.Tiles.{tiles_of, side}
+use Rattle.counter_compile.proofs.Cells.{bit, by_column, column_is, carry, Row, Base, Adding, Copying, row_above, row_at, value_in, kind_in, cells_of}
 use Rattle.counter_compile.proofs.Bits.{bit-suc, carry-suc, carry-out}
 use Rattle.counter_compile.proofs.Listed.{IsKind, kind_listed}
 
@@ -109,6 +110,7 @@ both-false true = refl
 both-false false = refl
 
 pub xor-true : (b : Bool) → xor b true ≡ not b
+unfolding xor
 xor-true true = refl
 xor-true false = refl
 
@@ -203,7 +205,7 @@ module _ (last v : ℕ) where
 
   first_up : (i : ℕ) → i ≤ last → IsThere Base → seen Base i North ≡ value_up v i
   unfolding value_up
-  first_up i column row = let b = bit (last - i) v in seen_there Base i North column row ∙ by_column-ap (λ l. Some l) last i (BitWest b) (Bit b) (BitEast b)
+  first_up i column row = let b = bit (last - i) v in seen_there Base i North column row ∙ ap (λ l. Some l) (column_is last i (BitWest b) (Bit b) (BitEast b)) ∙ by_column-ap (λ l. Some l) last i (BitWest b) (Bit b) (BitEast b)
 
   copying_up : (n i : ℕ) → i ≤ last → IsThere (Copying n) → seen (Copying n) i North ≡ value_up n i
   unfolding value_up

@@ -21,8 +21,8 @@ use Rattle.counter_compile.specs.declared.kind.Kind.TheVariants.{First, AddEast,
 use Rattle.counter_compile.specs.declared.label.Label.{Label}
 use Rattle.counter_compile.specs.declared.label.Label.TheVariants.{BitWest, Bit, BitEast, SumEast, Carry, SumWest, GoAhead, Chain}
 use Rattle.counter_compile.specs.declared.stop.CounterStop.TheVariants.{BitsOutOfRange, StartTooLarge, TooTall}
-use Rattle.counter_compile.specs.Tiles.{kind_name, kinds_of, labels_of, tiles_of, later_kinds, fixed_labels}
-use Rattle.counter_compile.specs.Inner.Labels.{label_name, strength}
+use Rattle.counter_compile.specs.Tiles.{kinds_of, labels_of, tiles_of, later_kinds, fixed_labels}
+use Rattle.counter_compile.specs.Inner.Rows.{kind_name, label_name, strength}
 use Rattle.counter_compile.specs.Counters.{counter_refusal, row_count, counter_box, counter_system}
 use Rattle.counter_compile.specs.Inner.Accepted.{IsAccepted}
 use Rattle.counter_compile.proofs.Listed.{IsKind, IsLabel, listed_kind, listed_label, kind_listed, is_tile_set}
@@ -53,25 +53,25 @@ module _ {X : Type 0} (name : X → List ℕ) (xs : List X) where
   found_apart x y at_x at_y same = same_Some x y (sym at_x ∙ ap found same ∙ at_y)
 
 -- a kind is of the first row, or is found by its name, which then begins with another byte; likewise a label
-kind_sort : (k : Kind) → ((i : ℕ) × (k ≡ First i)) ⊎ ((found kind_name later_kinds (kind_name k) ≡ Some k) × (get_or (kind_name k) 0 0 ≢ 116))
+kind_sort : (last : ℕ) (k : Kind) → ((i : ℕ) × (k ≡ First i)) ⊎ ((found (kind_name last) later_kinds (kind_name last k) ≡ Some k) × (get_or (kind_name last k) 0 0 ≢ 116))
 unfolding digits
-kind_sort (First i) = inl (i, refl)
-kind_sort (AddEast false) = inr (refl, λ e. omega (arith, e))
-kind_sort (AddEast true) = inr (refl, λ e. omega (arith, e))
-kind_sort (AddMiddle false false) = inr (refl, λ e. omega (arith, e))
-kind_sort (AddMiddle false true) = inr (refl, λ e. omega (arith, e))
-kind_sort (AddMiddle true false) = inr (refl, λ e. omega (arith, e))
-kind_sort (AddMiddle true true) = inr (refl, λ e. omega (arith, e))
-kind_sort (AddWest false false) = inr (refl, λ e. omega (arith, e))
-kind_sort (AddWest false true) = inr (refl, λ e. omega (arith, e))
-kind_sort (AddWest true false) = inr (refl, λ e. omega (arith, e))
-kind_sort (AddWest true true) = inr (refl, λ e. omega (arith, e))
-kind_sort (CopyWest false) = inr (refl, λ e. omega (arith, e))
-kind_sort (CopyWest true) = inr (refl, λ e. omega (arith, e))
-kind_sort (CopyMiddle false) = inr (refl, λ e. omega (arith, e))
-kind_sort (CopyMiddle true) = inr (refl, λ e. omega (arith, e))
-kind_sort (CopyEast false) = inr (refl, λ e. omega (arith, e))
-kind_sort (CopyEast true) = inr (refl, λ e. omega (arith, e))
+kind_sort last (First i) = inl (i, refl)
+kind_sort last (AddEast false) = inr (refl, λ e. omega (arith, e))
+kind_sort last (AddEast true) = inr (refl, λ e. omega (arith, e))
+kind_sort last (AddMiddle false false) = inr (refl, λ e. omega (arith, e))
+kind_sort last (AddMiddle false true) = inr (refl, λ e. omega (arith, e))
+kind_sort last (AddMiddle true false) = inr (refl, λ e. omega (arith, e))
+kind_sort last (AddMiddle true true) = inr (refl, λ e. omega (arith, e))
+kind_sort last (AddWest false false) = inr (refl, λ e. omega (arith, e))
+kind_sort last (AddWest false true) = inr (refl, λ e. omega (arith, e))
+kind_sort last (AddWest true false) = inr (refl, λ e. omega (arith, e))
+kind_sort last (AddWest true true) = inr (refl, λ e. omega (arith, e))
+kind_sort last (CopyWest false) = inr (refl, λ e. omega (arith, e))
+kind_sort last (CopyWest true) = inr (refl, λ e. omega (arith, e))
+kind_sort last (CopyMiddle false) = inr (refl, λ e. omega (arith, e))
+kind_sort last (CopyMiddle true) = inr (refl, λ e. omega (arith, e))
+kind_sort last (CopyEast false) = inr (refl, λ e. omega (arith, e))
+kind_sort last (CopyEast true) = inr (refl, λ e. omega (arith, e))
 
 label_sort : (g : Label) → ((i : ℕ) × (g ≡ Chain i)) ⊎ ((found label_name fixed_labels (label_name g) ≡ Some g) × (get_or (label_name g) 0 0 ≢ 112))
 unfolding digits
@@ -91,19 +91,19 @@ label_sort GoAhead = inr (refl, λ e. omega (arith, e))
 label_sort (Chain i) = inl (i, refl)
 
 -- two that have one name are one, where their numbers are small
-kinds_apart : (last : ℕ) → last ≤ 31 → (j k : Kind) → IsKind last j → IsKind last k → kind_name j ≡ kind_name k → j ≡ k
-kinds_apart last small j k listed_j listed_k same = elim (kind_sort j) [
-  | inl first_j ↦ elim (kind_sort k) [
+kinds_apart : (last : ℕ) → last ≤ 31 → (j k : Kind) → IsKind last j → IsKind last k → kind_name last j ≡ kind_name last k → j ≡ k
+kinds_apart last small j k listed_j listed_k same = elim (kind_sort last j) [
+  | inl first_j ↦ elim (kind_sort last k) [
     | inl first_k ↦
         let in_j : first_j.0 ≤ last = subst (IsKind last) first_j.1 listed_j in
         let in_k : first_k.0 ≤ last = subst (IsKind last) first_k.1 listed_k in
-        let names : kind_name (First first_j.0) ≡ kind_name (First first_k.0) = ap kind_name (sym first_j.1) ∙ same ∙ ap kind_name first_k.1 in
+        let names : kind_name last (First first_j.0) ≡ kind_name last (First first_k.0) = ap (kind_name last) (sym first_j.1) ∙ same ∙ ap (kind_name last) first_k.1 in
         first_j.1 ∙ ap First (numbered_apart (codes "t:") first_j.0 first_k.0 (omega (arith, small, in_j)) (omega (arith, small, in_k)) names) ∙ sym first_k.1
-    | inr later_k ↦ absurd (later_k.1 (ap (λ n. get_or n 0 0) (sym same ∙ ap kind_name first_j.1)))
+    | inr later_k ↦ absurd (later_k.1 (ap (λ n. get_or n 0 0) (sym same ∙ ap (kind_name last) first_j.1)))
   ]
-  | inr later_j ↦ elim (kind_sort k) [
-    | inl first_k ↦ absurd (later_j.1 (ap (λ n. get_or n 0 0) (same ∙ ap kind_name first_k.1)))
-    | inr later_k ↦ found_apart kind_name later_kinds j k later_j.0 later_k.0 same
+  | inr later_j ↦ elim (kind_sort last k) [
+    | inl first_k ↦ absurd (later_j.1 (ap (λ n. get_or n 0 0) (same ∙ ap (kind_name last) first_k.1)))
+    | inr later_k ↦ found_apart (kind_name last) later_kinds j k later_j.0 later_k.0 same
   ]
 ]
 
@@ -125,7 +125,7 @@ labels_apart last small g h listed_g listed_h same = elim (label_sort g) [
   ]
 ]
 
-kind_named : (last : ℕ) → last ≤ 31 → (k : Kind) → IsKind last k → IsName (kind_name k)
+kind_named : (last : ℕ) → last ≤ 31 → (k : Kind) → IsKind last k → IsName (kind_name last k)
 unfolding is_name digits
 kind_named last small (First i) within = numbered_name (codes "t:") i (omega (arith, small, within)) (omega arith) refl
 kind_named last small (AddEast false) within = refl
@@ -169,14 +169,14 @@ within_room name named = let short = name_short name named in omega (arith, shor
 numbered_room : (letter n : ℕ) → n < 2 ^ 32 → length (letter ∷ 58 ∷ decimal n) ≤ 256
 numbered_room letter n small = let few : length (decimal n) ≤ 10 = length-decimal-le 10 n (omega arith) (omega (arith, small)) (omega (arith, small)) in omega (arith, few)
 
-pub kind_short : (last : ℕ) → last < 2 ^ 32 → (k : Kind) → IsKind last k → length (kind_name k) ≤ 256
+pub kind_short : (last : ℕ) → last < 2 ^ 32 → (k : Kind) → IsKind last k → length (kind_name last k) ≤ 256
 kind_short last small (First i) within = numbered_room 116 i (omega (arith, small, within))
-kind_short last small (AddEast b) within = within_room (kind_name (AddEast b)) (kind_named 0 zero-le (AddEast b) tt)
-kind_short last small (AddMiddle b c) within = within_room (kind_name (AddMiddle b c)) (kind_named 0 zero-le (AddMiddle b c) tt)
-kind_short last small (AddWest b c) within = within_room (kind_name (AddWest b c)) (kind_named 0 zero-le (AddWest b c) tt)
-kind_short last small (CopyWest b) within = within_room (kind_name (CopyWest b)) (kind_named 0 zero-le (CopyWest b) tt)
-kind_short last small (CopyMiddle b) within = within_room (kind_name (CopyMiddle b)) (kind_named 0 zero-le (CopyMiddle b) tt)
-kind_short last small (CopyEast b) within = within_room (kind_name (CopyEast b)) (kind_named 0 zero-le (CopyEast b) tt)
+kind_short last small (AddEast b) within = within_room (kind_name last (AddEast b)) (kind_named 0 zero-le (AddEast b) tt)
+kind_short last small (AddMiddle b c) within = within_room (kind_name last (AddMiddle b c)) (kind_named 0 zero-le (AddMiddle b c) tt)
+kind_short last small (AddWest b c) within = within_room (kind_name last (AddWest b c)) (kind_named 0 zero-le (AddWest b c) tt)
+kind_short last small (CopyWest b) within = within_room (kind_name last (CopyWest b)) (kind_named 0 zero-le (CopyWest b) tt)
+kind_short last small (CopyMiddle b) within = within_room (kind_name last (CopyMiddle b)) (kind_named 0 zero-le (CopyMiddle b) tt)
+kind_short last small (CopyEast b) within = within_room (kind_name last (CopyEast b)) (kind_named 0 zero-le (CopyEast b) tt)
 
 pub label_short : (last : ℕ) → last < 2 ^ 32 → (g : Label) → IsLabel last g → length (label_name g) ≤ 256
 label_short last small (BitWest b) within = within_room (label_name (BitWest b)) (label_named 0 zero-le (BitWest b) tt)

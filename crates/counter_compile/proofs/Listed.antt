@@ -1,5 +1,5 @@
 -- The kinds and the labels of a counter are numbered in their order, and the labels on sides are listed.
-use Rattle.std.proofs.Common.{◌≡◌, ◌<◌, ◌≤◌, ◌+◌, ◌-◌, ◌==◌, nat_lt, cond, ℕ, zero, suc, Bool, List, true, false, [], ◌∷◌, ◌++◌, length, append_assoc, map, Option, Some, IfSome, slice_get, Contains, refl, ◌∙◌, ap, subst, inl, inr, arith}
+use Rattle.std.proofs.Common.{◌≡◌, ◌<◌, ◌≤◌, ◌+◌, ◌-◌, ◌==◌, nat_lt, cond, ℕ, zero, suc, Bool, List, true, false, [], ◌∷◌, ◌++◌, length, append_assoc, map, Option, Some, IfSome, slice_get, Contains, refl, sym, ◌∙◌, ap, subst, inl, inr, arith}
 use Rattle.std.specs.List.{range_with_len}
 use Rattle.std.proofs.lemmas.List.{length-map}
 use Rattle.std.proofs.lemmas.List.FromFn.{length-range_with_len}
@@ -15,8 +15,19 @@ use Rattle.counter_compile.specs.declared.kind.Kind.{Kind}
 use Rattle.counter_compile.specs.declared.kind.Kind.TheVariants.{First, AddEast, AddMiddle, AddWest, CopyWest, CopyMiddle, CopyEast}
 use Rattle.counter_compile.specs.declared.label.Label.{Label}
 use Rattle.counter_compile.specs.declared.label.Label.TheVariants.{BitWest, Bit, BitEast, SumEast, Carry, SumWest, GoAhead, Chain}
-use Rattle.counter_compile.specs.Tiles.{bit, by_column, kind_number, kinds_of, tiles_of, later_kinds, fixed_labels, side}
-use Rattle.counter_compile.specs.Inner.Labels.{label_number}
+use Rattle.counter_compile.specs.Tiles.{kinds_of, tiles_of, later_kinds, fixed_labels, side}
+use Rattle.counter_compile.specs.Inner.Rows.{kind_number, kind_name, label_number}
+use Rattle.counter_compile.proofs.Cells.{bit, by_column, column_is}
+
+-- the name of a kind is the same in each counter
+pub one_name : (last : ℕ) (k : Kind) → kind_name 0 k ≡ kind_name last k
+one_name last (First i) = refl
+one_name last (AddEast b) = refl
+one_name last (AddMiddle b c) = refl
+one_name last (AddWest b c) = refl
+one_name last (CopyWest b) = refl
+one_name last (CopyMiddle b) = refl
+one_name last (CopyEast b) = refl
 
 -- one number more
 range-push : {X : Type 0} (f : ℕ → X) (a n : ℕ) → map f (range_with_len a n) ++ f (a + n) ∷ [] ≡ map f (range_with_len a (suc n))
@@ -154,7 +165,7 @@ module _ (last v : ℕ) where
 
   -- each label on a side of a kind is one that the table names
   side_label : (k : Kind) (d : Side) → IsKind last k → IfSome (side last v k d) (IsLabel last)
-  side_label (First i) North within = column_label i (bit (last - i) v)
+  side_label (First i) North within = let b = bit (last - i) v in subst (IsLabel last) (sym (column_is last i (BitWest b) (Bit b) (BitEast b))) (column_label i b)
   side_label (First i) East within = elim (cases_lt i last) [
     | inl less ↦
         let is_less : nat_lt i last ≡ true = grind (arith, nat_tests, less) in

@@ -1,2 +1,2 @@
 pub mod Accepted
-pub mod Labels
+pub mod Rows

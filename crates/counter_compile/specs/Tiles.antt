@@ -1,6 +1,7 @@
 -- The tiles of a binary counter. Its columns are 0, at the west, to `last`, and column i has the bit of weight 2^(last - i).
-use Rattle.std.specs.Prelude.{ℕ, zero, suc, ◌+◌, ◌-◌, ◌*◌, ◌==◌, Bool, true, false, not, ◌&&◌, if◌then◌else◌, List, [], ◌∷◌, ◌++◌, map, drop, Option, Some, None, codes, decimal}
-use Rattle.std.specs.List.{range_with_len}
+use Rattle.std.specs.Prelude.{ℕ, suc, ◌+◌, ◌-◌, ◌*◌, ◌==◌, Bool, true, false, not, ◌&&◌, if◌then◌else◌, List, [], ◌∷◌, ◌++◌, map, drop, Option, Some, None, codes, decimal}
+use Rattle.std.specs.Bool.{xor}
+use Rattle.std.specs.List.{range_with_len, flat_map}
 use Rattle.std.specs.Int.{bit_at}
 use Rattle.atam.specs.declared.site.Side.{Side}
 use Rattle.design.specs.Sides.{by_side, label_ahead, label_behind}
@@ -10,30 +11,16 @@ use Rattle.counter_compile.specs.declared.label.Label.{Label}
 use Rattle.counter_compile.specs.declared.label.Label.TheVariants.{BitWest, Bit, BitEast, SumEast, Carry, SumWest, GoAhead, Chain}
 use Rattle.design.specs.TileSets.{TileSet}
 
-abbrev pub xor : Bool → Bool → Bool
-xor true b = not b
-xor false b = b
-
 abbrev pub digit : Bool → ℕ
-digit true = 1
-digit false = 0
-
--- whether the bit of weight 2^p of n is 1
-abbrev pub bit : ℕ → ℕ → Bool
-bit p n = bit_at n p == 1
-
--- one of three: at the west end, between the ends, and at the east end
-abbrev pub by_column : {A : Type 0} → ℕ → ℕ → A → A → A → A
-by_column last zero west middle east = west
-by_column last (suc i) west middle east = if suc i == last then east else middle
+digit b = if b then 1 else 0
 
 -- The table of the sides of each kind, for the first number v: north, east, south, west. A row that
 -- adds shows nothing upwards at the west end past the last number.
 abbrev pub side : ℕ → ℕ → Kind → Side → Option Label
 side last v (First i) =
-    let b = bit (last - i) v in
-    by_side (Some (by_column last i (BitWest b) (Bit b) (BitEast b)))
-    (label_ahead Chain last i) None (label_behind Chain i)
+    let b = bit_at v (last - i) == 1 in
+    let up = if i == 0 then BitWest b else if i == last then BitEast b else Bit b in
+    by_side (Some up) (label_ahead Chain last i) None (label_behind Chain i)
 side last v (AddEast b) = by_side (Some (SumEast (not b))) None (Some (BitEast b)) (Some (Carry b))
 side last v (AddMiddle b c) =
     by_side (Some (Bit (xor b c))) (Some (Carry c)) (Some (Bit b)) (Some (Carry (b && c)))
@@ -46,7 +33,7 @@ side last v (CopyEast b) = by_side (Some (BitEast b)) None (Some (SumEast b)) (S
 
 -- the bit that a tile shows
 abbrev pub shown_bit : ℕ → ℕ → Kind → Bool
-shown_bit last v (First i) = bit (last - i) v
+shown_bit last v (First i) = bit_at v (last - i) == 1
 shown_bit last v (AddEast b) = not b
 shown_bit last v (AddMiddle b c) = xor b c
 shown_bit last v (AddWest b c) = xor b c
@@ -54,23 +41,17 @@ shown_bit last v (CopyWest b) = b
 shown_bit last v (CopyMiddle b) = b
 shown_bit last v (CopyEast b) = b
 
-abbrev pub kind_name : Kind → List ℕ
-kind_name (First i) = codes "t:" ++ decimal i
-kind_name (AddEast b) = codes "ie:" ++ decimal (digit b)
-kind_name (AddMiddle b c) = codes "im:" ++ decimal (digit b) ++ decimal (digit c)
-kind_name (AddWest b c) = codes "iw:" ++ decimal (digit b) ++ decimal (digit c)
-kind_name (CopyWest b) = codes "cw:" ++ decimal (digit b)
-kind_name (CopyMiddle b) = codes "cm:" ++ decimal (digit b)
-kind_name (CopyEast b) = codes "ce:" ++ decimal (digit b)
-
-abbrev pub kind_number : ℕ → Kind → ℕ
-kind_number last (First i) = i
-kind_number last (AddEast b) = suc last + digit b
-kind_number last (AddMiddle b c) = suc last + 2 + 2 * digit b + digit c
-kind_number last (AddWest b c) = suc last + 6 + 2 * digit b + digit c
-kind_number last (CopyWest b) = suc last + 10 + digit b
-kind_number last (CopyMiddle b) = suc last + 12 + digit b
-kind_number last (CopyEast b) = suc last + 14 + digit b
+-- the table of kinds: the place of each in the list of kinds, and its name
+abbrev pub kind_row : ℕ → Kind → ℕ × List ℕ
+kind_row last (First i) = (i, codes "t:" ++ decimal i)
+kind_row last (AddEast b) = (suc last + digit b, codes "ie:" ++ decimal (digit b))
+kind_row last (AddMiddle b c) =
+    (suc last + 2 + 2 * digit b + digit c, codes "im:" ++ decimal (digit b) ++ decimal (digit c))
+kind_row last (AddWest b c) =
+    (suc last + 6 + 2 * digit b + digit c, codes "iw:" ++ decimal (digit b) ++ decimal (digit c))
+kind_row last (CopyWest b) = (suc last + 10 + digit b, codes "cw:" ++ decimal (digit b))
+kind_row last (CopyMiddle b) = (suc last + 12 + digit b, codes "cm:" ++ decimal (digit b))
+kind_row last (CopyEast b) = (suc last + 14 + digit b, codes "ce:" ++ decimal (digit b))
 
 -- the table of labels: the place of each in the list of labels, its strength and its name
 abbrev pub label_row : Label → ℕ × ℕ × List ℕ
@@ -83,34 +64,22 @@ label_row (SumWest b) = (10 + digit b, 2, codes "t" ++ decimal (digit b))
 label_row GoAhead = (12, 1, codes "k")
 label_row (Chain i) = (12 + i, 2, codes "p:" ++ decimal i)
 
-abbrev pub both : List Bool
-both = false ∷ true ∷ []
+-- what is made of 0 and of 1
+abbrev pub of_each_bit : {A : Type 0} → (Bool → A) → List A
+of_each_bit make = make false ∷ make true ∷ []
 
-abbrev pub all_four : List (Bool × Bool)
-all_four = (false, false) ∷ (false, true) ∷ (true, false) ∷ (true, true) ∷ []
-
+-- The kinds are the tile of each column of the first row, then those of later rows; the labels
+-- those that are the same in each counter, then those between the columns of the first row.
 abbrev pub tiles_of : ℕ → ℕ → TileSet Kind Label
 tiles_of last v = record {
-  -- the tile of each column of the first row, then those of later rows
-  kinds =
-      map First (range_with_len 0 (suc last))
-      ++ (map AddEast both
-      ++ (map (λ p. AddMiddle p.0 p.1) all_four
-      ++ (map (λ p. AddWest p.0 p.1) all_four
-      ++ (map CopyWest both ++ (map CopyMiddle both ++ map CopyEast both)))));
-  -- those that are the same in each counter, then those between the columns of the first row
-  labels =
-      map BitWest both
-      ++ (map Bit both
-      ++ (map BitEast both
-      ++ (map SumEast both
-      ++ (map Carry both ++ (map SumWest both ++ GoAhead ∷ map Chain (range_with_len 1 last))))));
+  kinds = map First (range_with_len 0 (suc last)) ++ flat_map of_each_bit
+      (AddEast ∷ AddMiddle false ∷ AddMiddle true ∷ AddWest false ∷ AddWest true
+      ∷ CopyWest ∷ CopyMiddle ∷ CopyEast ∷ []);
+  labels = flat_map of_each_bit (BitWest ∷ Bit ∷ BitEast ∷ SumEast ∷ Carry ∷ SumWest ∷ [])
+      ++ GoAhead ∷ map Chain (range_with_len 1 last);
   side = side last v;
-  strength = λ g. (label_row g).1;
-  kind_number = kind_number last;
-  label_number = λ g. (label_row g).0;
-  kind_name = kind_name;
-  label_name = λ g. (label_row g).2;
+  kind_row = kind_row last;
+  label_row = label_row;
 }
 
 -- its parts: all kinds and those of later rows, all labels and those of each counter

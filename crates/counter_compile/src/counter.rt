@@ -1,9 +1,10 @@
 // The table of a counter.
-ghost use Rattle.std.specs.Prelude.{ℕ, ◌≡◌, ◌-◌, ◌<◌, ◌^◌, ◌++◌, ◌&&◌, if◌then◌else◌, Some, None, IfOk, map};
+ghost use Rattle.std.specs.Prelude.{ℕ, ◌≡◌, ◌==◌, ◌-◌, ◌<◌, ◌^◌, ◌++◌, ◌&&◌, if◌then◌else◌, Some, None, IfOk, map};
+ghost use Rattle.std.specs.Bool.{xor};
+ghost use Rattle.std.specs.Int.{bit_at};
 ghost use Rattle.std.specs.List.{range_with_len};
 ghost use Rattle.design.specs.Sides.{label_ahead, label_behind};
-ghost use Rattle.counter_compile.specs.Tiles.{bit, by_column, kinds_of, labels_of, shown_bit, tiles_of, xor};
-ghost use Rattle.counter_compile.specs.declared.label.Label.TheVariants.{Bit, BitEast, BitWest};
+ghost use Rattle.counter_compile.specs.Tiles.{kinds_of, labels_of, shown_bit, tiles_of};
 
 use crate::kind::{Kind, LATER_KINDS};
 use crate::label::{FIXED_LABELS, Label};
@@ -32,6 +33,7 @@ impl Table<Kind, Label> for Counter {
         label.strength()
     }
 
+    #[tactic(auto, using(crate::proofs::Listed::one_name))]
     fn add_kind_name(&self, text: &mut ShortText, kind: Kind) {
         kind.add_name(text)
     }
@@ -68,6 +70,7 @@ impl Counter {
     }
 
     /// The bit that a tile shows.
+    #[tactic(auto, using(crate::proofs::Bits::xor_is))]
     pub fn shown_bit(&self, kind: Kind) -> bool
         ensures { result ≡ shown_bit self.now.last self.now.start kind }
     {
@@ -81,7 +84,7 @@ impl Counter {
 
     // The bit of the start in a column.
     fn start_bit(&self, column: u32) -> bool
-        ensures { result ≡ bit (self.now.last - column) self.now.start }
+        ensures { result ≡ (bit_at self.now.start (self.now.last - column) == 1) }
     {
         has_bit(self.start, self.last.saturating_sub(column))
     }
@@ -98,6 +101,7 @@ impl Counter {
         }
     }
 
+    #[tactic(auto, using(crate::proofs::Bits::xor_is))]
     fn north(&self, kind: Kind) -> Option<Label>
         ensures { result ≡ (tiles_of self.now.last self.now.start).side kind Side.North }
     {
@@ -125,8 +129,8 @@ impl Counter {
 
     // What the tile of a column shows upwards in the first row.
     fn first_north(&self, column: u32) -> Label
-        ensures { (let b = bit (self.now.last - column) self.now.start in
-            result ≡ by_column self.now.last column (BitWest b) (Bit b) (BitEast b)) }
+        ensures { Some result
+            ≡ (tiles_of self.now.last self.now.start).side (Kind.First column) Side.North }
     {
         let bit = self.start_bit(column);
         if column == 0 {
@@ -187,6 +191,7 @@ fn chain_west(column: u32) -> Option<Label>
 }
 
 // What a row that adds shows upwards at the west end: nothing where the numbers end.
+#[tactic(auto, using(crate::proofs::Bits::xor_is))]
 fn sum_west(bit: bool, carry: bool) -> Option<Label>
     ensures { result ≡ (if bit && carry then None else Some (Label.SumWest (xor bit carry))) }
 {
@@ -199,7 +204,7 @@ fn sum_west(bit: bool, carry: bool) -> Option<Label>
 
 /// Whether the bit of weight 2^position is 1.
 fn has_bit(number: u64, position: u32) -> bool
-    ensures { result ≡ bit position number }
+    ensures { result ≡ (bit_at number position == 1) }
 {
     position < 64 && (number >> position) % 2 == 1
 }

@@ -1,7 +1,8 @@
 // The kinds of a counter's tiles.
 ghost use Rattle.std.specs.Prelude.{◌≡◌, ◌≤◌, ◌+◌, ◌++◌, length, decimal};
 ghost use Rattle.tile_table.specs.declared.short_text.TheConstants.{SHORT_ROOM};
-ghost use Rattle.counter_compile.specs.Tiles.{digit, kind_name};
+ghost use Rattle.counter_compile.specs.Tiles.{digit};
+ghost use Rattle.counter_compile.specs.Inner.Rows.{kind_name};
 
 use tile_table::ShortText;
 
@@ -45,10 +46,10 @@ pub const LATER_KINDS: [Kind; 16] = [
 ];
 
 impl Kind {
-    /// Adds the name to a text.
+    /// Adds the name, which is the same in each counter, to a text.
     pub fn add_name(self, text: &mut ShortText)
-        requires { length text.old + length (kind_name self) ≤ SHORT_ROOM }
-        ensures { text.new ≡ text.old ++ kind_name self }
+        requires { length text.old + length (kind_name 0 self) ≤ SHORT_ROOM }
+        ensures { text.new ≡ text.old ++ kind_name 0 self }
     {
         match self {
             Kind::First(column) => {

@@ -1,7 +1,7 @@
 // The labels on a counter's tiles.
 ghost use Rattle.std.specs.Prelude.{◌≡◌, ◌≤◌, ◌+◌, ◌++◌, length};
 ghost use Rattle.tile_table.specs.declared.short_text.TheConstants.{SHORT_ROOM};
-ghost use Rattle.counter_compile.specs.Inner.Labels.{label_name, strength};
+ghost use Rattle.counter_compile.specs.Inner.Rows.{label_name, strength};
 
 use crate::kind::{add_with_bit, digit};
 use tile_table::ShortText;
