@@ -15,7 +15,7 @@ use Rattle.quadrant_compile.specs.declared.tile.Label.TheVariants.{Eastward, Nor
 use Rattle.quadrant_compile.specs.Quadrants.{RuleQuadrant, IsQuadrant}
 use Rattle.quadrant_compile.specs.QuadrantSystems.{tiles_of, quadrant_system}
 use Rattle.quadrant_compile.specs.Inner.Listed.{kinds, area_of}
-use Rattle.quadrant_compile.specs.Inner.Listed.{kind_name, label_name}
+use Rattle.quadrant_compile.specs.Inner.Listed.{kind_name, label_name, strength}
 use Rattle.quadrant_compile.specs.Inner.Members.{IsKind, IsLabel}
 use Rattle.quadrant_compile.proofs.Ruling.{pair_bounds}
 use Rattle.quadrant_compile.proofs.Listed.{kind_listed, listed_kind, listed_label, label_count, kind_count, is_tile_set}
@@ -113,7 +113,7 @@ module _ (q : RuleQuadrant) (is_quadrant : IsQuadrant q) where
       ap (λ n. Row n) (numbered_apart (codes "a:") i j (omega (arith, a, most)) (omega (arith, b, most)) same)
   one_label g h first second code same = let never : ⊥ = omega (arith, code) in absurd never
 
-  weak_label : (g : Label) → (tiles_of q).strength g ≤ 250
+  weak_label : (g : Label) → strength q g ≤ 250
   weak_label (Eastward a) = omega arith
   weak_label (Northward a) = omega arith
   weak_label (Column i) = omega arith

@@ -16,10 +16,10 @@ use Rattle.quadrant_compile.specs.declared.tile.Label.{Label}
 use Rattle.quadrant_compile.specs.declared.tile.Label.TheVariants.{Eastward, Northward, Column, Row}
 use Rattle.quadrant_compile.specs.Quadrants.{RuleQuadrant, answer_among}
 use Rattle.quadrant_compile.specs.Recurrence.{answer, east, north}
-use Rattle.quadrant_compile.specs.Tiles.{cell_side, label_on, strength}
+use Rattle.quadrant_compile.specs.Tiles.{cell_side, label_on}
 use Rattle.quadrant_compile.specs.Recurrence.{cell_for, kind_at}
 use Rattle.quadrant_compile.specs.QuadrantSystems.{tiles_of}
-use Rattle.quadrant_compile.specs.Inner.Listed.{kinds}
+use Rattle.quadrant_compile.specs.Inner.Listed.{kinds, strength}
 use Rattle.quadrant_compile.specs.Inner.Members.{IsKind}
 
 module _ (q : RuleQuadrant) where
@@ -134,7 +134,7 @@ module _ (q : RuleQuadrant) (listed : (k : Kind) → IsKind q k → Contains (ki
   along j zero high wide = ap (option_and_then (λ k. label_on q k East)) (flank_there j high)
   along j (suc i) high wide = ap (option_and_then (λ k. label_on q k East)) (cell_there j i high wide) ∙ (cell_for-shows (east q i (suc j)) (north q (suc i) j)).1
 
-  weak_symbol : (o : Option ℕ) (f : ℕ → Label) → ((n : ℕ) → strength (f n) ≡ 1) → label_strength tiles (option_map f o) ≤ 1
+  weak_symbol : (o : Option ℕ) (f : ℕ → Label) → ((n : ℕ) → strength q (f n) ≡ 1) → label_strength tiles (option_map f o) ≤ 1
   weak_symbol None f weak = zero-le
   weak_symbol (Some n) f weak = rw (weak n) (le_refl 1)
 

@@ -10,7 +10,7 @@ use Rattle.atam.proofs.Lists.{some_or_none}
 use Rattle.machine_text.proofs.Finding.{some_is, find_has, find_passes}
 use Rattle.quadrant_compile.specs.declared.rule.Answer.{Answer}
 use Rattle.quadrant_compile.specs.declared.rule.Rule.{Rule}
-use Rattle.quadrant_compile.specs.Quadrants.{RuleQuadrant, IsQuadrant, IsRuleOver, is_for, answer_among, bottom_symbol, left_symbol}
+use Rattle.quadrant_compile.specs.Quadrants.{RuleQuadrant, IsQuadrant, IsRuleOver, is_for, answer_among, border_symbol}
 
 -- a rule that is for two symbols has them
 both_same : (a b : ℕ) (t : Rule) → is_for a b t ≡ true → (t.west ≡ a) × (t.south ≡ b)
@@ -63,8 +63,8 @@ module _ (q : RuleQuadrant) (is_quadrant : IsQuadrant q) where
       behind : (given : List ℕ) (i : ℕ) → length given ≤ i → get_or given i 0 ≡ 0
       behind given i past = get_or_past given i 0 past
 
-  pub bottom_known : (i : ℕ) → bottom_symbol q i < length q.symbols
+  pub bottom_known : (i : ℕ) → border_symbol q.bottom i < length q.symbols
   bottom_known i = border_known q.bottom (i - 1) is_quadrant.bottom_symbols
 
-  pub left_known : (j : ℕ) → left_symbol q j < length q.symbols
+  pub left_known : (j : ℕ) → border_symbol q.left j < length q.symbols
   left_known j = border_known q.left (j - 1) is_quadrant.left_symbols

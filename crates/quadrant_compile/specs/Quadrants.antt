@@ -24,12 +24,9 @@ is_for west south rule = rule.west == west && rule.south == south
 abbrev pub answer_among : List Rule → ℕ → ℕ → Option Answer
 answer_among rules west south = option_map (λ rule. rule.answer) (find (is_for west south) rules)
 
--- the symbols at the borders of column i and of row j; those that are not given are the first symbol
-abbrev pub bottom_symbol : RuleQuadrant → ℕ → ℕ
-bottom_symbol q i = slice_index_or q.bottom (i - 1) 0
-
-abbrev pub left_symbol : RuleQuadrant → ℕ → ℕ
-left_symbol q j = slice_index_or q.left (j - 1) 0
+-- the symbol of a border at column or row i; those that are not given are the first symbol
+abbrev pub border_symbol : List ℕ → ℕ → ℕ
+border_symbol given i = slice_index_or given (i - 1) 0
 
 -- the pairs of numbers below n, by the first and then by the second
 abbrev pub pairs_below : ℕ → List (ℕ × ℕ)

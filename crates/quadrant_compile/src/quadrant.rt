@@ -1,6 +1,6 @@
 // A quadrant.
 ghost use Rattle.std.specs.Prelude.{◌≡◌, ◌<◌, ◌≤◌, length, slice_get, Some, IfOk, IfSome};
-ghost use Rattle.quadrant_compile.specs.Quadrants.{IsQuadrant, answer_among, bottom_symbol, left_symbol, ruled_pairs};
+ghost use Rattle.quadrant_compile.specs.Quadrants.{IsQuadrant, answer_among, border_symbol, ruled_pairs};
 
 use crate::parts::QuadrantParts;
 use crate::rule::Answer;
@@ -126,7 +126,7 @@ impl Quadrant {
     /// The symbol that comes from below into a column.
     pub fn bottom_symbol(&self, column: u32) -> u32
         requires { 1 ≤ column }
-        ensures symbol { result ≡ bottom_symbol self.now column }
+        ensures symbol { result ≡ border_symbol self.now.bottom column }
         ensures known { result < length self.now.symbols }
     {
         self.bottom.get(column as usize - 1).copied().unwrap_or(0)
@@ -135,7 +135,7 @@ impl Quadrant {
     /// The symbol that comes from the west into a row.
     pub fn left_symbol(&self, row: u32) -> u32
         requires { 1 ≤ row }
-        ensures symbol { result ≡ left_symbol self.now row }
+        ensures symbol { result ≡ border_symbol self.now.left row }
         ensures known { result < length self.now.symbols }
     {
         self.left.get(row as usize - 1).copied().unwrap_or(0)

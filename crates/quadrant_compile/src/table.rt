@@ -2,7 +2,8 @@
 ghost use Rattle.std.specs.Prelude.{◌≡◌};
 ghost use Rattle.design.specs.Sides.{label_ahead};
 ghost use Rattle.quadrant_compile.specs.Quadrants.{IsQuadrant, RuleQuadrant};
-ghost use Rattle.quadrant_compile.specs.Tiles.{label_on, strength};
+ghost use Rattle.quadrant_compile.specs.Tiles.{label_on};
+ghost use Rattle.quadrant_compile.specs.Inner.Listed.{strength};
 ghost use Rattle.quadrant_compile.specs.Inner.Members.{IsKind};
 
 use crate::quadrant::Quadrant;
@@ -103,7 +104,7 @@ fn next_row(quadrant: &Quadrant, row: u32) -> Option<Label>
 
 /// The strength of a label.
 pub(crate) fn strength(label: Label) -> u32
-    ensures { result ≡ strength label }
+    ensures { (q : RuleQuadrant) → result ≡ strength q label }
 {
     match label {
         Label::Eastward { .. } | Label::Northward { .. } => 1,

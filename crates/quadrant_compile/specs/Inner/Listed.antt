@@ -27,4 +27,8 @@ abbrev pub kind_name : RuleQuadrant → Kind → List ℕ
 kind_name q k = (kind_row q k).1
 
 abbrev pub label_name : RuleQuadrant → Label → List ℕ
-label_name q g = (label_row q g).1
+label_name q g = (label_row q g).2
+
+-- how strong a label is
+abbrev pub strength : RuleQuadrant → Label → ℕ
+strength q g = (label_row q g).1
