@@ -67,7 +67,7 @@ draft_push q (SymbolLine name) draft fit =
     record {
       few = omega (arith, more, fit.0);
       names = names_push q.symbols name draft.names fit.1 fit.2;
-      rules = λ k d within. let t = draft.rules k d within in record { west = omega (arith, more, t.west); south = omega (arith, more, t.south); east = omega (arith, more, t.east); north = omega (arith, more, t.north) };
+      rules = λ k d within. let t = draft.rules k d within in record { inputs = (omega (arith, more, t.inputs.0), omega (arith, more, t.inputs.1)); answer = (omega (arith, more, t.answer.0), omega (arith, more, t.answer.1)) };
       distinct_rules = draft.distinct_rules;
       column_count = draft.column_count;
       row_count = draft.row_count;

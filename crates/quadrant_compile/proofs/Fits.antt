@@ -32,7 +32,7 @@ module _ (q : RuleQuadrant) where
   made a b x y = record { west = a; south = b; answer = record { east = x; north = y } }
 
   is_new : (a b x y : ℕ) (r : Rule) → a < length q.symbols → b < length q.symbols → x < length q.symbols → y < length q.symbols → is_some (answer_among q.rules a b) ≡ false → made a b x y ≡ r → IsNew r
-  is_new a b x y r west south east north free same = subst IsNew same (record { west = west; south = south; east = east; north = north }, none_of (answer_among q.rules a b) free)
+  is_new a b x y r west south east north free same = subst IsNew same (record { inputs = (west, south); answer = (east, north) }, none_of (answer_among q.rules a b) free)
 
   -- a rule that was read is
   rule_ok : (words : List (List ℕ)) (r : Rule) → rule_in q words ≡ Ok r → IsNew r

@@ -32,10 +32,10 @@ module _ (q : RuleQuadrant) (is_quadrant : IsQuadrant q) where
         let pair = both_same a b t.0 (find_passes (is_for a b) q.rules t.0 t.1) in
         let same : t.0.answer ≡ answer = same_Some t.0.answer answer (sym (ap (option_map (λ (t : Rule). t.answer)) t.1) ∙ there) in
         record {
-          west = subst (λ n. n < length q.symbols) pair.0 is.west;
-          south = subst (λ n. n < length q.symbols) pair.1 is.south;
-          east = subst (λ (x : Answer). x.east < length q.symbols) same is.east;
-          north = subst (λ (x : Answer). x.north < length q.symbols) same is.north;
+          west = subst (λ n. n < length q.symbols) pair.0 is.inputs.0;
+          south = subst (λ n. n < length q.symbols) pair.1 is.inputs.1;
+          east = subst (λ (x : Answer). x.east < length q.symbols) same is.answer.0;
+          north = subst (λ (x : Answer). x.north < length q.symbols) same is.answer.1;
         }
   ]
 

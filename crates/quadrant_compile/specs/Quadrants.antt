@@ -41,10 +41,8 @@ ruled_pairs q = filter (has_rule q) (pairs_below (length q.symbols))
 
 -- the symbols of a rule are among so many
 pub record IsRuleOver (symbols : ℕ) (rule : Rule) : Type 0 where
-  pub west : rule.west < symbols
-  pub south : rule.south < symbols
-  pub east : rule.answer.east < symbols
-  pub north : rule.answer.north < symbols
+  pub inputs : (rule.west < symbols) × (rule.south < symbols)
+  pub answer : (rule.answer.east < symbols) × (rule.answer.north < symbols)
 
 -- names are short and differ, numbers are in range, no two rules are for the same symbols, and each limit holds
 pub record IsQuadrant (q : RuleQuadrant) : Type 0 where
