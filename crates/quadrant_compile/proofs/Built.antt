@@ -220,10 +220,8 @@ is_quadrant q draft has = record {
   column_count = draft.column_count;
   some_row = has.some_row;
   row_count = draft.row_count;
-  bottom_length = has.bottom_length;
-  bottom_symbols = draft.bottom_symbols;
-  left_length = has.left_length;
-  left_symbols = draft.left_symbols;
+  bottom = (has.bottom_length, draft.bottom_symbols);
+  left = (has.left_length, draft.left_symbols);
 }
 
 ends_at_end : (q : RuleQuadrant) (last : Option LineKind) (item : QuadrantItem) → Some item ≡ option_map (λ kind. (word_of_kind kind, q)) last → bytes_eq item.0 (codes "end") ≡ true → last ≡ Some kinds.End

@@ -64,7 +64,7 @@ module _ (q : RuleQuadrant) (is_quadrant : IsQuadrant q) where
       behind given i past = get_or_past given i 0 past
 
   pub bottom_known : (i : ℕ) → border_symbol q.bottom i < length q.symbols
-  bottom_known i = border_known q.bottom (i - 1) is_quadrant.bottom_symbols
+  bottom_known i = border_known q.bottom (i - 1) is_quadrant.bottom.1
 
   pub left_known : (j : ℕ) → border_symbol q.left j < length q.symbols
-  left_known j = border_known q.left (j - 1) is_quadrant.left_symbols
+  left_known j = border_known q.left (j - 1) is_quadrant.left.1

@@ -55,7 +55,5 @@ pub record IsQuadrant (q : RuleQuadrant) : Type 0 where
   pub column_count : q.width ≤ 1023
   pub some_row : 1 ≤ q.height
   pub row_count : q.height ≤ 1023
-  pub bottom_length : length q.bottom ≤ q.width
-  pub bottom_symbols : All (λ a. a < length q.symbols) q.bottom
-  pub left_length : length q.left ≤ q.height
-  pub left_symbols : All (λ a. a < length q.symbols) q.left
+  pub bottom : (length q.bottom ≤ q.width) × All (λ a. a < length q.symbols) q.bottom
+  pub left : (length q.left ≤ q.height) × All (λ a. a < length q.symbols) q.left
