@@ -18,10 +18,12 @@ use Rattle.turing_compile.specs.declared.kind.Kind.{Kind}
 use Rattle.turing_compile.specs.declared.kind.Kind.TheVariants.{FromLeft, FromRight, RightOf, LeftOf}
 use Rattle.turing_compile.specs.declared.kind.Label.{Label}
 use Rattle.turing_compile.specs.declared.kind.Label.TheVariants.{Symbol, Acting, Rightward, Leftward, HeadRightward, HeadLeftward}
-use Rattle.turing_compile.specs.Tiles.{state_in, cell_of, upward, side, strength}
+use Rattle.turing_compile.specs.Tiles.{action_side, side, strength}
+use Rattle.turing_compile.specs.Shown.{state_in, cell_of}
+use Rattle.turing_compile.specs.Inner.Upward.{upward}
 use Rattle.turing_compile.specs.Compiled.{tiles_of}
 use Rattle.turing_compile.proofs.MachineFacts.{head_within}
-use Rattle.turing_compile.proofs.Sides.{action_side, eqb_same, eqb_other, action_south, is_Action, is_LeftOf, is_FromRight, is_RightOf, is_FromLeft}
+use Rattle.turing_compile.proofs.Sides.{eqb_same, eqb_other, action_south, is_Action, is_LeftOf, is_FromRight, is_RightOf, is_FromLeft}
 use Rattle.turing_compile.proofs.Configs.{left_of, right_of, kind_over, over_left, over_right, over_here, side_here}
 
 module _ (M : TuringMachine) where

@@ -17,11 +17,11 @@ use Rattle.machine_text.specs.Machines.{TuringMachine, Configuration, rule_among
 use Rattle.turing_compile.specs.declared.kind.Kind.{Kind}
 use Rattle.turing_compile.specs.declared.kind.Kind.TheVariants.{First, Action, FromLeft, FromRight, RightOf, LeftOf}
 use Rattle.turing_compile.specs.declared.kind.Shown.{Shown}
-use Rattle.turing_compile.specs.declared.kind.Row.{Row}
-use Rattle.turing_compile.specs.Tiles.{plain, headed, state_in, cell_of, upward, action_row, side, shown}
-use Rattle.turing_compile.specs.Inner.Rows.{label_on}
+use Rattle.turing_compile.specs.Tiles.{action_side, side}
+use Rattle.turing_compile.specs.Shown.{state_in, cell_of, plain, headed, action_shown, shown}
+use Rattle.turing_compile.specs.Inner.Upward.{upward}
 use Rattle.turing_compile.proofs.MachineFacts.{head_in_cells}
-use Rattle.turing_compile.proofs.Sides.{action_side, eqb_same, eqb_other}
+use Rattle.turing_compile.proofs.Sides.{eqb_same, eqb_other, first_north}
 
 -- the tile over a cell to the left of the head, and to the right of it, where the head goes to state q
 abbrev pub left_of : Configuration → Head → Turn → ℕ → ℕ → Kind
@@ -77,7 +77,7 @@ module _ (M : TuringMachine) where
     left_away (suc n) i differ = ap (λ t. cond t (Some p) None) (eqb_other i n (λ e. differ (ap suc e)))
 
     -- the tile over the head
-    shown_here : (turn : Turn) → h < length xs → (action_row M q (slice_index xs h) p b turn).shows ≡ cell_of (is_now turn) h
+    shown_here : (turn : Turn) → h < length xs → action_shown p b turn ≡ cell_of (is_now turn) h
     shown_here Stay inside = sym (head_shown h b (get_or-set_same xs h b 0 inside))
     shown_here Right inside = sym (away_shown (moved (M.cells - 1) Right h p) h b (right_away h (λ e. let never : ⊥ = omega (arith, e) in never)) (get_or-set_same xs h b 0 inside))
     shown_here Left inside = sym (away_shown (moved (M.cells - 1) Left h p) h b (left_away h h (λ e. let never : ⊥ = omega (arith, e) in never)) (get_or-set_same xs h b 0 inside))
@@ -128,20 +128,20 @@ module _ (M : TuringMachine) where
           ∙ ap (λ s. Some s) (sym (away_shown (moved (M.cells - 1) Right h p) i (slice_index xs i) (right_away i differ.1) (kept_symbol i other)))
     ]
 
-  -- each row of the table turns up what it shows
-  action_north : (q a p b : ℕ) (turn : Turn) → (action_row M q a p b turn).north ≡ upward M (action_row M q a p b turn).shows
+  -- each tile turns up what it shows
+  action_north : (q a p b : ℕ) (turn : Turn) → action_side M q a p b turn North ≡ upward M (action_shown p b turn)
   action_north q a p b Left = refl
   action_north q a p b Right = refl
   action_north q a p b Stay = refl
 
   north_shown : (k : Kind) (s : Shown) → shown M k ≡ Some s → side M k North ≡ upward M s
-  north_shown (First i) s there = ap (upward M) (same_Some (cell_of (first M) i) s there)
+  north_shown (First i) s there = first_north M i ∙ ap (upward M) (same_Some (cell_of (first M) i) s there)
   north_shown (Action q a) s there = elim (some_or_none (rule_among M.rules q a)) [
-    | inl none ↦ absurd (none-some s (sym (ap (λ o. option_map (λ (r : Row). r.shows) (option_map (λ (x : Rule). action_row M q a x.state x.symbol x.turn) o)) none) ∙ there))
+    | inl none ↦ absurd (none-some s (sym (ap (option_map (λ (x : Rule). action_shown x.state x.symbol x.turn)) none) ∙ there))
     | inr act ↦
-        let r = action_row M q a act.0.state act.0.symbol act.0.turn in
-        let same : r.shows ≡ s = same_Some r.shows s (sym (ap (λ o. option_map (λ (r : Row). r.shows) (option_map (λ (x : Rule). action_row M q a x.state x.symbol x.turn) o)) act.1) ∙ there) in
-        ap (λ o. option_and_then (λ (r : Row). label_on r North) (option_map (λ (x : Rule). action_row M q a x.state x.symbol x.turn) o)) act.1
+        let cell = action_shown act.0.state act.0.symbol act.0.turn in
+        let same : cell ≡ s = same_Some cell s (sym (ap (option_map (λ (x : Rule). action_shown x.state x.symbol x.turn)) act.1) ∙ there) in
+        ap (option_and_then (λ (x : Rule). action_side M q a x.state x.symbol x.turn North)) act.1
         ∙ action_north q a act.0.state act.0.symbol act.0.turn
         ∙ ap (upward M) same
   ]
@@ -170,14 +170,14 @@ module _ (M : TuringMachine) where
         ∙ ap (λ t. cond t (right_of c head act.turn act.state h) here) (not_less h h (le_refl h))
 
     pub side_here : (d : Side) → action M c head ≡ Some act → side M here d ≡ action_side M head.state (slice_index c.symbols head.cell) act.state act.symbol act.turn d
-    side_here d by = ap (λ o. option_and_then (λ (r : Row). label_on r d) (option_map (λ (a : Rule). action_row M head.state (slice_index c.symbols head.cell) a.state a.symbol a.turn) o)) by
+    side_here d by = ap (option_and_then (λ (a : Rule). action_side M head.state (slice_index c.symbols head.cell) a.state a.symbol a.turn d)) by
 
     -- it shows the cell of the next configuration
     pub shown_over : IsConfigOf M c → (i : ℕ) → c.head ≡ Some head → action M c head ≡ Some act → i ≤ M.cells - 1 → shown M (kind_over c head act i) ≡ Some (cell_of (acted (M.cells - 1) c head act) i)
     shown_over config i there by within = elim (cases_order i head.cell) [
       | inl same ↦ subst (λ n. shown M (kind_over c head act n) ≡ Some (cell_of (acted (M.cells - 1) c head act) n)) (sym same)
           (ap (shown M) over_here
-          ∙ ap (λ o. option_map (λ (r : Row). r.shows) (option_map (λ (a : Rule). action_row M head.state (slice_index c.symbols head.cell) a.state a.symbol a.turn) o)) by
+          ∙ ap (option_map (λ (a : Rule). action_shown a.state a.symbol a.turn)) by
           ∙ ap (λ s. Some s) (shown_here c.symbols head.cell head.state act.state act.symbol act.turn head_inside))
       | inr rest ↦ elim rest [
         | inl less ↦ ap (shown M) (over_left i less) ∙ shown_left c.symbols head.cell head.state act.state act.symbol act.turn i less

@@ -18,8 +18,7 @@ use Rattle.machine_text.specs.Machines.{TuringMachine, Configuration, rule_among
 use Rattle.turing_compile.specs.declared.kind.Kind.{Kind}
 use Rattle.turing_compile.specs.declared.kind.Kind.TheVariants.{First, Action, FromLeft, FromRight, RightOf, LeftOf}
 use Rattle.turing_compile.specs.declared.kind.Shown.{Shown}
-use Rattle.turing_compile.specs.declared.kind.Row.{Row}
-use Rattle.turing_compile.specs.Tiles.{cell_of, plain, headed, action_row, shown}
+use Rattle.turing_compile.specs.Shown.{cell_of, plain, headed, action_shown, shown}
 use Rattle.turing_compile.specs.Inner.Listed.{kinds}
 use Rattle.turing_compile.specs.Rows.{type_shown, tile_shown, all_of, row_shown, head_shown, heads_from, shown_config, row_config}
 use Rattle.turing_compile.specs.Inner.Members.{IsKind}
@@ -51,19 +50,19 @@ module _ (M : TuringMachine) (is_machine : IsMachine M) where
     state = elim (i == M.head) as (λ t. IfSome (cond t (Some 0) None) (λ q. q < length M.states)) [ true ↦ is_machine.some_state | false ↦ tt ];
   }
 
-  action_cell : (q a p b : ℕ) (turn : Turn) → p < length M.states → b < length M.symbols → IsCell (action_row M q a p b turn).shows
-  action_cell q a p b Left p_less b_less = plain_cell b b_less
-  action_cell q a p b Right p_less b_less = plain_cell b b_less
-  action_cell q a p b Stay p_less b_less = headed_cell p b p_less b_less
+  action_cell : (p b : ℕ) (turn : Turn) → p < length M.states → b < length M.symbols → IsCell (action_shown p b turn)
+  action_cell p b Left p_less b_less = plain_cell b b_less
+  action_cell p b Right p_less b_less = plain_cell b b_less
+  action_cell p b Stay p_less b_less = headed_cell p b p_less b_less
 
   kind_cell : (k : Kind) → IsKind M k → (s : Shown) → shown M k ≡ Some s → IsCell s
   kind_cell (First i) kind s there = subst IsCell (same_Some (cell_of (first M) i) s there) (first_cell i)
   kind_cell (Action q a) kind s there =
       let act = some_is (rule_among M.rules q a) kind in
       let bounds = rule_bounds M is_machine q a act.0 act.1 in
-      let r = action_row M q a act.0.state act.0.symbol act.0.turn in
-      let same : r.shows ≡ s = same_Some r.shows s (sym (ap (λ o. option_map (λ (r : Row). r.shows) (option_map (λ (x : Rule). action_row M q a x.state x.symbol x.turn) o)) act.1) ∙ there) in
-      subst IsCell same (action_cell q a act.0.state act.0.symbol act.0.turn bounds.next_state bounds.next_symbol)
+      let cell = action_shown act.0.state act.0.symbol act.0.turn in
+      let same : cell ≡ s = same_Some cell s (sym (ap (option_map (λ (x : Rule). action_shown x.state x.symbol x.turn)) act.1) ∙ there) in
+      subst IsCell same (action_cell act.0.state act.0.symbol act.0.turn bounds.next_state bounds.next_symbol)
   kind_cell (FromLeft q a) kind s there = subst IsCell (same_Some (headed q a) s there) (headed_cell q a kind.0 kind.1)
   kind_cell (FromRight q a) kind s there = subst IsCell (same_Some (headed q a) s there) (headed_cell q a kind.0 kind.1)
   kind_cell (RightOf a) kind s there = subst IsCell (same_Some (plain a) s there) (plain_cell a kind)

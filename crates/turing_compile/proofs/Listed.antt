@@ -1,5 +1,5 @@
 -- The table of a machine's tiles, in its order.
-use Rattle.std.proofs.Common.{◌-◌, ◌≡◌, ◌<◌, ◌≤◌, ◌+◌, ◌*◌, is_some, ℕ, zero, suc, Bool, true, List, [], ◌∷◌, ◌++◌, length, map, filter, Option, Some, None, IfSome, option_and_then, option_map, get_or, Contains, refl, sym, ◌∙◌, ap, subst, inl, inr, arith, length-append}
+use Rattle.std.proofs.Common.{◌-◌, ◌≡◌, ◌<◌, ◌≤◌, ◌+◌, ◌*◌, is_some, ℕ, zero, suc, Bool, true, List, [], ◌∷◌, ◌++◌, length, map, filter, Option, Some, None, IfSome, option_and_then, get_or, Contains, refl, sym, ◌∙◌, ap, subst, inl, inr, arith, length-append}
 use Rattle.std.specs.Prelude.{slice_index}
 use Rattle.std.specs.List.{range_with_len}
 use Rattle.std.proofs.Math.Nat.{mul-le-mul}
@@ -21,15 +21,15 @@ use Rattle.turing_compile.specs.declared.kind.Kind.{Kind}
 use Rattle.turing_compile.specs.declared.kind.Kind.TheVariants.{First, Action, FromLeft, FromRight, RightOf, LeftOf}
 use Rattle.turing_compile.specs.declared.kind.Label.{Label}
 use Rattle.turing_compile.specs.declared.kind.Label.TheVariants.{Symbol, Acting, Rightward, Leftward, HeadRightward, HeadLeftward, Joint}
-use Rattle.turing_compile.specs.declared.kind.Row.{Row}
-use Rattle.turing_compile.specs.Tiles.{top, cell_of, upward, state_in, action_row, side}
-use Rattle.turing_compile.specs.Inner.Rows.{label_on}
+use Rattle.turing_compile.specs.Tiles.{top, action_side, side}
+use Rattle.turing_compile.specs.Shown.{state_in, cell_of}
 use Rattle.turing_compile.specs.Compiled.{pairs, has_rule, ruled_pairs, pair_number, rules_before, kind_number, label_number, tiles_of}
 use Rattle.turing_compile.specs.Inner.Listed.{kinds, labels}
 use Rattle.turing_compile.specs.Inner.Members.{IsKind, IsLabel}
+use Rattle.turing_compile.specs.Inner.Upward.{upward}
 use Rattle.machine_text.proofs.Finding.{some_is}
 use Rattle.turing_compile.proofs.MachineFacts.{rule_bounds, symbol_below, first_config}
-use Rattle.turing_compile.proofs.Sides.{action_side}
+use Rattle.turing_compile.proofs.Sides.{first_north}
 
 -- what a filter keeps passes
 kept_pass : {X : Type 0} (test : X → Bool) (xs : List X) → Each (λ x. test x ≡ true) (filter test xs)
@@ -273,7 +273,7 @@ module _ (M : TuringMachine) (is_machine : IsMachine M) where
       by (Some q) = top_label q (slice_index c.symbols i)
 
   side_label : (k : Kind) (d : Side) → IsKind M k → IfSome (side M k d) (IsLabel M)
-  side_label (First i) North within = up_label (first M) i (first_config M is_machine)
+  side_label (First i) North within = rw (first_north M i) (up_label (first M) i (first_config M is_machine))
   side_label (First i) East within = elim (cases_lt i (M.cells - 1)) [
     | inl less ↦ rw (is_less i (M.cells - 1) less) (omega arith, omega (arith, less))
     | inr more ↦ rw (not_less i (M.cells - 1) more) tt
@@ -283,7 +283,7 @@ module _ (M : TuringMachine) (is_machine : IsMachine M) where
   side_label (First (suc i)) West within = (omega arith, omega (arith, within))
   side_label (Action q a) d rule =
       let act = some_is (rule_among M.rules q a) rule in
-      let IsOf : Option Rule → Type 0 = λ o. IfSome (option_and_then (λ (r : Row). label_on r d) (option_map (λ (x : Rule). action_row M q a x.state x.symbol x.turn) o)) (IsLabel M) in
+      let IsOf : Option Rule → Type 0 = λ o. IfSome (option_and_then (λ (x : Rule). action_side M q a x.state x.symbol x.turn d) o) (IsLabel M) in
       let bounds = rule_bounds M is_machine q a act.0 act.1 in
       subst IsOf (sym act.1) (action_label q a act.0.state act.0.symbol act.0.turn d rule bounds.next_state bounds.next_symbol)
   side_label (FromLeft q a) North below = top_label q a

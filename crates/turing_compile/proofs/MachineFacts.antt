@@ -1,5 +1,5 @@
 -- What a machine's rules and configurations keep to.
-use Rattle.std.proofs.Common.{◌≡◌, ◌<◌, ◌≤◌, ◌-◌, is_some, ℕ, zero, suc, true, List, [], ◌∷◌, length, replicate, get_or, Option, Some, IfSome, option_and_then, option_map, refl, sym, ◌∙◌, ap, subst, inl, inr, arith, length-append}
+use Rattle.std.proofs.Common.{◌≡◌, ◌<◌, ◌≤◌, ◌-◌, is_some, ℕ, zero, suc, true, List, [], ◌∷◌, ◌++◌, length, replicate, get_or, Option, Some, IfSome, option_and_then, option_map, refl, sym, ◌∙◌, ap, subst, inl, inr, arith, length-append}
 use Rattle.std.specs.Prelude.{slice_index, find}
 use Rattle.std.proofs.lemmas.List.{length-replicate}
 use Rattle.std.proofs.lemmas.List.Elements.{All-append, All-replicate, All-get_or}
@@ -31,6 +31,17 @@ head_in_cells M c config head there =
     let less = h.0 in
     let long = config.cells in
     omega (arith, less, long)
+
+-- the first configuration has the tape, and blanks behind it
+blank_behind : (xs : List ℕ) (n i : ℕ) → get_or (xs ++ replicate n 0) i 0 ≡ get_or xs i 0
+blank_behind [] zero i = refl
+blank_behind [] (suc n) zero = refl
+blank_behind [] (suc n) (suc i) = blank_behind [] n i
+blank_behind (x ∷ xs) n zero = refl
+blank_behind (x ∷ xs) n (suc i) = blank_behind xs n i
+
+pub first_symbol : (M : TuringMachine) (i : ℕ) → slice_index (first M).symbols i ≡ get_or M.tape i 0
+first_symbol M i = blank_behind M.tape (M.cells - length M.tape) i
 
 module _ (M : TuringMachine) (is_machine : IsMachine M) where
   pub rule_bounds : (q a : ℕ) (rule : Rule) → rule_among M.rules q a ≡ Some rule → IsRuleOf M q a rule

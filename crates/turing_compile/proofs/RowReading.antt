@@ -11,7 +11,7 @@ use Rattle.atam.proofs.Lists.{some_or_none}
 use Rattle.machine_text.specs.declared.config.Head.{Head}
 use Rattle.machine_text.specs.Machines.{TuringMachine, Configuration, IsMachine, IsConfigOf}
 use Rattle.turing_compile.specs.declared.kind.Shown.{Shown}
-use Rattle.turing_compile.specs.Tiles.{state_in, cell_of}
+use Rattle.turing_compile.specs.Shown.{state_in, cell_of}
 use Rattle.turing_compile.specs.Rows.{type_shown, tile_shown, all_of, head_shown, heads_from, shown_config, row_config}
 use Rattle.turing_compile.specs.Laws.{IsRowOf}
 use Rattle.turing_compile.proofs.MachineFacts.{head_in_cells}

@@ -9,7 +9,7 @@ use Rattle.machine_text.specs.declared.config.Head.{Head}
 use Rattle.machine_text.specs.Machines.{TuringMachine, Configuration, first, acted, action, next, after, IsMachine}
 use Rattle.turing_compile.specs.declared.kind.Kind.{Kind}
 use Rattle.turing_compile.specs.declared.kind.Kind.TheVariants.{First}
-use Rattle.turing_compile.specs.Tiles.{cell_of, shown}
+use Rattle.turing_compile.specs.Shown.{cell_of, shown}
 use Rattle.turing_compile.proofs.MachineFacts.{step_from, config_after}
 use Rattle.turing_compile.proofs.Configs.{kind_over, shown_over}
 

@@ -19,11 +19,13 @@ use Rattle.machine_text.specs.Machines.{TuringMachine, Configuration, first, act
 use Rattle.turing_compile.specs.declared.kind.Kind.{Kind}
 use Rattle.turing_compile.specs.declared.kind.Kind.TheVariants.{First, Action, FromLeft, FromRight, RightOf, LeftOf}
 use Rattle.turing_compile.specs.declared.kind.Label.TheVariants.{Acting, Joint}
-use Rattle.turing_compile.specs.Tiles.{top, state_in, cell_of, upward, side}
+use Rattle.turing_compile.specs.Tiles.{top, side}
+use Rattle.turing_compile.specs.Shown.{state_in, cell_of}
 use Rattle.turing_compile.specs.Compiled.{tiles_of}
 use Rattle.turing_compile.specs.Inner.Members.{IsKind}
+use Rattle.turing_compile.specs.Inner.Upward.{upward}
 use Rattle.turing_compile.proofs.MachineFacts.{rule_bounds, last_is, step_from, symbol_below, head_within, config_after}
-use Rattle.turing_compile.proofs.Sides.{is_First, weak_sides}
+use Rattle.turing_compile.proofs.Sides.{first_north, is_First, weak_sides}
 use Rattle.turing_compile.proofs.Configs.{left_of, right_of, kind_over, over_left, over_right, over_here, north_over}
 use Rattle.turing_compile.proofs.Listed.{kind_listed}
 use Rattle.turing_compile.proofs.RunRows.{row_over, row_of, start_over, start_at, row_acts, row_headless, row_ruleless, row_from, row_ends, first_there, first_from, row_gone}
@@ -36,7 +38,7 @@ module _ (M : TuringMachine) (is_machine : IsMachine M) where
   -- the row that shows a configuration shows it upwards
   row_up : (y : ℕ) (c : Configuration) → after M y ≡ Some c → IsUnder M (row_of M y) c
   row_up zero c there i within =
-      shows-some (tiles_of M) (row_of M 0) i North (First i) (first_there M i within) ∙ ap (λ d. upward M (cell_of d i)) (same_Some (first M) c there)
+      shows-some (tiles_of M) (row_of M 0) i North (First i) (first_there M i within) ∙ first_north M i ∙ ap (λ d. upward M (cell_of d i)) (same_Some (first M) c there)
   row_up (suc y) c there i within =
       option_and_then_some (next M) (after M y) c there (λ d before follows.
       let s = step_from M is_machine d c follows in

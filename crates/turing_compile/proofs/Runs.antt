@@ -16,7 +16,7 @@ use Rattle.machine_text.specs.Machines.{TuringMachine, Configuration, IsMachine,
 use Rattle.machine_text.proofs.Steps.{stays_stopped}
 use Rattle.turing_compile.specs.declared.kind.Kind.{Kind}
 use Rattle.turing_compile.specs.declared.kind.Kind.TheVariants.{First}
-use Rattle.turing_compile.specs.Tiles.{shown}
+use Rattle.turing_compile.specs.Shown.{shown}
 use Rattle.turing_compile.specs.Compiled.{tiles_of, compiled}
 use Rattle.turing_compile.specs.Inner.Listed.{kinds, area_of}
 use Rattle.turing_compile.specs.Rows.{type_shown, row_config}

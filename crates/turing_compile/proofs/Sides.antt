@@ -1,21 +1,22 @@
 -- Which kind has which labels.
-use Rattle.std.proofs.Common.{◌≡◌, ◌≢◌, ◌≤◌, ◌==◌, ℕ, zero, suc, true, false, Option, Some, None, option_and_then, option_map, refl, inl, inr, zero-le}
+use Rattle.std.proofs.Common.{◌≡◌, ◌≢◌, ◌≤◌, ◌==◌, ℕ, zero, suc, Bool, true, false, cond, slice_index, Option, Some, None, option_and_then, refl, sym, ◌∙◌, ap, inl, inr, zero-le}
 use Rattle.std.proofs.Math.Nat.{le_refl}
 use Rattle.std.proofs.lemmas.Bool.Decides.{eqb_tells}
-use Rattle.atam.specs.declared.site.Side.TheVariants.{East, South, West}
-use Rattle.atam.specs.declared.site.Side.{Side}
+use Rattle.atam.specs.declared.site.Side.TheVariants.{North, East, South, West}
 use Rattle.design.specs.RowDesigns.{label_strength}
 use Rattle.machine_text.specs.declared.rule.Turn.{Turn}
 use Rattle.machine_text.specs.declared.rule.Turn.TheVariants.{Left, Right, Stay}
 use Rattle.machine_text.specs.declared.rule.Rule.{Rule}
-use Rattle.machine_text.specs.Machines.{TuringMachine, rule_among}
+use Rattle.machine_text.specs.Machines.{TuringMachine, rule_among, first}
 use Rattle.turing_compile.specs.declared.kind.Kind.{Kind}
 use Rattle.turing_compile.specs.declared.kind.Kind.TheVariants.{First, Action, FromLeft, FromRight, RightOf, LeftOf}
 use Rattle.turing_compile.specs.declared.kind.Label.{Label}
 use Rattle.turing_compile.specs.declared.kind.Label.TheVariants.{Symbol, Acting, Rightward, Leftward, HeadRightward, HeadLeftward, Joint}
-use Rattle.turing_compile.specs.Tiles.{action_row, side}
-use Rattle.turing_compile.specs.Inner.Rows.{label_on}
+use Rattle.turing_compile.specs.Tiles.{top, action_side, side}
+use Rattle.turing_compile.specs.Shown.{cell_of}
+use Rattle.turing_compile.specs.Inner.Upward.{upward}
 use Rattle.turing_compile.specs.Compiled.{tiles_of}
+use Rattle.turing_compile.proofs.MachineFacts.{first_symbol}
 
 pub eqb_same : (n : ℕ) → (n == n) ≡ true
 eqb_same n = elim (eqb_tells n n) [ inl same ↦ same.0 | inr other ↦ absurd (other.1 refl) ]
@@ -23,11 +24,15 @@ eqb_same n = elim (eqb_tells n n) [ inl same ↦ same.0 | inr other ↦ absurd (
 pub eqb_other : (m n : ℕ) → m ≢ n → (m == n) ≡ false
 eqb_other m n differ = elim (eqb_tells m n) [ inl same ↦ absurd (differ same.1) | inr other ↦ other.0 ]
 
--- the label on a side of an action's tile
-abbrev pub action_side : TuringMachine → ℕ → ℕ → ℕ → ℕ → Turn → Side → Option Label
-action_side M q a p b turn d = label_on (action_row M q a p b turn) d
-
 module _ (M : TuringMachine) where
+  -- a tile of the first row turns up its cell
+  pub first_north : (i : ℕ) → side M (First i) North ≡ upward M (cell_of (first M) i)
+  first_north i = ap (λ a. cond (i == M.head) (top M 0 a) (Some (Symbol a))) (sym (first_symbol M i)) ∙ by (slice_index (first M).symbols i) (i == M.head)
+    where
+      by : (a : ℕ) (here : Bool) → cond here (top M 0 a) (Some (Symbol a)) ≡ upward M (record { symbol = a; state = cond here (Some 0) None })
+      by a true = refl
+      by a false = refl
+
   pub action_south : (q a p b : ℕ) (turn : Turn) → action_side M q a p b turn South ≡ Some (Acting q a)
   action_south q a p b Left = refl
   action_south q a p b Right = refl
@@ -38,7 +43,7 @@ module _ (M : TuringMachine) where
   is_First (First (suc j)) i west = cc
   is_First (Action q a) i west = by (rule_among M.rules q a) west
     where
-      by : (rule : Option Rule) → option_and_then (λ r. label_on r West) (option_map (λ act. action_row M q a act.state act.symbol act.turn) rule) ≡ Some (Joint (suc i)) → Action q a ≡ First (suc i)
+      by : (rule : Option Rule) → option_and_then (λ act. action_side M q a act.state act.symbol act.turn West) rule ≡ Some (Joint (suc i)) → Action q a ≡ First (suc i)
       by None west = cc
       by (Some act) west = turns act.state act.symbol act.turn west
         where
@@ -54,7 +59,7 @@ module _ (M : TuringMachine) where
   action_label : (q a : ℕ) (g : Label) → side M (Action q a) South ≡ Some g → g ≡ Acting q a
   action_label q a g south = by (rule_among M.rules q a) south
     where
-      by : (rule : Option Rule) → option_and_then (λ r. label_on r South) (option_map (λ act. action_row M q a act.state act.symbol act.turn) rule) ≡ Some g → g ≡ Acting q a
+      by : (rule : Option Rule) → option_and_then (λ act. action_side M q a act.state act.symbol act.turn South) rule ≡ Some g → g ≡ Acting q a
       by None south = cc
       by (Some act) south = let h = action_south q a act.state act.symbol act.turn in cc
 
@@ -111,8 +116,8 @@ module _ (M : TuringMachine) where
   weak_sides (First i) other = absurd (other i refl)
   weak_sides (Action q a) other = by (rule_among M.rules q a)
     where
-      by : (rule : Option Rule) → (weight (option_and_then (λ r. label_on r East) (option_map (λ act. action_row M q a act.state act.symbol act.turn) rule)) ≤ 1)
-          × (weight (option_and_then (λ r. label_on r West) (option_map (λ act. action_row M q a act.state act.symbol act.turn) rule)) ≤ 1)
+      by : (rule : Option Rule) → (weight (option_and_then (λ act. action_side M q a act.state act.symbol act.turn East) rule) ≤ 1)
+          × (weight (option_and_then (λ act. action_side M q a act.state act.symbol act.turn West) rule) ≤ 1)
       by None = (zero-le, zero-le)
       by (Some act) = action_weak q a act.state act.symbol act.turn
   weak_sides (FromLeft q a) other = (le_refl 1, le_refl 1)

@@ -13,7 +13,7 @@ use Rattle.atam.proofs.Placements.{tile_at-Contains}
 use Rattle.design.specs.TileSets.{tile_type}
 use Rattle.machine_text.specs.Machines.{TuringMachine, IsMachine}
 use Rattle.turing_compile.specs.declared.kind.Kind.{Kind}
-use Rattle.turing_compile.specs.Tiles.{shown}
+use Rattle.turing_compile.specs.Shown.{shown}
 use Rattle.turing_compile.specs.Compiled.{tiles_of, compiled}
 use Rattle.turing_compile.specs.Inner.Listed.{kinds}
 use Rattle.turing_compile.specs.Rows.{type_shown}

@@ -7,7 +7,7 @@ use Rattle.atam.specs.Growth.{IsLegal, IsProducible, IsClosedInBox}
 use Rattle.design.specs.TileSets.{cell_site}
 use Rattle.design.specs.Laws.{HasDeterministicGrowth}
 use Rattle.machine_text.specs.Machines.{TuringMachine, Configuration, IsMachine, after}
-use Rattle.turing_compile.specs.Tiles.{cell_of}
+use Rattle.turing_compile.specs.Shown.{cell_of}
 use Rattle.turing_compile.specs.Compiled.{compiled}
 use Rattle.turing_compile.specs.Rows.{type_shown, tile_shown, row_config}
 

@@ -1,4 +1,5 @@
 pub mod Tiles
+pub mod Shown
 pub mod Compiled
 pub mod Rows
 pub mod Laws

@@ -8,7 +8,7 @@ use Rattle.design.specs.TileSets.{cell_site}
 use Rattle.machine_text.specs.declared.config.Head.{Head}
 use Rattle.machine_text.specs.Machines.{TuringMachine, Configuration}
 use Rattle.turing_compile.specs.declared.kind.Shown.{Shown}
-use Rattle.turing_compile.specs.Tiles.{shown}
+use Rattle.turing_compile.specs.Shown.{shown}
 use Rattle.turing_compile.specs.Inner.Listed.{kinds}
 
 -- what the type with this index shows

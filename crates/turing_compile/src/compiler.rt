@@ -7,7 +7,7 @@ ghost use Rattle.turing_compile.specs.Inner.Listed.{area_of};
 use crate::kind::{Kind, Label};
 use crate::listing::{kinds, labels};
 use crate::names::{add_kind_name, add_label_name};
-use crate::table::{label_on, row_of_kind, strength};
+use crate::table::{label_on, strength};
 use atam::{BoxArea, Side};
 use machine_text::Machine;
 use std::alloc::Global;
@@ -59,8 +59,7 @@ impl Table<Kind, Label> for Machine {
     #[inline(always)]
     fn side(&self, kind: Kind, side: Side) -> Option<Label> {
         prove!(self.states() > 0);
-        let row = row_of_kind(self, kind)?;
-        label_on(row, side)
+        label_on(self, kind, side)
     }
 
     fn strength(&self, label: Label) -> u32 {

@@ -42,13 +42,3 @@ pub struct Shown {
     pub symbol: u32,
     pub state: Option<u32>,
 }
-
-/// A row of the table: the labels on the sides of a tile, and what the tile shows.
-#[derive(Clone, Copy, Debug, PartialEq, Eq)]
-pub struct Row {
-    pub north: Option<Label>,
-    pub east: Option<Label>,
-    pub south: Option<Label>,
-    pub west: Option<Label>,
-    pub shows: Shown,
-}

@@ -7,6 +7,7 @@ mod laws;
 mod listing;
 mod names;
 mod reading;
+mod shown;
 mod table;
 
 pub use compiler::{MachineTiles, compile, machine_tiles};

@@ -1,18 +1,16 @@
 // What a row of an assembly shows.
 ghost use Rattle.std.specs.Prelude.{◌≡◌, ◌<◌, ◌≤◌, ◌^◌, length, option_map, IfOk, IfSome};
 ghost use Rattle.atam.specs.Assembly.{Fits};
-ghost use Rattle.machine_text.specs.Machines.{IsConfigOf, IsMachine};
+ghost use Rattle.machine_text.specs.Machines.{IsConfigOf};
 ghost use Rattle.turing_compile.specs.Compiled.{compiled};
 ghost use Rattle.turing_compile.specs.Inner.Listed.{kinds};
 ghost use Rattle.turing_compile.specs.Rows.{heads_from, row_config, row_shown, shown_config, tile_shown, type_shown};
-ghost use Rattle.turing_compile.specs.Tiles.{shown};
-ghost use Rattle.turing_compile.specs.Inner.Members.{IsKind};
 ghost use Rattle.atam.specs.Placements.{tile_at};
 ghost use Rattle.design.specs.TileSets.{cell_site};
 
 use crate::kind::{Kind, Shown};
 use crate::listing::kinds;
-use crate::table::row_of_kind;
+use crate::shown::shown;
 use assembly::Grid;
 use atam::{Site, TypeId};
 use machine_text::{Config, Head, Machine};
@@ -97,15 +95,6 @@ fn type_shown(machine: &Machine, listed: &[Kind], tile: TypeId) -> Option<Shown>
 {
     prove!(machine.states() > 0);
     shown(machine, listed[tile.0 as usize])
-}
-
-fn shown(machine: &Machine, kind: Kind) -> Option<Shown>
-    requires valid { IsMachine machine.now }
-    requires kind { IsKind machine.now kind }
-    ensures { result ≡ shown machine.now kind }
-{
-    let row = row_of_kind(machine, kind)?;
-    Some(row.shows)
 }
 
 // The configuration of shown cells; none where two of them show a head.

@@ -1,53 +1,45 @@
 // The table of a machine's tiles.
-ghost use Rattle.std.specs.Prelude.{◌≡◌, ◌<◌, ◌-◌, length, Some, IfSome};
-ghost use Rattle.machine_text.specs.Machines.{IsMachine, first};
-ghost use Rattle.turing_compile.specs.Tiles.{cell_of, headed, plain, strength, table, top, upward};
-ghost use Rattle.turing_compile.specs.Inner.Rows.{label_on};
+ghost use Rattle.std.specs.Prelude.{◌≡◌, ◌<◌, ◌-◌, length};
 ghost use Rattle.design.specs.Sides.{label_ahead, label_behind};
+ghost use Rattle.machine_text.specs.Machines.{IsMachine};
+ghost use Rattle.turing_compile.specs.Tiles.{strength, top};
+ghost use Rattle.turing_compile.specs.Compiled.{tiles_of};
 ghost use Rattle.turing_compile.specs.Inner.Members.{IsKind};
 
-use crate::kind::{Kind, Label, Row, Shown};
+use crate::kind::{Kind, Label};
 use atam::Side;
 use machine_text::{Machine, Turn};
 
-/// The row of a kind.
+/// The label on a side of a kind.
 #[inline(always)]
-pub fn row_of_kind(machine: &Machine, kind: Kind) -> Option<Row>
+pub fn label_on(machine: &Machine, kind: Kind, side: Side) -> Option<Label>
     requires valid { IsMachine machine.now }
     requires kind { IsKind machine.now kind }
-    ensures { result ≡ table machine.now kind }
+    ensures { result ≡ (tiles_of machine.now).side kind side }
 {
     match kind {
-        Kind::First { cell } => Some(first_row(machine, cell)),
-        Kind::Action { state, symbol } => action_row(machine, state, symbol),
-        Kind::FromLeft { state, symbol } => Some(Row {
-            north: top(machine, state, symbol),
-            east: Some(Label::Rightward),
-            south: Some(Label::Symbol { symbol }),
-            west: Some(Label::HeadRightward { state }),
-            shows: headed(state, symbol),
-        }),
-        Kind::FromRight { state, symbol } => Some(Row {
-            north: top(machine, state, symbol),
-            east: Some(Label::HeadLeftward { state }),
-            south: Some(Label::Symbol { symbol }),
-            west: Some(Label::Leftward),
-            shows: headed(state, symbol),
-        }),
-        Kind::RightOf { symbol } => Some(passing_row(symbol, Label::Rightward)),
-        Kind::LeftOf { symbol } => Some(passing_row(symbol, Label::Leftward)),
-    }
-}
-
-/// The label of a row on a side.
-pub fn label_on(row: Row, side: Side) -> Option<Label>
-    ensures { result ≡ label_on row side }
-{
-    match side {
-        Side::North => row.north,
-        Side::East => row.east,
-        Side::South => row.south,
-        Side::West => row.west,
+        Kind::First { cell } => first_label(machine, cell, side),
+        Kind::Action { state, symbol } => action_label(machine, state, symbol, side),
+        Kind::FromLeft { state, symbol } => match side {
+            Side::North => top(machine, state, symbol),
+            Side::East => Some(Label::Rightward),
+            Side::South => Some(Label::Symbol { symbol }),
+            Side::West => Some(Label::HeadRightward { state }),
+        },
+        Kind::FromRight { state, symbol } => match side {
+            Side::North => top(machine, state, symbol),
+            Side::East => Some(Label::HeadLeftward { state }),
+            Side::South => Some(Label::Symbol { symbol }),
+            Side::West => Some(Label::Leftward),
+        },
+        Kind::RightOf { symbol } => match side {
+            Side::North | Side::South => Some(Label::Symbol { symbol }),
+            Side::East | Side::West => Some(Label::Rightward),
+        },
+        Kind::LeftOf { symbol } => match side {
+            Side::North | Side::South => Some(Label::Symbol { symbol }),
+            Side::East | Side::West => Some(Label::Leftward),
+        },
     }
 }
 
@@ -66,110 +58,52 @@ pub fn strength(label: Label) -> u32
     }
 }
 
-// The row of a cell of the first configuration.
-fn first_row(machine: &Machine, cell: u32) -> Row
+// The label on a side of a cell's tile in the first row.
+fn first_label(machine: &Machine, cell: u32, side: Side) -> Option<Label>
     requires valid { IsMachine machine.now }
     requires cell { cell < machine.now.cells }
-    ensures { Some result ≡ table machine.now (Kind.First cell) }
+    ensures { result ≡ (tiles_of machine.now).side (Kind.First cell) side }
 {
-    let shows = first_cell(machine, cell);
-    Row {
-        north: upward(machine, shows),
-        east: joint_right(machine, cell),
-        south: None,
-        west: joint_left(cell),
-        shows,
+    match side {
+        Side::North => first_top(machine, cell),
+        Side::East => joint_right(machine, cell),
+        Side::South => None,
+        Side::West => joint_left(cell),
     }
 }
 
-// The row of the tile over a head that acts.
-fn action_row(machine: &Machine, state: u32, symbol: u32) -> Option<Row>
+// The label that a cell turns upwards in the first row.
+fn first_top(machine: &Machine, cell: u32) -> Option<Label>
+    requires valid { IsMachine machine.now }
+    requires cell { cell < machine.now.cells }
+    ensures { result ≡ (tiles_of machine.now).side (Kind.First cell) Side.North }
+{
+    let symbol = machine.first_symbol(cell);
+    let head = machine.first_head();
+    if cell == head.cell {
+        top(machine, head.state, symbol)
+    } else {
+        Some(Label::Symbol { symbol })
+    }
+}
+
+// The label on a side of the tile over a head that acts.
+fn action_label(machine: &Machine, state: u32, symbol: u32, side: Side) -> Option<Label>
     requires valid { IsMachine machine.now }
     requires kind { IsKind machine.now (Kind.Action state symbol) }
-    ensures { result ≡ table machine.now (Kind.Action state symbol) }
+    ensures { result ≡ (tiles_of machine.now).side (Kind.Action state symbol) side }
 {
     let rule = machine.rule(state, symbol)?;
-    let south = Some(Label::Acting { state, symbol });
-    Some(match rule.turn {
-        Turn::Right => Row {
-            north: Some(Label::Symbol {
-                symbol: rule.symbol,
-            }),
-            east: Some(Label::HeadRightward { state: rule.state }),
-            south,
-            west: Some(Label::Leftward),
-            shows: plain(rule.symbol),
-        },
-        Turn::Left => Row {
-            north: Some(Label::Symbol {
-                symbol: rule.symbol,
-            }),
-            east: Some(Label::Rightward),
-            south,
-            west: Some(Label::HeadLeftward { state: rule.state }),
-            shows: plain(rule.symbol),
-        },
-        Turn::Stay => Row {
-            north: top(machine, rule.state, rule.symbol),
-            east: Some(Label::Rightward),
-            south,
-            west: Some(Label::Leftward),
-            shows: headed(rule.state, rule.symbol),
-        },
-    })
-}
-
-// The row of a tile that the head does not come to.
-fn passing_row(symbol: u32, beside: Label) -> Row
-    ensures { result ≡ record {
-      north = Some (Label.Symbol symbol);
-      east = Some beside;
-      south = Some (Label.Symbol symbol);
-      west = Some beside;
-      shows = plain symbol;
-    } }
-{
-    Row {
-        north: Some(Label::Symbol { symbol }),
-        east: Some(beside),
-        south: Some(Label::Symbol { symbol }),
-        west: Some(beside),
-        shows: plain(symbol),
-    }
-}
-
-// A cell of the first configuration.
-fn first_cell(machine: &Machine, cell: u32) -> Shown
-    requires { cell < machine.now.cells }
-    ensures { result ≡ cell_of (first machine.now) cell }
-{
-    let head = machine.first_head();
-    let state = if cell == head.cell {
-        Some(head.state)
-    } else {
-        None
-    };
-    Shown {
-        symbol: machine.first_symbol(cell),
-        state,
-    }
-}
-
-fn plain(symbol: u32) -> Shown
-    ensures { result ≡ plain symbol }
-{
-    Shown {
-        symbol,
-        state: None,
-    }
-}
-
-fn headed(state: u32, symbol: u32) -> Shown
-    ensures { result ≡ headed state symbol }
-{
-    Shown {
-        symbol,
-        state: Some(state),
+    match (side, rule.turn) {
+        (Side::North, Turn::Stay) => top(machine, rule.state, rule.symbol),
+        (Side::North, _) => Some(Label::Symbol {
+            symbol: rule.symbol,
+        }),
+        (Side::East, Turn::Right) => Some(Label::HeadRightward { state: rule.state }),
+        (Side::East, _) => Some(Label::Rightward),
+        (Side::South, _) => Some(Label::Acting { state, symbol }),
+        (Side::West, Turn::Left) => Some(Label::HeadLeftward { state: rule.state }),
+        (Side::West, _) => Some(Label::Leftward),
     }
 }
 
@@ -181,20 +115,6 @@ fn top(machine: &Machine, state: u32, symbol: u32) -> Option<Label>
 {
     machine.rule(state, symbol)?;
     Some(Label::Acting { state, symbol })
-}
-
-// The label that a shown cell turns upwards.
-fn upward(machine: &Machine, shown: Shown) -> Option<Label>
-    requires state { IfSome shown.state (λ state. state < length machine.now.states) }
-    requires symbol { shown.symbol < length machine.now.symbols }
-    ensures { result ≡ upward machine.now shown }
-{
-    match shown.state {
-        None => Some(Label::Symbol {
-            symbol: shown.symbol,
-        }),
-        Some(state) => top(machine, state, shown.symbol),
-    }
 }
 
 // The labels between a cell of the first row and the cells beside it.
