@@ -18,8 +18,9 @@ use Rattle.turing_compile.specs.declared.kind.Kind.{Kind}
 use Rattle.turing_compile.specs.declared.kind.Kind.TheVariants.{FromLeft, FromRight, RightOf, LeftOf}
 use Rattle.turing_compile.specs.declared.kind.Label.{Label}
 use Rattle.turing_compile.specs.declared.kind.Label.TheVariants.{Symbol, Acting, Rightward, Leftward, HeadRightward, HeadLeftward}
-use Rattle.turing_compile.specs.Tiles.{action_side, side, strength}
+use Rattle.turing_compile.specs.Tiles.{action_side, side}
 use Rattle.turing_compile.specs.Shown.{state_in, cell_of}
+use Rattle.turing_compile.specs.Inner.Rows.{strength}
 use Rattle.turing_compile.specs.Inner.Upward.{upward}
 use Rattle.turing_compile.specs.Compiled.{tiles_of}
 use Rattle.turing_compile.proofs.MachineFacts.{head_within}
@@ -105,7 +106,7 @@ module _ (M : TuringMachine) where
     record IsOne (k : Kind) (lower beside : Label) (d : Side) : Type 0 where
       fits_below : side M k South ≡ Some lower
       fits_beside : side M k d ≡ Some beside
-      weak : strength beside ≡ 1
+      weak : strength M beside ≡ 1
       only : (l : Kind) → side M l South ≡ Some lower → side M l d ≡ Some beside → l ≡ k
 
     -- a tile to the left of the head is the one with its labels

@@ -23,8 +23,9 @@ use Rattle.turing_compile.specs.declared.kind.Label.{Label}
 use Rattle.turing_compile.specs.declared.kind.Label.TheVariants.{Symbol, Acting, Rightward, Leftward, HeadRightward, HeadLeftward, Joint}
 use Rattle.turing_compile.specs.Tiles.{top, action_side, side}
 use Rattle.turing_compile.specs.Shown.{state_in, cell_of}
-use Rattle.turing_compile.specs.Compiled.{pairs, has_rule, ruled_pairs, pair_number, rules_before, kind_number, label_number, tiles_of}
-use Rattle.turing_compile.specs.Inner.Listed.{kinds, labels}
+use Rattle.turing_compile.specs.Compiled.{pairs, pair_number, rules_before, tiles_of}
+use Rattle.turing_compile.specs.Inner.Listed.{has_rule, ruled_pairs, kinds, labels}
+use Rattle.turing_compile.specs.Inner.Rows.{kind_number, label_number}
 use Rattle.turing_compile.specs.Inner.Members.{IsKind, IsLabel}
 use Rattle.turing_compile.specs.Inner.Upward.{upward}
 use Rattle.machine_text.proofs.Finding.{some_is}

@@ -12,9 +12,10 @@ use Rattle.turing_compile.specs.declared.kind.Kind.{Kind}
 use Rattle.turing_compile.specs.declared.kind.Kind.TheVariants.{First, Action, FromLeft, FromRight, RightOf, LeftOf}
 use Rattle.turing_compile.specs.declared.kind.Label.{Label}
 use Rattle.turing_compile.specs.declared.kind.Label.TheVariants.{Symbol, Acting, Rightward, Leftward, HeadRightward, HeadLeftward, Joint}
-use Rattle.turing_compile.specs.Compiled.{pair_name, kind_name, label_name, tiles_of, compiled}
+use Rattle.turing_compile.specs.Compiled.{pair_name, tiles_of, compiled}
 use Rattle.turing_compile.specs.Inner.Listed.{kinds, area_of}
 use Rattle.turing_compile.specs.Inner.Members.{IsKind, IsLabel}
+use Rattle.turing_compile.specs.Inner.Rows.{strength, kind_name, label_name}
 use Rattle.turing_compile.proofs.MachineFacts.{pair_bounds}
 use Rattle.turing_compile.proofs.Listed.{kind_listed, listed_kind, listed_label, label_count, kind_count, is_tile_set}
 use Rattle.machine_text.proofs.ShortNames.{IsShort, IsRest, short_name, one_name, rest-short, rest-pair, named, named_byte, one_pair}
@@ -141,7 +142,7 @@ module _ (M : TuringMachine) (is_machine : IsMachine M) where
       ap (λ n. Joint n) (numbered_apart (codes "c:") i j (omega (arith, a, most)) (omega (arith, b, most)) same)
   one_label g h first second code same = let never : ⊥ = omega (arith, code) in absurd never
 
-  weak_label : (g : Label) → (tiles_of M).strength g ≤ 250
+  weak_label : (g : Label) → strength M g ≤ 250
   weak_label (Symbol a) = omega arith
   weak_label (Acting q a) = omega arith
   weak_label Rightward = omega arith

@@ -1,3 +1,4 @@
 pub mod Listed
 pub mod Members
+pub mod Rows
 pub mod Upward

@@ -38,9 +38,3 @@ side M (FromLeft q a) d = later (top M q a) Rightward (Symbol a) (HeadRightward 
 side M (FromRight q a) d = later (top M q a) (HeadLeftward q) (Symbol a) Leftward d
 side M (RightOf a) d = later (Some (Symbol a)) Rightward (Symbol a) Rightward d
 side M (LeftOf a) d = later (Some (Symbol a)) Leftward (Symbol a) Leftward d
-
--- those that hold a tile alone have strength 2
-abbrev pub strength : Label → ℕ
-strength (Acting q a) = 2
-strength (Joint i) = 2
-strength g = 1

@@ -2,8 +2,8 @@
 ghost use Rattle.std.specs.Prelude.{◌≡◌, ◌<◌, ◌≤◌, ◌-◌, [], ◌∷◌, ◌++◌, length, map, filter, take, IfOk, OnOk};
 ghost use Rattle.std.specs.List.{range_with_len};
 ghost use Rattle.machine_text.specs.Machines.{IsMachine};
-ghost use Rattle.turing_compile.specs.Compiled.{has_rule, pairs, ruled_pairs};
-ghost use Rattle.turing_compile.specs.Inner.Listed.{kinds, labels};
+ghost use Rattle.turing_compile.specs.Compiled.{pairs};
+ghost use Rattle.turing_compile.specs.Inner.Listed.{kinds, labels, ruled_pairs};
 
 use crate::kind::{Kind, Label};
 use machine_text::Machine;

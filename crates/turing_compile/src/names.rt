@@ -1,7 +1,8 @@
 // The names of kinds and labels.
 ghost use Rattle.std.specs.Prelude.{◌≡◌, ◌≤◌, ◌<◌, ◌+◌, [], ◌∷◌, ◌++◌, decimal, length};
 ghost use Rattle.std.specs.List.{slice_index_or};
-ghost use Rattle.turing_compile.specs.Compiled.{kind_name, label_name, pair_name};
+ghost use Rattle.turing_compile.specs.Compiled.{pair_name};
+ghost use Rattle.turing_compile.specs.Inner.Rows.{kind_name, label_name};
 ghost use Rattle.turing_compile.specs.Inner.Members.{IsKind, IsLabel};
 ghost use Rattle.machine_text.specs.Machines.{IsMachine};
 ghost use Rattle.tile_table.specs.declared.short_text.TheConstants.{SHORT_ROOM};

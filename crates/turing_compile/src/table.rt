@@ -1,10 +1,11 @@
 // The table of a machine's tiles.
 ghost use Rattle.std.specs.Prelude.{◌≡◌, ◌<◌, ◌-◌, length};
 ghost use Rattle.design.specs.Sides.{label_ahead, label_behind};
-ghost use Rattle.machine_text.specs.Machines.{IsMachine};
-ghost use Rattle.turing_compile.specs.Tiles.{strength, top};
+ghost use Rattle.machine_text.specs.Machines.{IsMachine, TuringMachine};
+ghost use Rattle.turing_compile.specs.Tiles.{top};
 ghost use Rattle.turing_compile.specs.Compiled.{tiles_of};
 ghost use Rattle.turing_compile.specs.Inner.Members.{IsKind};
+ghost use Rattle.turing_compile.specs.Inner.Rows.{strength};
 
 use crate::kind::{Kind, Label};
 use atam::Side;
@@ -45,7 +46,7 @@ pub fn label_on(machine: &Machine, kind: Kind, side: Side) -> Option<Label>
 
 /// The strength of a label.
 pub fn strength(label: Label) -> u32
-    ensures { result ≡ strength label }
+    ensures { (machine : TuringMachine) → result ≡ strength machine label }
 {
     match label {
         Label::Symbol { .. } => 1,

@@ -1,5 +1,5 @@
 use Rattle.std.proofs.Common.{◌≡◌, take, filter}
-use Rattle.turing_compile.specs.Compiled.{has_rule}
+use Rattle.turing_compile.specs.Inner.Listed.{has_rule}
 use Rattle.turing_compile.proofs.listing.ruled_pairs.Given as goal
 
 -- those among the pairs so far
