@@ -76,8 +76,7 @@ is_short_name_byte b = (nat_le 65 b && nat_le b 90) || (nat_le 97 b && nat_le b 
 
 -- 1 to 8 of these bytes
 unfoldable pub is_short_name : List ℕ → Bool
-is_short_name name =
-    nat_le 1 (length name) && nat_le (length name) 8 && list_all is_short_name_byte name
+is_short_name bs = nat_le 1 (length bs) && nat_le (length bs) 8 && list_all is_short_name_byte bs
 
 -- names are short, and differ
 pub record AreNames (names : List (List ℕ)) : Type 0 where
