@@ -15,10 +15,10 @@ use Rattle.tile_io.proofs.Checking.{last_push}
 use Rattle.machine_text.specs.declared.rule.Transition.{Transition}
 use Rattle.machine_text.specs.declared.kind.LineKind.{LineKind}
 use Rattle.machine_text.specs.declared.kind.LineKind.TheVariants as kinds
-use Rattle.machine_text.specs.Machines.{TuringMachine, AreNames, IsTransition, IsMachine, is_for, is_short_name, rule_among}
+use Rattle.machine_text.specs.Machines.{TuringMachine, IsTransition, IsMachine, is_for, is_short_name, rule_among}
 use Rattle.machine_text.specs.MachineText.{MachineItem, machine_of, machine_format, machine_table}
 use Rattle.machine_text.specs.Inner.Kinds.{word_of_kind, may_stand_after, is_last}
-use Rattle.machine_text.specs.Inner.SoFar.{IsDraft, HasAlphabet, HasAll, HasCome, HoldsLines}
+use Rattle.machine_text.specs.Inner.SoFar.{AreNames, IsDraft, HasAlphabet, HasAll, HasCome, HoldsLines}
 use Rattle.machine_text.proofs.Lines.{MachineLine, IsFit, IsLine, kind_of, with_line}
 use Rattle.machine_text.proofs.Lines.MachineLine.{Header, StateLine, SymbolLine, RuleLine, CellsLine, RowsLine, HeadLine, TapeLine, EndLine}
 use Rattle.machine_text.proofs.Finding.{each_fails, none_found}
@@ -238,18 +238,12 @@ last_is kinds.End = refl
 -- after the end line there is a machine
 is_machine : (M : TuringMachine) → IsDraft M → HasAll M → IsMachine M
 is_machine M draft has = record {
-  some_state = has.some_state;
-  state_count = draft.few.states;
-  state_names = draft.state_names;
-  some_symbol = has.some_symbol;
-  symbol_count = draft.few.symbols;
-  symbol_names = draft.symbol_names;
+  states = record { count = (has.some_state, draft.few.states); short = draft.state_names.short; distinct = draft.state_names.distinct };
+  symbols = record { count = (has.some_symbol, draft.few.symbols); short = draft.symbol_names.short; distinct = draft.symbol_names.distinct };
   transitions = draft.transitions;
   distinct_rules = draft.distinct_rules;
-  some_cell = has.some_cell;
-  cell_count = draft.cell_count;
-  some_row = has.some_row;
-  row_count = draft.row_count;
+  cells = (has.some_cell, draft.cell_count);
+  rows = (has.some_row, draft.row_count);
   head_cell = has.head_cell;
   tape_length = has.tape_length;
   tape_symbols = draft.tape_symbols;

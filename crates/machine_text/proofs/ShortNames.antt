@@ -6,7 +6,7 @@ use Rattle.std.proofs.lemmas.Bool.{cases_order, le-leb, leb-true}
 use Rattle.std.proofs.lemmas.List.Folds.{list_all-append}
 use Rattle.std.proofs.lemmas.List.Elements.{All-get_or}
 use Rattle.atam.specs.TileSystem.{is_name, is_name_byte, IsName}
-use Rattle.machine_text.specs.Machines.{is_short_name, is_short_name_byte, AreNames}
+use Rattle.machine_text.specs.Machines.{is_short_name, is_short_name_byte, IsAlphabet}
 
 -- a short name: no longer than eight bytes, each of which may stand in one
 pub record IsShort (name : List ℕ) : Type 0 where
@@ -24,7 +24,7 @@ is_short name named =
     let lengths = first_true (nat_le 1 (length name)) (nat_le (length name) 8) both.0 in
     record { short = leb-true (length name) 8 lengths.1; bytes = both.1 }
 
-module _ (names : List (List ℕ)) (are : AreNames names) where
+module _ (names : List (List ℕ)) (are : IsAlphabet names) where
   pub short_name : (i : ℕ) → i < length names → IsShort (get_or names i [])
   short_name i less = is_short (get_or names i []) (All-get_or (λ name. IsTrue (is_short_name name)) names i [] less are.short)
 

@@ -78,8 +78,13 @@ is_short_name_byte b = (nat_le 65 b && nat_le b 90) || (nat_le 97 b && nat_le b 
 unfoldable pub is_short_name : List ℕ → Bool
 is_short_name bs = nat_le 1 (length bs) && nat_le (length bs) 8 && list_all is_short_name_byte bs
 
--- names are short, and differ
-pub record AreNames (names : List (List ℕ)) : Type 0 where
+-- a number from one to another
+abbrev pub IsIn : ℕ → ℕ → ℕ → Type 0
+IsIn least most n = (least ≤ n) × (n ≤ most)
+
+-- 1 to 64 names, which are short and differ
+pub record IsAlphabet (names : List (List ℕ)) : Type 0 where
+  pub count : IsIn 1 64 (length names)
   pub short : All (λ name. IsTrue (is_short_name name)) names
   pub distinct : AllPairs (λ a b. a ≢ b) names
 
@@ -90,20 +95,14 @@ pub record IsTransition (states symbols : ℕ) (t : Transition) : Type 0 where
   pub next_state : t.rule.state < states
   pub next_symbol : t.rule.symbol < symbols
 
--- names are short and differ, numbers are in range, no two rules are for the same state and symbol, and each limit holds
+-- numbers are in range, and no two rules are for the same state and symbol
 pub record IsMachine (M : TuringMachine) : Type 0 where
-  pub some_state : 1 ≤ length M.states
-  pub state_count : length M.states ≤ 64
-  pub state_names : AreNames M.states
-  pub some_symbol : 1 ≤ length M.symbols
-  pub symbol_count : length M.symbols ≤ 64
-  pub symbol_names : AreNames M.symbols
+  pub states : IsAlphabet M.states
+  pub symbols : IsAlphabet M.symbols
   pub transitions : All (IsTransition (length M.states) (length M.symbols)) M.rules
   pub distinct_rules : AllPairs (λ t u. is_for t.state t.symbol u ≡ false) M.rules
-  pub some_cell : 1 ≤ M.cells
-  pub cell_count : M.cells ≤ 512
-  pub some_row : 1 ≤ M.rows
-  pub row_count : M.rows ≤ 1024
+  pub cells : IsIn 1 512 M.cells
+  pub rows : IsIn 1 1024 M.rows
   pub head_cell : M.head < M.cells
   pub tape_length : length M.tape ≤ M.cells
   pub tape_symbols : All (λ a. a < length M.symbols) M.tape

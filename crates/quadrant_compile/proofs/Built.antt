@@ -13,7 +13,8 @@ use Rattle.tile_io.specs.Checks.{last_of}
 use Rattle.tile_io.specs.Formats.{Reads}
 use Rattle.tile_io.proofs.Checking.{last_push}
 use Rattle.tile_io.proofs.PassedFields.{and_both}
-use Rattle.machine_text.specs.Machines.{AreNames, is_short_name}
+use Rattle.machine_text.specs.Machines.{is_short_name}
+use Rattle.machine_text.specs.Inner.SoFar.{AreNames}
 use Rattle.machine_text.proofs.Finding.{each_fails, none_found}
 use Rattle.quadrant_compile.specs.declared.rule.Rule.{Rule}
 use Rattle.quadrant_compile.specs.declared.line_kind.LineKind.{LineKind}
@@ -211,15 +212,11 @@ last_is kinds.End = refl
 -- after the end line there is a quadrant
 is_quadrant : (q : RuleQuadrant) → IsDraft q → HasAll q → IsQuadrant q
 is_quadrant q draft has = record {
-  some_symbol = has.some_symbol;
-  symbol_count = draft.few;
-  symbol_names = draft.names;
+  symbols = record { count = (has.some_symbol, draft.few); short = draft.names.short; distinct = draft.names.distinct };
   rules = draft.rules;
   distinct_rules = draft.distinct_rules;
-  some_column = has.some_column;
-  column_count = draft.column_count;
-  some_row = has.some_row;
-  row_count = draft.row_count;
+  columns = (has.some_column, draft.column_count);
+  rows = (has.some_row, draft.row_count);
   bottom = (has.bottom_length, draft.bottom_symbols);
   left = (has.left_length, draft.left_symbols);
 }

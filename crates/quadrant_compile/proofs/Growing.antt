@@ -39,13 +39,13 @@ in_box q i j m same column row = subst (InBox (area_of q)) (sym same) (record {
 
 module _ (q : RuleQuadrant) (is_quadrant : IsQuadrant q) where
   abbrev rows : RowDesign Kind
-  rows = quadrant_rows q (kind_listed q is_quadrant) is_quadrant.some_column is_quadrant.some_row
+  rows = quadrant_rows q (kind_listed q is_quadrant) is_quadrant.columns.0 is_quadrant.rows.0
 
   box : IsBoxOfRows rows (area_of q)
   box = record { left = refl; bottom = refl; right = right q.width }
 
   grown : GrowsRowByRow (tiles_of q) rows Corner
-  grown = are_grown q (kind_listed q is_quadrant) is_quadrant.some_column is_quadrant.some_row
+  grown = are_grown q (kind_listed q is_quadrant) is_quadrant.columns.0 is_quadrant.rows.0
 
   pub place_there : (s : List Place) → IsLegal (quadrant_system q) s → (i : ℕ) (p : Place) → slice_get s i ≡ Some p → IsInQuadrant q p
   place_there s legal i p there =
@@ -55,7 +55,7 @@ module _ (q : RuleQuadrant) (is_quadrant : IsQuadrant q) where
   pub place_inside : (s : List Place) → IsLegal (quadrant_system q) s → (i : ℕ) (p : Place) → slice_get s i ≡ Some p → InBox (area_of q) p.site
   place_inside s legal i p there =
       let cell = place_there s legal i p there in
-      let is = is_in q (kind_listed q is_quadrant) is_quadrant.some_column is_quadrant.some_row cell.column cell.row cell.kind cell.there in
+      let is = is_in q (kind_listed q is_quadrant) is_quadrant.columns.0 is_quadrant.rows.0 cell.column cell.row cell.kind cell.there in
       in_box q cell.column cell.row p.site cell.site is.column is.line
 
   pub filled : (tiles : List Place) → IsFullGrowth q tiles → (i j : ℕ) → i ≤ q.width → j ≤ q.height → tile_at tiles (cell_site i j) ≡ option_map (type_id (tiles_of q)) (kind_at q i j)
@@ -68,9 +68,9 @@ module _ (q : RuleQuadrant) (is_quadrant : IsQuadrant q) where
       let east_same = east_once q e n is i j in
       let north_same = north_once q e n is j i in
       filled tiles growth (suc i) (suc j) column row
-      ∙ ap (option_map (type_id (tiles_of q))) (cell_there q (kind_listed q is_quadrant) is_quadrant.some_column is_quadrant.some_row j i row column)
+      ∙ ap (option_map (type_id (tiles_of q))) (cell_there q (kind_listed q is_quadrant) is_quadrant.columns.0 is_quadrant.rows.0 j i row column)
       ∙ sym (λ z. option_map (type_id (tiles_of q)) (cell_for q (east_same z) (north_same z)))
 
   pub deterministic : IsValid (quadrant_system q) → HasDeterministicGrowth (quadrant_system q)
   deterministic valid =
-      deterministic_rows (tiles_of q) (is_tile_set q is_quadrant) Corner (area_of q) rows grown box valid (λ i j k wanted. within j q.height (is_in q (kind_listed q is_quadrant) is_quadrant.some_column is_quadrant.some_row i j k wanted).line)
+      deterministic_rows (tiles_of q) (is_tile_set q is_quadrant) Corner (area_of q) rows grown box valid (λ i j k wanted. within j q.height (is_in q (kind_listed q is_quadrant) is_quadrant.columns.0 is_quadrant.rows.0 i j k wanted).line)

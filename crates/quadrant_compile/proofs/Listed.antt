@@ -162,8 +162,8 @@ module _ (q : RuleQuadrant) (is_quadrant : IsQuadrant q) where
   cell_label a b x West rule = (answer_bounds q is_quadrant a b x rule).west
 
   side_label : (k : Kind) (d : Side) → IsKind q k → IfSome (label_on q k d) (IsLabel q)
-  side_label Corner North is_kind = (omega arith, is_quadrant.some_row)
-  side_label Corner East is_kind = (omega arith, is_quadrant.some_column)
+  side_label Corner North is_kind = (omega arith, is_quadrant.rows.0)
+  side_label Corner East is_kind = (omega arith, is_quadrant.columns.0)
   side_label Corner South is_kind = tt
   side_label Corner West is_kind = tt
   side_label (Bottom i) North within = bottom_known q is_quadrant i
@@ -182,7 +182,7 @@ module _ (q : RuleQuadrant) (is_quadrant : IsQuadrant q) where
   -- how many there are
   rule_count : length (ruled_pairs q) ≤ 4096
   rule_count =
-      let symbols = is_quadrant.symbol_count in
+      let symbols = is_quadrant.symbols.count.1 in
       let kept = length-filter_at_most (has_rule q) (pairs_below n) in
       let all : length (pairs_below n) ≤ 4096 = rw (length-pairs_from n 0 n) (mul-le-mul symbols symbols) in
       omega (arith, kept, all)
@@ -196,9 +196,9 @@ module _ (q : RuleQuadrant) (is_quadrant : IsQuadrant q) where
       let f = range_length Northward 0 n in
       let g = range_length Column 1 q.width in
       let h = range_length Row 1 q.height in
-      let symbols = is_quadrant.symbol_count in
-      let width = is_quadrant.column_count in
-      let height = is_quadrant.row_count in
+      let symbols = is_quadrant.symbols.count.1 in
+      let width = is_quadrant.columns.1 in
+      let height = is_quadrant.rows.1 in
       omega (arith, a, b, d, e, f, g, h, symbols, width, height)
 
   pub kind_count : length (kinds q) ≤ 6143
@@ -209,8 +209,8 @@ module _ (q : RuleQuadrant) (is_quadrant : IsQuadrant q) where
       let e = range_length Left 1 q.height in
       let f = length-map (ruled_pairs q) (λ p. Cell p.0 p.1) in
       let r = rule_count in
-      let width = is_quadrant.column_count in
-      let height = is_quadrant.row_count in
+      let width = is_quadrant.columns.1 in
+      let height = is_quadrant.rows.1 in
       omega (arith, a, b, d, e, f, r, width, height)
 
   pub is_tile_set : IsTileSet (tiles_of q)

@@ -39,10 +39,10 @@ head_of (x ∷ xs) = x
 
 module _ (q : RuleQuadrant) (is_quadrant : IsQuadrant q) where
   symbol_short : (a : ℕ) → a < length q.symbols → IsShort ((slice_index_or q.symbols a []))
-  symbol_short a less = short_name q.symbols is_quadrant.symbol_names a less
+  symbol_short a less = short_name q.symbols is_quadrant.symbols a less
 
   same_symbol : (a b : ℕ) → a < length q.symbols → b < length q.symbols → (slice_index_or q.symbols a []) ≡ (slice_index_or q.symbols b []) → a ≡ b
-  same_symbol a b a_less b_less same = one_name q.symbols is_quadrant.symbol_names a b a_less b_less same
+  same_symbol a b a_less b_less same = one_name q.symbols is_quadrant.symbols a b a_less b_less same
 
   same_pair : (a b c d : ℕ) → a < length q.symbols → b < length q.symbols → c < length q.symbols → d < length q.symbols → (slice_index_or q.symbols a []) ++ codes ":" ++ (slice_index_or q.symbols b []) ≡ (slice_index_or q.symbols c []) ++ codes ":" ++ (slice_index_or q.symbols d []) → (a ≡ c) × (b ≡ d)
   same_pair a b c d a_less b_less c_less d_less same =
@@ -51,8 +51,8 @@ module _ (q : RuleQuadrant) (is_quadrant : IsQuadrant q) where
 
   kind_named : (k : Kind) → IsKind q k → IsName (kind_name q k)
   kind_named Corner kind = named_byte 111 refl
-  kind_named (Bottom i) kind = let most = is_quadrant.column_count in let within = kind.1 in numbered_name (codes "b:") i (omega (arith, within, most)) (omega arith) refl
-  kind_named (Left j) kind = let most = is_quadrant.row_count in let within = kind.1 in numbered_name (codes "a:") j (omega (arith, within, most)) (omega arith) refl
+  kind_named (Bottom i) kind = let most = is_quadrant.columns.1 in let within = kind.1 in numbered_name (codes "b:") i (omega (arith, within, most)) (omega arith) refl
+  kind_named (Left j) kind = let most = is_quadrant.rows.1 in let within = kind.1 in numbered_name (codes "a:") j (omega (arith, within, most)) (omega arith) refl
   kind_named (Cell a b) kind =
       let r = pair_bounds q is_quadrant a b kind in
       named 113 ((slice_index_or q.symbols a []) ++ codes ":" ++ (slice_index_or q.symbols b [])) refl (rest-pair ((slice_index_or q.symbols a [])) ((slice_index_or q.symbols b [])) (symbol_short a r.0) (symbol_short b r.1))
@@ -68,12 +68,12 @@ module _ (q : RuleQuadrant) (is_quadrant : IsQuadrant q) where
   unfolding kind_code
   one_kind Corner Corner first second code same = refl
   one_kind (Bottom i) (Bottom j) first second code same =
-      let most = is_quadrant.column_count in
+      let most = is_quadrant.columns.1 in
       let a = first.1 in
       let b = second.1 in
       ap (λ n. Bottom n) (numbered_apart (codes "b:") i j (omega (arith, a, most)) (omega (arith, b, most)) same)
   one_kind (Left i) (Left j) first second code same =
-      let most = is_quadrant.row_count in
+      let most = is_quadrant.rows.1 in
       let a = first.1 in
       let b = second.1 in
       ap (λ n. Left n) (numbered_apart (codes "a:") i j (omega (arith, a, most)) (omega (arith, b, most)) same)
@@ -87,8 +87,8 @@ module _ (q : RuleQuadrant) (is_quadrant : IsQuadrant q) where
   label_named : (g : Label) → IsLabel q g → IsName (label_name q g)
   label_named (Eastward a) label = named 104 ((slice_index_or q.symbols a [])) refl (rest-short ((slice_index_or q.symbols a [])) (symbol_short a label))
   label_named (Northward a) label = named 118 ((slice_index_or q.symbols a [])) refl (rest-short ((slice_index_or q.symbols a [])) (symbol_short a label))
-  label_named (Column i) label = let most = is_quadrant.column_count in let within = label.1 in numbered_name (codes "b:") i (omega (arith, within, most)) (omega arith) refl
-  label_named (Row j) label = let most = is_quadrant.row_count in let within = label.1 in numbered_name (codes "a:") j (omega (arith, within, most)) (omega arith) refl
+  label_named (Column i) label = let most = is_quadrant.columns.1 in let within = label.1 in numbered_name (codes "b:") i (omega (arith, within, most)) (omega arith) refl
+  label_named (Row j) label = let most = is_quadrant.rows.1 in let within = label.1 in numbered_name (codes "a:") j (omega (arith, within, most)) (omega arith) refl
 
   label_coded : (g : Label) → head_of (label_name q g) ≡ label_code g
   unfolding head_of label_code
@@ -102,12 +102,12 @@ module _ (q : RuleQuadrant) (is_quadrant : IsQuadrant q) where
   one_label (Eastward a) (Eastward b) first second code same = ap (λ n. Eastward n) (same_symbol a b first second cc)
   one_label (Northward a) (Northward b) first second code same = ap (λ n. Northward n) (same_symbol a b first second cc)
   one_label (Column i) (Column j) first second code same =
-      let most = is_quadrant.column_count in
+      let most = is_quadrant.columns.1 in
       let a = first.1 in
       let b = second.1 in
       ap (λ n. Column n) (numbered_apart (codes "b:") i j (omega (arith, a, most)) (omega (arith, b, most)) same)
   one_label (Row i) (Row j) first second code same =
-      let most = is_quadrant.row_count in
+      let most = is_quadrant.rows.1 in
       let a = first.1 in
       let b = second.1 in
       ap (λ n. Row n) (numbered_apart (codes "a:") i j (omega (arith, a, most)) (omega (arith, b, most)) same)
@@ -137,8 +137,8 @@ module _ (q : RuleQuadrant) (is_quadrant : IsQuadrant q) where
 
   pub box_fits : IsBox (area_of q)
   box_fits =
-      let columns = is_quadrant.column_count in
-      let rows = is_quadrant.row_count in
+      let columns = is_quadrant.columns.1 in
+      let rows = is_quadrant.rows.1 in
       record {
         corners = record {
           columns = omega (arith, ints);

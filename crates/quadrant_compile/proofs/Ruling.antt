@@ -57,7 +57,7 @@ module _ (q : RuleQuadrant) (is_quadrant : IsQuadrant q) where
   border_known : (given : List ℕ) (i : ℕ) → All (λ a. a < length q.symbols) given → get_or given i 0 < length q.symbols
   border_known given i all = elim (cases_lt i (length given)) [
     | inl within ↦ All-get_or (λ a. a < length q.symbols) given i 0 within all
-    | inr past ↦ let some = is_quadrant.some_symbol in subst (λ n. n < length q.symbols) (sym (behind given i past)) (omega (arith, some))
+    | inr past ↦ let some = is_quadrant.symbols.count.0 in subst (λ n. n < length q.symbols) (sym (behind given i past)) (omega (arith, some))
   ]
     where
       behind : (given : List ℕ) (i : ℕ) → length given ≤ i → get_or given i 0 ≡ 0

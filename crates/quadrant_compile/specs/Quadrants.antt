@@ -2,7 +2,7 @@
 use Rattle.std.specs.Prelude.{◌≡◌, ℕ, ◌-◌, ◌==◌, ◌&&◌, ◌<◌, ◌≤◌, Bool, is_some, false, List, length, filter, find, Option, All, AllPairs, option_map}
 use Rattle.std.specs.List.{range_with_len, flat_map, slice_index_or}
 use Rattle.std.specs.Prelude.{map}
-use Rattle.machine_text.specs.Machines.{AreNames}
+use Rattle.machine_text.specs.Machines.{IsIn, IsAlphabet}
 use Rattle.quadrant_compile.specs.declared.rule.Answer.{Answer}
 use Rattle.quadrant_compile.specs.declared.rule.Rule.{Rule}
 
@@ -44,16 +44,12 @@ pub record IsRuleOver (symbols : ℕ) (rule : Rule) : Type 0 where
   pub inputs : (rule.west < symbols) × (rule.south < symbols)
   pub answer : (rule.answer.east < symbols) × (rule.answer.north < symbols)
 
--- names are short and differ, numbers are in range, no two rules are for the same symbols, and each limit holds
+-- numbers are in range, and no two rules are for the same symbols
 pub record IsQuadrant (q : RuleQuadrant) : Type 0 where
-  pub some_symbol : 1 ≤ length q.symbols
-  pub symbol_count : length q.symbols ≤ 64
-  pub symbol_names : AreNames q.symbols
+  pub symbols : IsAlphabet q.symbols
   pub rules : All (IsRuleOver (length q.symbols)) q.rules
   pub distinct_rules : AllPairs (λ t u. is_for t.west t.south u ≡ false) q.rules
-  pub some_column : 1 ≤ q.width
-  pub column_count : q.width ≤ 1023
-  pub some_row : 1 ≤ q.height
-  pub row_count : q.height ≤ 1023
+  pub columns : IsIn 1 1023 q.width
+  pub rows : IsIn 1 1023 q.height
   pub bottom : (length q.bottom ≤ q.width) × All (λ a. a < length q.symbols) q.bottom
   pub left : (length q.left ≤ q.height) × All (λ a. a < length q.symbols) q.left

@@ -47,7 +47,7 @@ module _ (M : TuringMachine) (is_machine : IsMachine M) where
   first_cell : (i : ℕ) → IsCell (cell_of (first M) i)
   first_cell i = record {
     symbol = symbol_below M is_machine (first M) (first_config M is_machine) i;
-    state = elim (i == M.head) as (λ t. IfSome (cond t (Some 0) None) (λ q. q < length M.states)) [ true ↦ is_machine.some_state | false ↦ tt ];
+    state = elim (i == M.head) as (λ t. IfSome (cond t (Some 0) None) (λ q. q < length M.states)) [ true ↦ is_machine.states.count.0 | false ↦ tt ];
   }
 
   action_cell : (p b : ℕ) (turn : Turn) → p < length M.states → b < length M.symbols → IsCell (action_shown p b turn)

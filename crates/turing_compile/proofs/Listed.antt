@@ -307,8 +307,8 @@ module _ (M : TuringMachine) (is_machine : IsMachine M) where
   -- how many there are
   pub pair_count : length (pairs M) ≤ 4096
   pair_count =
-      let states = is_machine.state_count in
-      let symbols = is_machine.symbol_count in
+      let states = is_machine.states.count.1 in
+      let symbols = is_machine.symbols.count.1 in
       rw (length-pairs_from (length M.symbols) 0 (length M.states)) (mul-le-mul states symbols)
 
   pub rule_count : length (ruled_pairs M) ≤ length (pairs M)
@@ -327,9 +327,9 @@ module _ (M : TuringMachine) (is_machine : IsMachine M) where
       let j = range_length Joint 1 (M.cells - 1) in
       let p = pair_count in
       let r = rule_count in
-      let states = is_machine.state_count in
-      let symbols = is_machine.symbol_count in
-      let cells = is_machine.cell_count in
+      let states = is_machine.states.count.1 in
+      let symbols = is_machine.symbols.count.1 in
+      let cells = is_machine.cells.1 in
       omega (arith, a, b, d, e, f, g, h, i, j, p, r, states, symbols, cells)
 
   pub kind_count : length (kinds M) ≤ 12928
@@ -347,8 +347,8 @@ module _ (M : TuringMachine) (is_machine : IsMachine M) where
       let l = range_length LeftOf 0 (length M.symbols) in
       let p = pair_count in
       let r = rule_count in
-      let symbols = is_machine.symbol_count in
-      let cells = is_machine.cell_count in
+      let symbols = is_machine.symbols.count.1 in
+      let cells = is_machine.cells.1 in
       omega (arith, a, b, d, e, f, g, h, i, j, k, l, p, r, symbols, cells)
 
   pub is_tile_set : IsTileSet (tiles_of M)

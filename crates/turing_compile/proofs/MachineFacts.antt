@@ -66,7 +66,7 @@ module _ (M : TuringMachine) (is_machine : IsMachine M) where
       (bounds.state, bounds.symbol)
 
   pub last_is : suc (M.cells - 1) ≡ M.cells
-  last_is = let some = is_machine.some_cell in omega (arith, some)
+  last_is = let some = is_machine.cells.0 in omega (arith, some)
 
   -- the next configuration comes by an action of the head
   pub record Step (c d : Configuration) : Type 0 where
@@ -99,7 +99,7 @@ module _ (M : TuringMachine) (is_machine : IsMachine M) where
   pub symbol_below : (c : Configuration) → IsConfigOf M c → (i : ℕ) → slice_index c.symbols i < length M.symbols
   symbol_below c config i = elim (cases_lt i (length c.symbols)) [
     | inl less ↦ All-get_or (λ a. a < length M.symbols) c.symbols i 0 less config.symbols
-    | inr past ↦ let some = is_machine.some_symbol in rw (past_end c.symbols i past) (omega (arith, some))
+    | inr past ↦ let some = is_machine.symbols.count.0 in rw (past_end c.symbols i past) (omega (arith, some))
   ]
     where
       past_end : (xs : List ℕ) (i : ℕ) → length xs ≤ i → get_or xs i 0 ≡ 0
@@ -115,8 +115,8 @@ module _ (M : TuringMachine) (is_machine : IsMachine M) where
 
   pub first_config : IsConfigOf M (first M)
   first_config =
-      let some = is_machine.some_symbol in
-      let states = is_machine.some_state in
+      let some = is_machine.symbols.count.0 in
+      let states = is_machine.states.count.0 in
       let room = is_machine.tape_length in
       let long = length-append M.tape (replicate (M.cells - length M.tape) 0) in
       let blanks = length-replicate {A = ℕ} (M.cells - length M.tape) 0 in

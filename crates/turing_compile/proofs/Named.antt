@@ -44,20 +44,20 @@ head_of (x ∷ xs) = x
 
 module _ (M : TuringMachine) (is_machine : IsMachine M) where
   state_short : (q : ℕ) → q < length M.states → IsShort (slice_index_or M.states q [])
-  state_short q less = short_name M.states is_machine.state_names q less
+  state_short q less = short_name M.states is_machine.states q less
 
   symbol_short : (a : ℕ) → a < length M.symbols → IsShort ((slice_index_or M.symbols a []))
-  symbol_short a less = short_name M.symbols is_machine.symbol_names a less
+  symbol_short a less = short_name M.symbols is_machine.symbols a less
 
   pair_rest : (q a : ℕ) → q < length M.states → a < length M.symbols → IsRest (pair_name M q a)
   pair_rest q a q_less a_less = rest-pair (slice_index_or M.states q []) ((slice_index_or M.symbols a [])) (state_short q q_less) (symbol_short a a_less)
 
   -- what is told by names
   same_state : (p q : ℕ) → p < length M.states → q < length M.states → (slice_index_or M.states p []) ≡ (slice_index_or M.states q []) → p ≡ q
-  same_state p q p_less q_less same = one_name M.states is_machine.state_names p q p_less q_less same
+  same_state p q p_less q_less same = one_name M.states is_machine.states p q p_less q_less same
 
   same_symbol : (a b : ℕ) → a < length M.symbols → b < length M.symbols → (slice_index_or M.symbols a []) ≡ (slice_index_or M.symbols b []) → a ≡ b
-  same_symbol a b a_less b_less same = one_name M.symbols is_machine.symbol_names a b a_less b_less same
+  same_symbol a b a_less b_less same = one_name M.symbols is_machine.symbols a b a_less b_less same
 
   same_pair : (p a q b : ℕ) → p < length M.states → a < length M.symbols → q < length M.states → b < length M.symbols → pair_name M p a ≡ pair_name M q b → (p ≡ q) × (a ≡ b)
   same_pair p a q b p_less a_less q_less b_less same =
@@ -65,7 +65,7 @@ module _ (M : TuringMachine) (is_machine : IsMachine M) where
       (same_state p q p_less q_less both.0, same_symbol a b a_less b_less both.1)
 
   kind_named : (k : Kind) → IsKind M k → IsName (kind_name M k)
-  kind_named (First i) kind = let most = is_machine.cell_count in numbered_name (codes "t:") i (omega (arith, kind, most)) (omega arith) refl
+  kind_named (First i) kind = let most = is_machine.cells.1 in numbered_name (codes "t:") i (omega (arith, kind, most)) (omega arith) refl
   kind_named (Action q a) kind = let r = pair_bounds M is_machine q a kind in named 97 (pair_name M q a) refl (pair_rest q a r.0 r.1)
   kind_named (FromLeft q a) kind = named 82 (pair_name M q a) refl (pair_rest q a kind.0 kind.1)
   kind_named (FromRight q a) kind = named 76 (pair_name M q a) refl (pair_rest q a kind.0 kind.1)
@@ -84,7 +84,7 @@ module _ (M : TuringMachine) (is_machine : IsMachine M) where
   one_kind : (j k : Kind) → IsKind M j → IsKind M k → kind_code j ≡ kind_code k → kind_name M j ≡ kind_name M k → j ≡ k
   unfolding kind_code
   one_kind (First i) (First j) first second code same =
-      let most = is_machine.cell_count in
+      let most = is_machine.cells.1 in
       ap (λ n. First n) (numbered_apart (codes "t:") i j (omega (arith, first, most)) (omega (arith, second, most)) same)
   one_kind (Action p a) (Action q b) first second code same =
       let f = pair_bounds M is_machine p a first in
@@ -109,7 +109,7 @@ module _ (M : TuringMachine) (is_machine : IsMachine M) where
   label_named (HeadRightward q) label = named 82 (slice_index_or M.states q []) refl (rest-short (slice_index_or M.states q []) (state_short q label))
   label_named (HeadLeftward q) label = named 76 (slice_index_or M.states q []) refl (rest-short (slice_index_or M.states q []) (state_short q label))
   label_named (Joint i) label =
-      let most = is_machine.cell_count in
+      let most = is_machine.cells.1 in
       let within = label.1 in
       numbered_name (codes "c:") i (omega (arith, within, most)) (omega arith) refl
 
@@ -136,7 +136,7 @@ module _ (M : TuringMachine) (is_machine : IsMachine M) where
   one_label (HeadRightward p) (HeadRightward q) first second code same = ap (λ n. HeadRightward n) (same_state p q first second cc)
   one_label (HeadLeftward p) (HeadLeftward q) first second code same = ap (λ n. HeadLeftward n) (same_state p q first second cc)
   one_label (Joint i) (Joint j) first second code same =
-      let most = is_machine.cell_count in
+      let most = is_machine.cells.1 in
       let a = first.1 in
       let b = second.1 in
       ap (λ n. Joint n) (numbered_apart (codes "c:") i j (omega (arith, a, most)) (omega (arith, b, most)) same)
@@ -165,12 +165,12 @@ module _ (M : TuringMachine) (is_machine : IsMachine M) where
   }
 
   pub seed_listed : Contains (kinds M) (First 0)
-  seed_listed = let some = is_machine.some_cell in kind_listed M is_machine (First 0) (omega (arith, some))
+  seed_listed = let some = is_machine.cells.0 in kind_listed M is_machine (First 0) (omega (arith, some))
 
   pub box_fits : IsBox (area_of M)
   box_fits =
-      let columns = is_machine.cell_count in
-      let rows = is_machine.row_count in
+      let columns = is_machine.cells.1 in
+      let rows = is_machine.rows.1 in
       record {
         corners = record {
           columns = omega (arith, ints);

@@ -180,5 +180,5 @@ row_config-shown M tiles y c config row =
 
 pub row_config-empty : (M : TuringMachine) → IsMachine M → (tiles : List Place) (y : ℕ) → IsRowOf M tiles y None → row_config M tiles y ≡ None
 row_config-empty M is_machine tiles y row =
-    let some = is_machine.some_cell in
+    let some = is_machine.cells.0 in
     ap (option_and_then shown_config) (row_shown-none (tile_shown M tiles y) M.cells 0 (omega (arith, some)) (ap (option_and_then (type_shown M)) (row 0 (omega (arith, some)))))

@@ -32,7 +32,7 @@ module _ (M : TuringMachine) (is_machine : IsMachine M) where
   rows_box = record {
     left = omega (arith, ints);
     bottom = omega (arith, ints);
-    right = let some = is_machine.some_cell in omega (arith, ints, some);
+    right = let some = is_machine.cells.0 in omega (arith, ints, some);
   }
 
   -- what the type of a kind shows is what the kind shows

@@ -1,11 +1,11 @@
 -- What the reader of a machine text holds of the lines that it took.
-use Rattle.std.specs.Prelude.{◌≡◌, ◌<◌, ◌≤◌, false, List, [], length, option_map, Option, Some, None, All, AllPairs}
+use Rattle.std.specs.Prelude.{◌≡◌, ◌≢◌, ℕ, ◌<◌, ◌≤◌, IsTrue, false, List, [], length, option_map, Option, Some, None, All, AllPairs}
 use Rattle.tile_io.specs.Checks.{last_of}
 use Rattle.machine_text.specs.declared.limits.TheConstants.{MOST_STATES, MOST_SYMBOLS, MOST_CELLS, MOST_ROWS}
 use Rattle.machine_text.specs.declared.kind.LineKind.{LineKind}
 use Rattle.machine_text.specs.declared.kind.LineKind.TheVariants as kinds
 use Rattle.machine_text.specs.declared.parts.MachineParts.{MachineParts}
-use Rattle.machine_text.specs.Machines.{TuringMachine, AreNames, IsTransition, is_for}
+use Rattle.machine_text.specs.Machines.{TuringMachine, is_short_name, IsTransition, is_for}
 use Rattle.machine_text.specs.MachineText.{MachineItem, machine_of}
 use Rattle.machine_text.specs.Inner.Kinds.{word_of_kind}
 
@@ -20,6 +20,11 @@ machine_in p = record {
   head = p.head;
   tape = p.tape.items;
 }
+
+-- names are short, and differ
+pub record AreNames (names : List (List ℕ)) : Type 0 where
+  pub short : All (λ name. IsTrue (is_short_name name)) names
+  pub distinct : AllPairs (λ a b. a ≢ b) names
 
 -- there are no more names than may be
 pub record HasFewNames (M : TuringMachine) : Type 0 where

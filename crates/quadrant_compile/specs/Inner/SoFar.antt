@@ -1,7 +1,7 @@
 -- What the reader of a quadrant text holds of the lines that it took.
 use Rattle.std.specs.Prelude.{◌≡◌, ◌<◌, ◌≤◌, false, List, [], length, option_map, Option, Some, None, All, AllPairs}
 use Rattle.tile_io.specs.Checks.{last_of}
-use Rattle.machine_text.specs.Machines.{AreNames}
+use Rattle.machine_text.specs.Inner.SoFar.{AreNames}
 use Rattle.quadrant_compile.specs.declared.limits.TheConstants.{MOST_SYMBOLS, LONGEST_SIDE}
 use Rattle.quadrant_compile.specs.declared.line_kind.LineKind.{LineKind}
 use Rattle.quadrant_compile.specs.declared.line_kind.LineKind.TheVariants as kinds

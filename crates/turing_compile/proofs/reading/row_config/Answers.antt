@@ -9,7 +9,7 @@ pub shown_config-requires : goal.shown_config-requires
 shown_config-requires c =
     let is = ap (option_map (λ cells. cells.items)) c.in-Some.is in
     let long = length-row_shown (tile_shown c.args.machine.now c.args.grid.now.tiles c.args.y) c.args.machine.now.cells c.in-Some.cells.items (sym c.in_ok-cells.ensures ∙ is) in
-    let most = c.states.ensures.valid.cell_count in
+    let most = c.states.ensures.valid.cells.1 in
     let same = c.as_slice-in-Some.ensures.len in
     omega (arith, long, most, same)
 
