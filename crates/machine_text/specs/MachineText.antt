@@ -20,15 +20,8 @@ word_of item = item.0
 
 -- the machine of lines, which has nothing before the first
 unfoldable pub machine_of : List MachineItem → TuringMachine
-machine_of items = unwrap_or (option_map (λ item. item.1) (last_of items)) (record {
-  states = [];
-  symbols = [];
-  rules = [];
-  cells = 0;
-  rows = 0;
-  head = 0;
-  tape = [];
-})
+machine_of items = unwrap_or (option_map (λ item. item.1) (last_of items))
+    (record { states = []; symbols = []; rules = []; cells = 0; rows = 0; head = 0; tape = [] })
 
 -- the turn that a word is
 abbrev pub turn_field : List ℕ → Result Turn Cause

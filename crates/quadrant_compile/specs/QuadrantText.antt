@@ -21,14 +21,8 @@ word_of item = item.0
 
 -- the quadrant of lines, which has nothing before the first
 unfoldable pub quadrant_of : List QuadrantItem → RuleQuadrant
-quadrant_of items = unwrap_or (option_map (λ item. item.1) (last_of items)) (record {
-  symbols = [];
-  rules = [];
-  width = 0;
-  height = 0;
-  bottom = [];
-  left = [];
-})
+quadrant_of items = unwrap_or (option_map (λ item. item.1) (last_of items))
+    (record { symbols = []; rules = []; width = 0; height = 0; bottom = []; left = [] })
 
 -- the rule of a `rule` line; a second one for the same symbols from the west and from the south is a double one
 unfoldable pub rule_in : RuleQuadrant → List (List ℕ) → Result Rule Cause

@@ -67,18 +67,15 @@ module _ (M : TuringMachine) where
   abbrev pub tiles_of : TileSet Kind Label
   tiles_of = record {
     -- in the order of the types and of the glues
-    kinds =
-        map First (range_with_len 0 M.cells)
+    kinds = map First (range_with_len 0 M.cells)
         ++ (map (λ p. Action p.0 p.1) (ruled pairs)
         ++ (map (λ p. FromLeft p.0 p.1) pairs
         ++ (map (λ p. FromRight p.0 p.1) pairs
         ++ (map RightOf (range_with_len 0 (length M.symbols))
         ++ map LeftOf (range_with_len 0 (length M.symbols))))));
-    labels =
-        map Symbol (range_with_len 0 (length M.symbols))
+    labels = map Symbol (range_with_len 0 (length M.symbols))
         ++ (map (λ p. Acting p.0 p.1) (ruled pairs)
-        ++ (Rightward
-        ∷ Leftward
+        ++ (Rightward ∷ Leftward
         ∷ (map HeadRightward (range_with_len 0 (length M.states))
         ++ (map HeadLeftward (range_with_len 0 (length M.states))
         ++ map Joint (range_with_len 1 (M.cells - 1))))));
