@@ -13,18 +13,19 @@ use Rattle.atam.specs.Growth.{IsLegal}
 use Rattle.atam.proofs.Lists.{some_or_none}
 use Rattle.atam.proofs.Tiles.{same_back, SameTiles-from}
 use Rattle.atam.proofs.Sequences.{IsLegal-push, IsLegal-distinct}
-use Rattle.replay_order.specs.Legalities.{IsFirstTaken, IsFirstWeak}
+use Rattle.atam.specs.declared.legality.Legality.TheVariants.{SiteTaken, TooWeak}
+use Rattle.replay_order.specs.Legalities.{IsLegalityAnswer}
 use Rattle.atam.proofs.Opening.{pull-beside}
 use Rattle.assembly.proofs.Putting.{take_more, same_empty}
 
 -- a place of the sequence, after legal ones that stand in the grid
 module _ (sys : TileSystem) (s tiles : List Place) (n : ℕ) (p : Place) (later : length sys.seeds ≤ n) (there : slice_get s n ≡ Some p) (legal : IsLegal sys (take n s)) (same : SamePlacements (take n s) tiles) where
   -- its site is taken
-  pub first_taken : (found : Option TypeId) → found ≡ tile_at tiles p.site → is_some found ≡ true → IsFirstTaken sys s n
+  pub first_taken : (found : Option TypeId) → found ≡ tile_at tiles p.site → is_some found ≡ true → IsLegalityAnswer sys s (SiteTaken n)
   first_taken None at some = absurd (true≢false (sym some))
   first_taken (Some t) at some = elim (some_or_none (tile_at (take n s) p.site)) [
     | inl empty ↦ absurd (none-some t (sym (same_empty (take n s) tiles same p.site empty) ∙ sym at))
-    | inr other ↦ record { later = later; before = legal; place = p; there = there; other = other.0; taken = other.1 }
+    | inr other ↦ record { later = later; before = legal; place = p; there = there; told = other }
   ]
 
   module _ (seeds_distinct : HasDistinctSites sys.seeds) (distinct : HasDistinctSites tiles) where
@@ -42,8 +43,8 @@ module _ (sys : TileSystem) (s tiles : List Place) (n : ℕ) (p : Place) (later 
           not_some (Some t) h = absurd (true≢false h)
 
       -- the pull on its type is too weak
-      pub first_weak : pull < sys.tau → IsFirstWeak sys s n pull
-      first_weak weak = record { later = later; before = legal; place = p; there = there; empty = empty_there; pulled = is ∙ pull_there; weak = weak }
+      pub first_weak : pull < sys.tau → IsLegalityAnswer sys s (TooWeak n pull)
+      first_weak weak = record { later = later; before = legal; place = p; there = there; told = (empty_there, is ∙ pull_there, weak) }
 
       -- it attaches
       pub legal_more : IsType sys p.tile → sys.tau ≤ pull → IsLegal sys (take (n + 1) s)
@@ -54,12 +55,12 @@ module _ (sys : TileSystem) (s tiles : List Place) (n : ℕ) (p : Place) (later 
           )
 
 -- a breach is none of a legal sequence
-pub taken_illegal : (sys : TileSystem) (s : List Place) (n : ℕ) → IsFirstTaken sys s n → ¬ IsLegal sys s
+pub taken_illegal : (sys : TileSystem) (s : List Place) (n : ℕ) → IsLegalityAnswer sys s (SiteTaken n) → ¬ IsLegal sys s
 taken_illegal sys s n taken legal =
-    none-some taken.other (sym (legal.each n taken.place taken.later taken.there).empty ∙ taken.taken)
+    none-some taken.told.0 (sym (legal.each n taken.place taken.later taken.there).empty ∙ taken.told.1)
 
-pub weak_illegal : (sys : TileSystem) (s : List Place) (n pull : ℕ) → IsFirstWeak sys s n pull → ¬ IsLegal sys s
+pub weak_illegal : (sys : TileSystem) (s : List Place) (n pull : ℕ) → IsLegalityAnswer sys s (TooWeak n pull) → ¬ IsLegal sys s
 weak_illegal sys s n pull is_weak legal =
     let held = (legal.each n is_weak.place is_weak.later is_weak.there).held in
-    let never : ⊥ = omega (arith, held, is_weak.weak, is_weak.pulled) in
+    let never : ⊥ = omega (arith, held, is_weak.told.2, is_weak.told.1) in
     never

@@ -9,31 +9,25 @@ use Rattle.atam.specs.Growth.{IsLegal}
 use Rattle.atam.specs.declared.legality.Legality.{Legality}
 use Rattle.atam.specs.declared.legality.Legality.TheVariants.{Legal, WrongSeed, SiteTaken, TooWeak}
 
--- a place that is no seed: the places before the index are legal, and its site is theirs
-pub record IsFirstTaken (sys : TileSystem) (seq : List Place) (index : ℕ) : Type 0 where
-  pub later : length sys.seeds ≤ index
-  pub before : IsLegal sys (take index seq)
+-- a place that is no seed: the places before it are legal, and of the place P is so
+pub record IsBreach (sys : TileSystem) (s : List Place) (i : ℕ) (P : Place → Type 0) : Type 0 where
+  pub later : length sys.seeds ≤ i
+  pub before : IsLegal sys (take i s)
   pub place : Place
-  pub there : slice_get seq index ≡ Some place
-  pub other : TypeId
-  pub taken : tile_at (take index seq) place.site ≡ Some other
+  pub there : slice_get s i ≡ Some place
+  pub told : P place
 
--- a place that is no seed: the places before the index are legal, its site is empty, and this pull is less than the temperature
-pub record IsFirstWeak (sys : TileSystem) (seq : List Place) (index pull : ℕ) : Type 0 where
-  pub later : length sys.seeds ≤ index
-  pub before : IsLegal sys (take index seq)
-  pub place : Place
-  pub there : slice_get seq index ≡ Some place
-  pub empty : tile_at (take index seq) place.site ≡ None
-  pub pulled : pull ≡ model.pull sys (take index seq) place.site place.tile
-  pub weak : pull < sys.tau
-
+-- It is legal; or the seeds aren't at its head; or this is the first place behind them whose site is
+-- taken, or whose site is empty and whose pull, this one, is less than the temperature.
 abbrev pub IsLegalityAnswer : TileSystem → List Place → Legality → Type 0
 IsLegalityAnswer sys seq Legal = IsLegal sys seq
 -- fewer places than there are seeds, or others than the seeds in their order
 IsLegalityAnswer sys seq WrongSeed = take (length sys.seeds) seq ≢ sys.seeds
-IsLegalityAnswer sys seq (SiteTaken index) = IsFirstTaken sys seq index
-IsLegalityAnswer sys seq (TooWeak index pull) = IsFirstWeak sys seq index pull
+IsLegalityAnswer sys seq (SiteTaken index) =
+    IsBreach sys seq index (λ p. (t : TypeId) × (tile_at (take index seq) p.site ≡ Some t))
+IsLegalityAnswer sys seq (TooWeak index pull) =
+    IsBreach sys seq index (λ p. (tile_at (take index seq) p.site ≡ None)
+    × (pull ≡ model.pull sys (take index seq) p.site p.tile) × (pull < sys.tau))
 
 -- the places before the breach, or all
 abbrev pub legal_part : List Place → Legality → List Place
