@@ -7,7 +7,7 @@ use Rattle.atam.specs.TileSystem.{TileSystem}
 use Rattle.atam.specs.Growth.{IsLegal, IsClosedInBox}
 use Rattle.atam.specs.Determinism.{HasExactInputs, HasNoRivals}
 use Rattle.atam.specs.declared.verdict.Verdict.{Verdict}
-use Rattle.atam.specs.declared.verdict.Verdict.TheVariants.{Yes, NotExact, Rival, NotTerminal}
+use Rattle.atam.specs.declared.verdict.Verdict.TheVariants.{NotExact, Rival}
 
 -- each place lies in the box
 abbrev pub LiesInBox : TileSystem → List Place → Type 0
@@ -24,10 +24,9 @@ pub record IsDeterministicWithin (sys : TileSystem) (s : List Place) : Type 0 wh
 
 -- the verdict is yes, or names the third condition: the first two hold
 abbrev pub IsYesWithin : Verdict → Type 0
-IsYesWithin Yes = Unit {0}
 IsYesWithin (NotExact m sum) = ⊥
 IsYesWithin (Rival m t) = ⊥
-IsYesWithin (NotTerminal m t) = Unit {0}
+IsYesWithin _ = Unit {0}
 
 -- some order of exactly these placements is deterministic within the box
 pub record IsWithinInSomeOrder (sys : TileSystem) (tiles : List Place) : Type 0 where
