@@ -10,7 +10,7 @@ use Rattle.cert_check.specs.declared.verdict.CertVerdict.{CertVerdict}
 use Rattle.cert_check.specs.declared.verdict.CertVerdict.TheVariants.{Yes}
 use Rattle.cert_check.specs.Certificates.{places_of, IsSound}
 use Rattle.cert_check.specs.Judgement.{IsFault, IsVerdict, AreSoundWithin, IsChunkVerdict, first_fault}
-use Rattle.cert_check.proofs.Verdicts.{verdict_from_fault}
+use Rattle.cert_check.proofs.Verdicts.{not_sound, verdict_from_fault}
 
 module _ (sys : TileSystem) (c : List Entry) where
   -- a fault of the first chunk is the first one
@@ -61,10 +61,12 @@ module _ (sys : TileSystem) (c : List Entry) where
       })
   whole_is_verdict v seeds (inr fault) = verdict_from_fault sys c v seeds (record {
     index = fault.index;
-    entry = fault.entry;
+    item = fault.entry;
+    later = zero-le;
     there = fault.there;
-    fault = fault.fault;
-    first = λ k f less there. fault.first k f zero-le less there;
+    fails = not_sound sys c fault.entry v fault.fault;
+    told = fault.fault;
+    before = fault.first;
   })
 
   -- no entry lies within an empty chunk

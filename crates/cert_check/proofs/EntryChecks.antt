@@ -27,7 +27,9 @@ use Rattle.local_check.proofs.Keeping.{pull_facing}
 use Rattle.cert_check.specs.declared.entry.Entry.{Entry}
 use Rattle.cert_check.specs.declared.listing.EntriesBeside.{EntriesBeside}
 use Rattle.cert_check.specs.Certificates.{bit_of, states, places_of, entry_at, is_waiting, stated_bond, stated_pull, without_waiting, IsHeld, IsLoose, IsRivalOf, IsHeldThroughout, HasNoLooseBond, HasNoRival}
-use Rattle.cert_check.specs.Judgement.{IsFirstLoose, IsLeastRival, IsBeside}
+use Rattle.cert_check.specs.Judgement.{IsBeside}
+use Rattle.local_check.specs.Firsts.{IsLeast}
+use Rattle.local_check.proofs.Firsts.{least_from}
 use Rattle.cert_check.specs.Inner.Listings.{AreBeside}
 use Rattle.cert_check.specs.Inner.Checks.{waits, is_held_on, is_held, is_loose_on, first_loose, bond_on, stated_sum, kept_glues}
 use Rattle.cert_check.proofs.Entries.{entry_at-some, entry_at-is}
@@ -188,11 +190,11 @@ module _ (sys : TileSystem) (c : List Entry) (e : Entry) where
         (told North beside.north bonds.north near.north are.north) (told East beside.east bonds.east near.east are.east)
         (told South beside.south bonds.south near.south are.south) (told West beside.west bonds.west near.west are.west)
 
-    pub first_loose_is : (d : Side) → first_loose e beside bonds ≡ Some d → IsFirstLoose sys c e d
+    pub first_loose_is : (d : Side) → first_loose e beside bonds ≡ Some d → IsLeast (IsLoose sys c e) bit_of d
     first_loose_is d found =
         let Found : Option Side → Type 0 = λ o. MatchOption o (HasNoLooseBond sys c e) (λ f. IsLoose sys c e f × ((g : Side) → bit_of g < bit_of f → ¬ IsLoose sys c e g)) in
         let tells = subst Found found loose_tells in
-        record { loose = tells.0; first = tells.1 }
+        least_from (IsLoose sys c e) bit_of d tells.0 tells.1
 
     pub none_loose : first_loose e beside bonds ≡ None → HasNoLooseBond sys c e
     none_loose found =
@@ -226,9 +228,9 @@ module _ (sys : TileSystem) (c : List Entry) (e : Entry) where
     rival_to : (t : TypeId) → IsRivalOf sys c e t → IsHeldType sys (kept_glues glues beside) t
     rival_to t rival = record { kind = rival.kind; held = omega (arith, rival.held, kept_pull t) }
 
-    pub least_rival_is : (t : TypeId) → FirstHeldBut sys (kept_glues glues beside) e.place.tile (Some t) → IsLeastRival sys c e t
+    pub least_rival_is : (t : TypeId) → FirstHeldBut sys (kept_glues glues beside) e.place.tile (Some t) → IsLeast (IsRivalOf sys c e) (λ u. u.0) t
     least_rival_is t first = record {
-      rival = rival_from t first.holds first.other;
+      holds = rival_from t first.holds first.other;
       least = λ u rival. first.least u (rival_to u rival) rival.other;
     }
 

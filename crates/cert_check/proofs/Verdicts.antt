@@ -1,5 +1,5 @@
 -- A certificate has at most one verdict, and it is yes exactly where the certificate is good.
-use Rattle.std.proofs.Common.{◌≡◌, ◌<◌, ◌≤◌, ◌↔◌, ℕ, List, Some, slice_get, refl, sym, ◌∙◌, ap, subst, inl, inr, arith}
+use Rattle.std.proofs.Common.{◌≡◌, ◌<◌, ◌≤◌, ◌↔◌, ℕ, List, Some, Contains, refl, sym, ◌∙◌, ap, subst, inl, inr, arith}
 use Rattle.std.proofs.lemmas.Bool.{cases_order}
 use Rattle.std.proofs.lemmas.Option.{same_Some}
 use Rattle.atam.specs.declared.site.Side.{Side}
@@ -11,11 +11,13 @@ use Rattle.atam.specs.TileSystem.{TileSystem}
 use Rattle.atam.specs.Growth.{IsCandidate}
 use Rattle.atam.proofs.Lists.{slice_get-Contains}
 use Rattle.atam.proofs.Open.{least_open_unique}
+use Rattle.local_check.specs.Firsts.{IsLeast}
+use Rattle.local_check.proofs.Firsts.{one_first_not, one_least}
 use Rattle.cert_check.specs.declared.entry.Entry.{Entry}
 use Rattle.cert_check.specs.declared.verdict.CertVerdict.{CertVerdict}
 use Rattle.cert_check.specs.declared.verdict.CertVerdict.TheVariants.{Yes, NoSeed, SeedSides, BadInput, NotExact, LooseBond, Rival, NotTerminal}
-use Rattle.cert_check.specs.Certificates.{bit_of, places_of, IsSound, IsGood}
-use Rattle.cert_check.specs.Judgement.{IsFirstUnlisted, IsFirstLoose, IsLeastRival, IsBeside, IsFault, IsFirstFault, IsFailed, IsVerdict}
+use Rattle.cert_check.specs.Certificates.{bit_of, places_of, IsLoose, IsRivalOf, IsSound, IsGood}
+use Rattle.cert_check.specs.Judgement.{IsFirstUnlisted, IsBeside, IsFault, IsFirstFault, IsVerdict}
 
 -- the code of a verdict
 pub code : CertVerdict → ℕ
@@ -47,21 +49,13 @@ one_bit South South same = refl
 one_bit West West same = refl
 one_bit d f same = let never : ⊥ = omega (arith, same) in absurd never
 
-neither_below : (i j : ℕ) → ¬ (i < j) → ¬ (j < i) → i ≡ j
-neither_below i j not_i not_j = elim (cases_order i j) [
-  | inl equal ↦ equal
-  | inr rest ↦ elim rest [ inl less ↦ absurd (not_i less) | inr more ↦ absurd (not_j more) ]
-]
-
 module _ (sys : TileSystem) (c : List Entry) where
-  one_loose : (e : Entry) (d f : Side) → IsFirstLoose sys c e d → IsFirstLoose sys c e f → d ≡ f
-  one_loose e d f h k = one_bit d f (neither_below (bit_of d) (bit_of f) (λ less. k.first d less h.loose) (λ more. h.first f more k.loose))
+  one_loose : (e : Entry) (d f : Side) → IsLeast (IsLoose sys c e) bit_of d → IsLeast (IsLoose sys c e) bit_of f → d ≡ f
+  one_loose e d f h k = one_bit d f (one_least (IsLoose sys c e) bit_of d f h k)
 
-  one_rival : (e : Entry) (t u : TypeId) → IsLeastRival sys c e t → IsLeastRival sys c e u → t ≡ u
+  one_rival : (e : Entry) (t u : TypeId) → IsLeast (IsRivalOf sys c e) (λ v. v.0) t → IsLeast (IsRivalOf sys c e) (λ v. v.0) u → t ≡ u
   one_rival e t u h k =
-      let below : t.0 ≤ u.0 = h.least u k.rival in
-      let above : u.0 ≤ t.0 = k.least t h.rival in
-      let number : t.0 ≡ u.0 = omega (arith, below, above) in
+      let number : t.0 ≡ u.0 = one_least (IsRivalOf sys c e) (λ v. v.0) t u h k in
       λ i. record { 0 = number i }
 
   -- an entry fails no check before its first
@@ -79,9 +73,9 @@ module _ (sys : TileSystem) (c : List Entry) where
   never_before e (NotExact m x) (LooseBond n f) less h k = h.3 k.3
   never_before e (NotExact m x) (Rival n u) less h k = h.3 k.3
   never_before e (NotExact m x) (NotTerminal n u) less h k = h.3 (k.1 h.1).1
-  never_before e (LooseBond m d) (Rival n u) less h k = k.4 d h.4.loose
-  never_before e (LooseBond m d) (NotTerminal n u) less h k = (k.1 h.1).2 d h.4.loose
-  never_before e (Rival m t) (NotTerminal n u) less h k = (k.1 h.1).3 t h.5.rival
+  never_before e (LooseBond m d) (Rival n u) less h k = k.4 d h.4.holds
+  never_before e (LooseBond m d) (NotTerminal n u) less h k = (k.1 h.1).2 d h.4.holds
+  never_before e (Rival m t) (NotTerminal n u) less h k = (k.1 h.1).3 t h.5.holds
   never_before e Yes w less h k = h
   never_before e (NoSeed m) w less h k = h
   never_before e (NotTerminal m t) w less h k = omega (arith, less, code-most w)
@@ -124,8 +118,8 @@ module _ (sys : TileSystem) (c : List Entry) where
   not_sound e (SeedSides m) h sound = h.2 (sound.bare h.1)
   not_sound e (BadInput m) h sound = h.2 (sound.held h.1)
   not_sound e (NotExact m x) h sound = h.3 (sound.exact h.1)
-  not_sound e (LooseBond m d) h sound = sound.no_loose h.1 d h.4.loose
-  not_sound e (Rival m t) h sound = sound.no_rival h.1 t h.5.rival
+  not_sound e (LooseBond m d) h sound = sound.no_loose h.1 d h.4.holds
+  not_sound e (Rival m t) h sound = sound.no_rival h.1 t h.5.holds
   not_sound e (NotTerminal m t) h sound =
       let beside = h.2.among in
       let Grows : Site → Type 0 = λ n. IsCandidate sys (places_of c) n t in
@@ -133,51 +127,41 @@ module _ (sys : TileSystem) (c : List Entry) where
 
   one_first : (v w : CertVerdict) → IsFirstFault sys c v → IsFirstFault sys c w → v ≡ w
   one_first v w f g =
-      let index : f.index ≡ g.index = neither_below f.index g.index
-      (λ less. not_sound f.entry v f.fault (g.first f.index f.entry less f.there))
-      (λ more. not_sound g.entry w g.fault (f.first g.index g.entry more g.there))
-      in
-      let entry : f.entry ≡ g.entry = same_Some f.entry g.entry (sym f.there ∙ ap (slice_get c) index ∙ g.there) in
-      one_fault g.entry v w (subst (λ e. IsFault sys c e v) entry f.fault) g.fault
+      let entry : f.item ≡ g.item = (one_first_not c 0 (λ i. IsSound sys c) _ _ f g).1 in
+      one_fault g.item v w (subst (λ e. IsFault sys c e v) entry f.told) g.told
 
   one_unlisted : (m n : Site) → IsFirstUnlisted sys c m → IsFirstUnlisted sys c n → m ≡ n
   one_unlisted m n f g =
-      let index : f.index ≡ g.index = neither_below f.index g.index
-      (λ less. f.unlisted (g.first f.index f.seed less f.there))
-      (λ more. g.unlisted (f.first g.index g.seed more g.there))
-      in
-      let seed : f.seed ≡ g.seed = same_Some f.seed g.seed (sym f.there ∙ ap (slice_get sys.seeds) index ∙ g.there) in
-      sym f.site ∙ ap (λ p. p.site) seed ∙ g.site
+      let seed : f.item ≡ g.item = (one_first_not sys.seeds 0 (λ i. Contains (places_of c)) _ _ f g).1 in
+      sym f.told ∙ ap (λ p. p.site) seed ∙ g.told
 
   -- a verdict is yes, a seed, or an entry's
   data Kind (v : CertVerdict) : Type 0 where
     good : v ≡ Yes → IsGood sys c → Kind v
     unlisted : (m : Site) → v ≡ NoSeed m → IsFirstUnlisted sys c m → Kind v
-    failed : IsFailed sys c v → Kind v
+    failed : IsPartOf sys.seeds (places_of c) → IsFirstFault sys c v → Kind v
 
   kind_of : (v : CertVerdict) → IsVerdict sys c v → Kind v
   kind_of Yes h = good refl h
   kind_of (NoSeed m) h = unlisted m refl h
-  kind_of v h = failed h
+  kind_of v h = failed h.0 h.1
 
   no_unlisted : (m : Site) → IsPartOf sys.seeds (places_of c) → ¬ IsFirstUnlisted sys c m
-  no_unlisted m seeds f = f.unlisted (seeds f.seed (slice_get-Contains sys.seeds f.index f.seed f.there))
+  no_unlisted m seeds f = f.fails (seeds f.item (slice_get-Contains sys.seeds f.index f.item f.there))
 
-  no_failed : (v : CertVerdict) → IsGood sys c → ¬ IsFailed sys c v
-  no_failed v is_good f =
-      let h = f.fault in
-      not_sound h.entry v h.fault (is_good.sound h.entry (slice_get-Contains c h.index h.entry h.there))
+  no_fault : (v : CertVerdict) → IsGood sys c → ¬ IsFirstFault sys c v
+  no_fault v is_good f = f.fails (is_good.sound f.item (slice_get-Contains c f.index f.item f.there))
 
   same_kind : (v w : CertVerdict) → Kind v → Kind w → v ≡ w
   same_kind v w (good yes_v h) (good yes_w k) = yes_v ∙ sym yes_w
   same_kind v w (good yes_v h) (unlisted n is_w k) = absurd (no_unlisted n h.seeds k)
-  same_kind v w (good yes_v h) (failed k) = absurd (no_failed w h k)
+  same_kind v w (good yes_v h) (failed seeds k) = absurd (no_fault w h k)
   same_kind v w (unlisted m is_v h) (good yes_w k) = absurd (no_unlisted m k.seeds h)
   same_kind v w (unlisted m is_v h) (unlisted n is_w k) = is_v ∙ ap (λ r. NoSeed r) (one_unlisted m n h k) ∙ sym is_w
-  same_kind v w (unlisted m is_v h) (failed k) = absurd (no_unlisted m k.seeds h)
-  same_kind v w (failed h) (good yes_w k) = absurd (no_failed v k h)
-  same_kind v w (failed h) (unlisted n is_w k) = absurd (no_unlisted n h.seeds k)
-  same_kind v w (failed h) (failed k) = one_first v w h.fault k.fault
+  same_kind v w (unlisted m is_v h) (failed seeds k) = absurd (no_unlisted m seeds h)
+  same_kind v w (failed seeds h) (good yes_w k) = absurd (no_fault v k h)
+  same_kind v w (failed seeds h) (unlisted n is_w k) = absurd (no_unlisted n seeds k)
+  same_kind v w (failed seeds h) (failed seeds_too k) = one_first v w h k
 
   pub verdict_unique : (v w : CertVerdict) → IsVerdict sys c v → IsVerdict sys c w → v ≡ w
   verdict_unique v w h k = same_kind v w (kind_of v h) (kind_of w k)
@@ -187,6 +171,6 @@ module _ (sys : TileSystem) (c : List Entry) where
 
   -- the first fault of an entry is the verdict
   pub verdict_from_fault : (v : CertVerdict) → IsPartOf sys.seeds (places_of c) → IsFirstFault sys c v → IsVerdict sys c v
-  verdict_from_fault Yes seeds first = absurd first.fault
-  verdict_from_fault (NoSeed m) seeds first = absurd first.fault
-  verdict_from_fault v seeds first = record { seeds = seeds; fault = first }
+  verdict_from_fault Yes seeds first = absurd first.told
+  verdict_from_fault (NoSeed m) seeds first = absurd first.told
+  verdict_from_fault v seeds first = (seeds, first)

@@ -1,5 +1,5 @@
 -- Each legal sequence has a verdict.
-use Rattle.std.proofs.Common.{◌≡◌, ◌⊎◌, ◌≤◌, ℕ, List, length, take, Some, None, slice_get, Option, sym, ◌∙◌, ap, subst, inl, inr, arith}
+use Rattle.std.proofs.Common.{◌≡◌, ◌⊎◌, ◌≤◌, ℕ, List, length, take, Some, None, slice_get, Option, refl, sym, ◌∙◌, ap, subst, inl, inr, arith}
 use Rattle.std.proofs.lemmas.Bool.{cases_lt, cases_eq}
 use Rattle.std.proofs.lemmas.Option.{same_Some, none-some, slice_get_within}
 use Rattle.atam.specs.declared.site.Site.{Site}
@@ -107,13 +107,12 @@ module _ (sys : TileSystem) (s : List Place) where
           NotExact h.place.site (pull sys (take found.0 s) h.place.site h.place.tile),
           record {
             index = found.0;
-            place = h.place;
+            item = h.place;
             later = h.later;
             there = h.there;
-            site = λ x. h.place.site;
-            pull = λ x. pull sys (take found.0 s) h.place.site h.place.tile;
-            inexact = h.inexact;
-            first = λ i p later below there. exact_from i p (found.3 i below) later there;
+            fails = h.inexact;
+            told = (refl, refl);
+            before = λ i p later below there. exact_from i p (found.3 i below) later there;
           },
         )
     | inl all_exact ↦
@@ -126,12 +125,12 @@ module _ (sys : TileSystem) (s : List Place) where
                   exact,
                   record {
                     index = found.0;
-                    place = h.place;
+                    item = h.place;
                     later = h.later;
                     there = h.there;
-                    site = λ x. h.place.site;
-                    rival = record { rival = h.rival; least = h.least };
-                    first = λ i p t later below there. no_rival_from i p t (found.3 i below) later there;
+                    fails = λ none. none h.tile h.rival;
+                    told = (refl, record { holds = h.rival; least = h.least });
+                    before = λ i p later below there t. no_rival_from i p t (found.3 i below) later there;
                   },
                 ),
               )

@@ -21,7 +21,8 @@ use Rattle.attach_rule.specs.declared.facing.FacingGlues.{FacingGlues}
 use Rattle.attach_rule.specs.Facing.{FacesSite, facing_pull}
 use Rattle.type_index.specs.HeldTypes.{IsHeld, FirstHeldBut}
 use Rattle.type_index.specs.Others.{IsFirstBut}
-use Rattle.local_check.specs.Judgement.{IsLeastRival, FindsInexact, FindsRival}
+use Rattle.local_check.specs.Firsts.{IsLeast}
+use Rattle.local_check.specs.Judgement.{FindsInexact, FindsRival}
 use Rattle.local_check.specs.Inner.Ranges.{AllExactIn, NoRivalIn, FindsInexactIn, FindsRivalIn}
 use Rattle.local_check.proofs.Keeping.{gone_here, pull_facing}
 
@@ -107,25 +108,24 @@ pub inexact_whole : (sys : TileSystem) (s : List Place) (n : ℕ) (found : Optio
 inexact_whole sys s n None all = λ i p later below there. all i p later (omega arith) below there
 inexact_whole sys s n (Some first) finds = record {
   index = finds.index;
-  place = finds.place;
+  item = finds.place;
   later = finds.later;
   there = finds.there;
-  site = finds.site;
-  pull = finds.pull;
-  inexact = finds.inexact;
-  first = λ i p later below there. finds.first i p later (omega arith) below there;
+  fails = finds.inexact;
+  told = (finds.site, finds.pull);
+  before = λ i p later below there. finds.first i p later (omega arith) below there;
 }
 
 pub rival_whole : (sys : TileSystem) (s : List Place) (n : ℕ) (found : Option (Site × TypeId)) → FindsRivalIn sys s 0 n found → FindsRival sys s n found
 rival_whole sys s n None none = λ i p t later below there. none i p t later (omega arith) below there
 rival_whole sys s n (Some first) finds = record {
   index = finds.index;
-  place = finds.place;
+  item = finds.place;
   later = finds.later;
   there = finds.there;
-  site = finds.site;
-  rival = finds.rival;
-  first = λ i p t later below there. finds.first i p t later (omega arith) below there;
+  fails = λ none. none first.1 finds.rival.holds;
+  told = (finds.site, finds.rival);
+  before = λ i p later below there t. finds.first i p t later (omega arith) below there;
 }
 
 module _ (sys : TileSystem) (s tiles : List Place) (distinct : HasDistinctSites sys.seeds) (legal : IsLegal sys s) (same : SamePlacements s tiles) where
@@ -161,9 +161,9 @@ module _ (sys : TileSystem) (s tiles : List Place) (distinct : HasDistinctSites 
       no_rival : ((t : TypeId) → IsHeld sys (glues_on sides glues) t → t ≡ p.tile) → (t : TypeId) → ¬ IsRival sys s i p t
       no_rival none t rival = rival.other (none t (rival_held t rival))
 
-      least_rival : (t : TypeId) → IsFirstBut (IsHeld sys (glues_on sides glues)) p.tile t → IsLeastRival sys s i p t
+      least_rival : (t : TypeId) → IsFirstBut (IsHeld sys (glues_on sides glues)) p.tile t → IsLeast (IsRival sys s i p) (λ u. u.0) t
       least_rival t first = record {
-        rival = held_rival t first.other first.holds;
+        holds = held_rival t first.other first.holds;
         least = λ u rival. first.least u (rival_held u rival) rival.other;
       }
 

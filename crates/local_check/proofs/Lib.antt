@@ -1,3 +1,4 @@
+pub mod Firsts
 pub mod Verdicts
 pub mod Existence
 pub mod Sites

@@ -1,3 +1,4 @@
+pub mod Firsts
 pub mod SideSets
 pub mod Judgement
 pub mod Growths

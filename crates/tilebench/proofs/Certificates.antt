@@ -115,8 +115,8 @@ cert_verdict_types sys entries (SeedSides m) judged = tt
 cert_verdict_types sys entries (BadInput m) judged = tt
 cert_verdict_types sys entries (NotExact m sum) judged = tt
 cert_verdict_types sys entries (LooseBond m d) judged = tt
-cert_verdict_types sys entries (Rival m t) judged = judged.fault.fault.5.rival.kind
-cert_verdict_types sys entries (NotTerminal m t) judged = judged.fault.fault.2.grows.kind
+cert_verdict_types sys entries (Rival m t) judged = judged.1.told.5.holds.kind
+cert_verdict_types sys entries (NotTerminal m t) judged = judged.1.told.2.grows.kind
 
 -- it is yes exactly where some sequence is certified
 pub yes_where_certified : (sys : TileSystem) (entries : List Entry) (verdict : CertVerdict) → IsValid sys → Fits sys (places_of entries) → HasDistinctSites (places_of entries) → IsVerdict sys entries verdict →

@@ -86,10 +86,10 @@ module _ (sys : TileSystem) (valid : IsValid sys) where
   verdict_near : (s : List Place) (verdict : Verdict) → Fits sys s → IsVerdict sys s verdict → MayBeTold sys verdict
   verdict_near s Yes fits judged = tt
   verdict_near s (NotExact m sum) fits judged =
-      let held = pull-bound (take judged.index s) judged.place.site judged.place.tile in
-      (subst IsNearSite judged.site (place_near s judged.index judged.place fits judged.there), omega (arith, held, judged.pull))
+      let held = pull-bound (take judged.index s) judged.item.site judged.item.tile in
+      (subst IsNearSite judged.told.0 (place_near s judged.index judged.item fits judged.there), omega (arith, held, judged.told.1))
   verdict_near s (Rival m t) fits judged =
-      (subst IsNearSite judged.1.site (place_near s judged.1.index judged.1.place fits judged.1.there), judged.1.rival.rival.grows.kind)
+      (subst IsNearSite judged.1.told.0 (place_near s judged.1.index judged.1.item fits judged.1.there), judged.1.told.1.holds.grows.kind)
   verdict_near s (NotTerminal m t) fits judged = (candidate_near s m t fits.sites judged.2.grows, judged.2.grows.kind)
 
   -- ---- and so it reads back

@@ -48,8 +48,8 @@ conditions_told sys s (NotTerminal m t) yes_it_is judged = (judged.0, judged.1)
 -- and the verdict by them
 told_within : (sys : TileSystem) (s : List Place) (v : Verdict) → IsVerdict sys s v → HasExactInputs sys s → HasNoRivals sys s → IsYesWithin v
 told_within sys s Yes judged exact no_rival = tt
-told_within sys s (NotExact m sum) judged exact no_rival = judged.inexact (exact judged.index judged.place judged.later judged.there)
-told_within sys s (Rival m t) judged exact no_rival = let first = judged.1 in no_rival first.index first.place t first.later first.there first.rival.rival
+told_within sys s (NotExact m sum) judged exact no_rival = judged.fails (exact judged.index judged.item judged.later judged.there)
+told_within sys s (Rival m t) judged exact no_rival = let first = judged.1 in no_rival first.index first.item t first.later first.there first.told.1.holds
 told_within sys s (NotTerminal m t) judged exact no_rival = tt
 
 module _ (sys : TileSystem) (seeds_distinct : HasDistinctSites sys.seeds) where

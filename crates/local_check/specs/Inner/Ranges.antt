@@ -6,7 +6,7 @@ use Rattle.atam.specs.declared.place.Place.{Place}
 use Rattle.atam.specs.TileSystem.{TileSystem}
 use Rattle.atam.specs.Assembly.{pull}
 use Rattle.atam.specs.Determinism.{IsExact, IsRival}
-use Rattle.local_check.specs.Judgement.{IsLeastRival}
+use Rattle.local_check.specs.Firsts.{IsLeast}
 
 -- each place from one index to before another, but the seeds, is held by exactly the temperature
 abbrev pub AllExactIn : TileSystem → List Place → ℕ → ℕ → Type 0
@@ -40,7 +40,7 @@ pub record IsRivalFrom (sys : TileSystem) (s : List Place) (start : ℕ) (m : Si
   pub later : length sys.seeds ≤ index
   pub there : slice_get s index ≡ Some place
   pub site : place.site ≡ m
-  pub rival : IsLeastRival sys s index place t
+  pub rival : IsLeast (IsRival sys s index place) (λ u. u.0) t
   pub first : NoRivalIn sys s start index
 
 -- what is found by a search of the places from one index to before another: none where none has a rival

@@ -1,10 +1,11 @@
 -- `replay`: an assembly in canonical order.
-use Rattle.std.specs.Prelude.{◌≡◌, ◌≢◌, ◌⊎◌, ◌<◌, ℕ, Bool, true, false, List, ◌++◌, codes, decimal, Some, slice_get}
+use Rattle.std.specs.Prelude.{◌≡◌, ◌⊎◌, ℕ, Bool, true, false, List, ◌++◌, codes, decimal, Some}
 use Rattle.atam.specs.declared.place.Place.{Place}
 use Rattle.atam.specs.declared.site.Site.{Site}
 use Rattle.atam.specs.TileSystem.{TileSystem}
 use Rattle.atam.specs.Placements.{tile_at}
 use Rattle.replay_order.specs.ReplayAnswers.{IsWholeOrder, IsStuckAt}
+use Rattle.local_check.specs.Firsts.{IsFirstNot}
 use Rattle.tile_text.specs.Spelling.{spelling}
 use Rattle.seq_text.specs.GrowthLines.{place_lines}
 use Rattle.seq_text.specs.StuckLines.{stuck_line}
@@ -12,13 +13,9 @@ use Rattle.tilebench.specs.Inputs.{IsAssemblyOf, IsSystemThen}
 use Rattle.seq_text.specs.GrowthText.{ReadsPlaces}
 
 -- the first seed that isn't there, in the system's order, is of this site
-pub record LacksSeedAt (sys : TileSystem) (tiles : List Place) (site : Site) : Type 0 where
-  pub index : ℕ
-  pub seed : Place
-  pub of_system : slice_get sys.seeds index ≡ Some seed
-  pub missing : tile_at tiles seed.site ≢ Some seed.tile
-  pub at : site ≡ seed.site
-  pub first : (k : ℕ) (p : Place) → k < index → slice_get sys.seeds k ≡ Some p → tile_at tiles p.site ≡ Some p.tile
+abbrev pub LacksSeedAt : TileSystem → List Place → Site → Type 0
+LacksSeedAt sys tiles site =
+    IsFirstNot sys.seeds 0 (λ i p. tile_at tiles p.site ≡ Some p.tile) (λ i p. site ≡ p.site)
 
 -- there is no order, and this is told of it: the site of the first seed that isn't there; or the seeds are there, and how many
 -- tiles can't be reached from them, with the least site of those

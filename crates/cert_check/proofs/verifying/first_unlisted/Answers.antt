@@ -1,4 +1,4 @@
-use Rattle.std.proofs.Common.{◌≡◌, ◌<◌, ◌+◌, ◌∙◌, ℕ, List, length, Some, slice_get, get_or, Contains, refl, sym, ap, subst, inl, inr, arith, true≢false}
+use Rattle.std.proofs.Common.{◌≡◌, ◌<◌, ◌+◌, ◌∙◌, ℕ, List, length, Some, slice_get, get_or, Contains, refl, sym, ap, subst, inl, inr, arith, zero-le, true≢false}
 use Rattle.std.proofs.lemmas.Bool.{cases_lt}
 use Rattle.std.proofs.lemmas.Option.{same_Some, slice_get-get_or}
 use Rattle.atam.specs.declared.place.Place.{Place}
@@ -28,11 +28,12 @@ returns-then-not-is_listed c =
     let i = c.loop-seed.seed-index in
     record {
       index = i;
-      seed = get_or items i _;
+      item = get_or items i _;
+      later = zero-le;
       there = at_index c.args.sys.now.seeds items i _ c.seeds-seed-items.ensures.seeds c.loop-seed-test.true;
-      site = refl;
-      unlisted = λ listed. true≢false (sym (c.is_listed.ensures.1 listed) ∙ c.if-not-is_listed.true);
-      first = c.loop-seed.invariant;
+      fails = λ listed. true≢false (sym (c.is_listed.ensures.1 listed) ∙ c.if-not-is_listed.true);
+      told = refl;
+      before = λ k p from less at. c.loop-seed.invariant k p less at;
     }
 
 pub loop-seed-preserved : goal.loop-seed-preserved

@@ -153,13 +153,12 @@ returns-then-is_last-clause-passed g c =
       c.requires.known last.0,
       record {
         index = i;
-        place = p;
+        item = p;
         later = c.loop-index.invariant.seeded;
         there = c.get-place.ensures;
-        site = refl;
-        pull = sum;
-        inexact = λ exact. last.1 (sym sum ∙ exact ∙ sym c.tau-tau.ensures.tau);
-        first = λ j q later below at_j.
+        fails = λ exact. last.1 (sym sum ∙ exact ∙ sym c.tau-tau.ensures.tau);
+        told = (refl, sum);
+        before = λ j q later below at_j.
             c.loop-index.invariant.exact last.0 j q later (omega arith) below at_j;
       },
     )
