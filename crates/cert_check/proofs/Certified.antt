@@ -143,10 +143,9 @@ module _ (sys : TileSystem) (c : List Entry) (seeds_distinct : HasDistinctSites 
         bare = λ seed d.
             let first = seed_index sys.seeds s ld.legal.seeds e.place seed in
             sym (cert.inputs first.0 e d listed first.2) ∙ is_input-seed sys s first.0 d first.1;
-        held = λ no_seed. held e listed at.0 at.2 (later no_seed);
-        exact = λ no_seed. exact e listed at.0 at.2 (later no_seed);
-        no_loose = λ no_seed. no_loose e listed at.0 at.2 (later no_seed);
-        no_rival = λ no_seed. no_rival e listed at.0 at.2 (later no_seed);
+        attached = λ no_seed.
+            let behind = later no_seed in
+            (held e listed at.0 at.2 behind, exact e listed at.0 at.2 behind, no_loose e listed at.0 at.2 behind, no_rival e listed at.0 at.2 behind);
         closed = λ d t grows. ld.terminal (neighbor e.place.site d) t (IsCandidate-same sys (places_of c) s (neighbor e.place.site d) t (SameTiles-from (places_of c) s distinct (same_back s (places_of c) cert.same)) grows);
       }
 

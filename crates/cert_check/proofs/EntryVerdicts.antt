@@ -41,10 +41,7 @@ module _ (sys : TileSystem) (c : List Entry) (e : Entry) where
     refl,
     record {
       bare = passes.bare;
-      held = λ no_seed. (passes.attached no_seed).0;
-      exact = λ no_seed. (passes.attached no_seed).1;
-      no_loose = λ no_seed. (passes.attached no_seed).2;
-      no_rival = λ no_seed. (passes.attached no_seed).3;
+      attached = passes.attached;
       closed = λ d t. none (neighbor e.place.site d) t (d, refl);
     },
   )

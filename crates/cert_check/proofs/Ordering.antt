@@ -60,7 +60,7 @@ module _ (sys : TileSystem) (c : List Entry) (seeds_distinct : HasDistinctSites 
     | inl yes_it_does ↦
         let m = e.place.site in
         let t = e.place.tile in
-        let held = (good.sound e listed).held no_seed d yes_it_does in
+        let held = ((good.sound e listed).attached no_seed).0 d yes_it_does in
         let u = held.from.place.tile in
         let In : Site → Type 0 = λ n. tile_at s n ≡ Some u in
         let in_s : In (neighbor m d) = subst In held.beside (below held.from held.listed held.lesser) in
@@ -74,7 +74,7 @@ module _ (sys : TileSystem) (c : List Entry) (seeds_distinct : HasDistinctSites 
       sys.tau ≤ pull sys s e.place.site e.place.tile
   unfolding pull stated_pull
   held_here e listed no_seed below =
-      let sum = (good.sound e listed).exact no_seed in
+      let sum = ((good.sound e listed).attached no_seed).1 in
       omega (arith, sum, has_stated e North listed no_seed below, has_stated e East listed no_seed below, has_stated e South listed no_seed below, has_stated e West listed no_seed below)
 
   -- each entry's place is listed, by the ranks
@@ -145,7 +145,7 @@ module _ (sys : TileSystem) (c : List Entry) (seeds_distinct : HasDistinctSites 
               elim (cases_Bool (states e d)) [
                 | inl yes_it_does ↦ rw (whole_bond, stated_yes sys c e d yes_it_does) (le_refl _)
                 | inr no_it_doesnt ↦ elim (cases_lt 0 (bond sys (places_of c) m t d)) [
-                  | inl bonded ↦ absurd ((good.sound e listed).no_loose no_seed d (record { unstated = no_it_doesnt; bonded = bonded; unanswered = silent d u some.1 }))
+                  | inl bonded ↦ absurd (((good.sound e listed).attached no_seed).2 d (record { unstated = no_it_doesnt; bonded = bonded; unanswered = silent d u some.1 }))
                   | inr none ↦ omega (arith, whole_bond, none)
                 ]
               ]
@@ -154,16 +154,16 @@ module _ (sys : TileSystem) (c : List Entry) (seeds_distinct : HasDistinctSites 
     -- the stated bonds add up to the temperature, so it has them all
     bond_is_stated : (d : Side) → bond sys (take i s) e.place.site e.place.tile d ≡ stated_bond sys c e d
     unfolding pull stated_pull
-    bond_is_stated North = omega (arith, (good.sound e listed).exact no_seed, (legal.each i e.place later there).held, bond-stated North, bond-stated East, bond-stated South, bond-stated West)
-    bond_is_stated East = omega (arith, (good.sound e listed).exact no_seed, (legal.each i e.place later there).held, bond-stated North, bond-stated East, bond-stated South, bond-stated West)
-    bond_is_stated South = omega (arith, (good.sound e listed).exact no_seed, (legal.each i e.place later there).held, bond-stated North, bond-stated East, bond-stated South, bond-stated West)
-    bond_is_stated West = omega (arith, (good.sound e listed).exact no_seed, (legal.each i e.place later there).held, bond-stated North, bond-stated East, bond-stated South, bond-stated West)
+    bond_is_stated North = omega (arith, ((good.sound e listed).attached no_seed).1, (legal.each i e.place later there).held, bond-stated North, bond-stated East, bond-stated South, bond-stated West)
+    bond_is_stated East = omega (arith, ((good.sound e listed).attached no_seed).1, (legal.each i e.place later there).held, bond-stated North, bond-stated East, bond-stated South, bond-stated West)
+    bond_is_stated South = omega (arith, ((good.sound e listed).attached no_seed).1, (legal.each i e.place later there).held, bond-stated North, bond-stated East, bond-stated South, bond-stated West)
+    bond_is_stated West = omega (arith, ((good.sound e listed).attached no_seed).1, (legal.each i e.place later there).held, bond-stated North, bond-stated East, bond-stated South, bond-stated West)
 
     -- a stated side is one with a bond
     stated_positive : (d : Side) → nat_lt 0 (stated_bond sys c e d) ≡ states e d
     stated_positive d = elim (cases_Bool (states e d)) [
       | inl yes_it_does ↦
-          let bonded = ((good.sound e listed).held no_seed d yes_it_does).bonded in
+          let bonded = (((good.sound e listed).attached no_seed).0 d yes_it_does).bonded in
           let positive : nat_lt 0 (bond sys (places_of c) e.place.site e.place.tile d) ≡ true = grind (arith, nat_tests, bonded) in
           ap (nat_lt 0) (stated_yes sys c e d yes_it_does) ∙ positive ∙ sym yes_it_does
       | inr no_it_doesnt ↦ ap (nat_lt 0) (stated_no sys c e d no_it_doesnt) ∙ sym no_it_doesnt
@@ -197,14 +197,14 @@ module _ (sys : TileSystem) (c : List Entry) (seeds_distinct : HasDistinctSites 
     is_exact =
         let Exact : Place → Type 0 = λ q. IsExact sys s i q in
         let sum = pull_before sys c seeds_distinct distinct s legal same inputs own.0 own.1 i own_there later in
-        subst Exact own.2 (sum ∙ (good.sound own.0 own.1).exact own_no_seed)
+        subst Exact own.2 (sum ∙ ((good.sound own.0 own.1).attached own_no_seed).1)
 
     no_rival : (t : TypeId) → ¬ IsRival sys s i p t
     no_rival t =
         let e = own.0 in
         let m = e.place.site in
         let NoRival : Place → Type 0 = λ q. ¬ IsRival sys s i q t in
-        subst NoRival own.2 (λ rival. (good.sound e own.1).no_rival own_no_seed t (record {
+        subst NoRival own.2 (λ rival. ((good.sound e own.1).attached own_no_seed).3 t (record {
           other = rival.other;
           kind = rival.grows.kind;
           held = le_trans rival.grows.attaches.held
@@ -224,7 +224,7 @@ module _ (sys : TileSystem) (c : List Entry) (seeds_distinct : HasDistinctSites 
         };
         inputs = inputs;
         ranks = λ e f d in_e in_f stated beside.
-            let held = (good.sound e in_e).held (stating e d in_e stated) d stated in
+            let held = ((good.sound e in_e).attached (stating e d in_e stated)).0 d stated in
             let one : held.from ≡ f = same_entry c distinct held.from f held.listed in_f (held.beside ∙ sym beside) in
             subst (λ g. g.rank < e.rank) one held.lesser;
       }

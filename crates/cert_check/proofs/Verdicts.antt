@@ -116,10 +116,10 @@ module _ (sys : TileSystem) (c : List Entry) where
   not_sound e Yes h sound = h
   not_sound e (NoSeed m) h sound = h
   not_sound e (SeedSides m) h sound = h.2 (sound.bare h.1)
-  not_sound e (BadInput m) h sound = h.2 (sound.held h.1)
-  not_sound e (NotExact m x) h sound = h.3 (sound.exact h.1)
-  not_sound e (LooseBond m d) h sound = sound.no_loose h.1 d h.4.holds
-  not_sound e (Rival m t) h sound = sound.no_rival h.1 t h.5.holds
+  not_sound e (BadInput m) h sound = h.2 (sound.attached h.1).0
+  not_sound e (NotExact m x) h sound = h.3 (sound.attached h.1).1
+  not_sound e (LooseBond m d) h sound = (sound.attached h.1).2 d h.4.holds
+  not_sound e (Rival m t) h sound = (sound.attached h.1).3 t h.5.holds
   not_sound e (NotTerminal m t) h sound =
       let beside = h.2.among in
       let Grows : Site → Type 0 = λ n. IsCandidate sys (places_of c) n t in

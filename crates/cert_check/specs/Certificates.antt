@@ -107,10 +107,8 @@ IsClosedBeside sys c e = (d : Side) (t : TypeId) → ¬ IsCandidate sys (places_
 -- an entry passes them
 pub record IsSound (sys : TileSystem) (c : List Entry) (e : Entry) : Type 0 where
   pub bare : IsSeed sys e → StatesNone e
-  pub held : ¬ IsSeed sys e → IsHeldThroughout sys c e
-  pub exact : ¬ IsSeed sys e → IsHeldExactly sys c e
-  pub no_loose : ¬ IsSeed sys e → HasNoLooseBond sys c e
-  pub no_rival : ¬ IsSeed sys e → HasNoRival sys c e
+  pub attached : ¬ IsSeed sys e →
+      IsHeldThroughout sys c e × IsHeldExactly sys c e × HasNoLooseBond sys c e × HasNoRival sys c e
   pub closed : IsClosedBeside sys c e
 
 -- each seed is an entry's place, and each entry passes
