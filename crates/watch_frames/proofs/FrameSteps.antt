@@ -5,7 +5,7 @@ use Rattle.std.proofs.Math.ListN.{get_or-append}
 use Rattle.std.proofs.lemmas.Bool.{cases_lt}
 use Rattle.std.proofs.lemmas.List.{length-take-le}
 use Rattle.atam.specs.declared.place.Place.{Place}
-use Rattle.atam.specs.Placements.{HasDistinctSites, IsPartOf}
+use Rattle.atam.specs.Placements.{HasDistinctSites}
 use Rattle.atam.specs.TileSystem.{TileSystem, IsType}
 use Rattle.atam.specs.Growth.{IsLegal}
 use Rattle.atam.proofs.Lists.{seeds_within, seeds_taken}
@@ -24,7 +24,7 @@ no_frames sys legal = record {
 }
 
 module _ (sys : TileSystem) (tiles s t : List Place) (counts : List ℕ) (distinct : HasDistinctSites tiles) (seeds_distinct : HasDistinctSites sys.seeds) (kinds : All (λ p. IsType sys p.tile) tiles)
-    (part : IsPartOf s tiles) (are : AreFrames sys s counts) (extends : Extends sys s tiles t) where
+    (are : AreFrames sys s counts) (extends : Extends sys s tiles t) where
   -- earlier counts stay
   count_same : (i : ℕ) → i < length counts → get_or (counts ++ length t ∷ []) i 0 ≡ get_or counts i 0
   count_same i below = get_or-append counts (length t ∷ []) 0 i below
@@ -34,7 +34,7 @@ module _ (sys : TileSystem) (tiles s t : List Place) (counts : List ℕ) (distin
 
   -- and so do earlier frames
   frame_same : (i : ℕ) → i < length counts → frame_of t (counts ++ length t ∷ []) i ≡ frame_of s counts i
-  frame_same i below = ap (λ k. take k t) (count_same i below) ∙ seeds_taken s t extends.begins.begins (get_or counts i 0) (are.within i below)
+  frame_same i below = ap (λ k. take k t) (count_same i below) ∙ seeds_taken s t extends.begins.seeds (get_or counts i 0) (are.within i below)
 
   before_same : (i : ℕ) → i ≤ length counts → frame_before sys t (counts ++ length t ∷ []) i ≡ frame_before sys s counts i
   before_same zero below = refl
@@ -54,14 +54,14 @@ module _ (sys : TileSystem) (tiles s t : List Place) (counts : List ℕ) (distin
   new_frame i one =
       let before : frame_before sys t (counts ++ length t ∷ []) i ≡ s = before_same i (omega (arith, one)) ∙ ap (frame_before sys s counts) one ∙ are.last in
       let now : frame_of t (counts ++ length t ∷ []) i ≡ t = ap (frame_of t (counts ++ length t ∷ [])) one ∙ frame_new in
-      moved i s t before now (over_itself_law sys s tiles t part extends)
+      moved i s t before now (over_itself_law sys s tiles t extends)
 
   pub frames_more : AreFrames sys t (counts ++ length t ∷ [])
   frames_more =
       let longer : length (counts ++ length t ∷ []) ≡ suc (length counts) = omega (arith, length-append counts (length t ∷ [])) in
-      let few : length s ≤ length t = seeds_within s t extends.begins.begins in
+      let few : length s ≤ length t = seeds_within s t extends.begins.seeds in
       record {
-        legal = begins_legal sys s tiles t distinct part extends.begins seeds_distinct kinds are.legal;
+        legal = begins_legal sys s tiles t distinct extends.begins seeds_distinct kinds are.legal;
         last = ap (frame_before sys t (counts ++ length t ∷ [])) longer ∙ frame_new;
         within = λ i below. elim (cases_lt i (length counts)) [
           | inl earlier ↦ omega (arith, count_same i earlier, are.within i earlier, few)
@@ -83,13 +83,13 @@ module _ (sys : TileSystem) (places : List Place) (counts : List ℕ) (are : Are
   -- none has fewer places than the one before it
   pub counts_rise : (i : ℕ) → suc i < length counts → get_or counts i 0 ≤ get_or counts (suc i) 0
   counts_rise i below =
-      let fewer = seeds_within (frame_of places counts i) (frame_of places counts (suc i)) (are.each (suc i) below).begins.begins in
+      let fewer = seeds_within (frame_of places counts i) (frame_of places counts (suc i)) (are.each (suc i) below).begins.seeds in
       omega (arith, fewer, frame_length i (omega (arith, below)), frame_length (suc i) below)
 
   -- each has the seeds
   has_seeds : (i : ℕ) → i < length counts → length sys.seeds ≤ get_or counts i 0
   has_seeds zero below =
-      let fewer = seeds_within sys.seeds (frame_of places counts 0) (are.each 0 below).begins.begins in
+      let fewer = seeds_within sys.seeds (frame_of places counts 0) (are.each 0 below).begins.seeds in
       omega (arith, fewer, frame_length 0 below)
   has_seeds (suc i) below =
       let before = has_seeds i (omega (arith, below)) in

@@ -15,7 +15,7 @@ HasExtension = (sys : TileSystem) (earlier tiles : List Place) → HasDistinctSi
 
 -- in one way alone
 abbrev pub HasOneExtension : Type 0
-HasOneExtension = (sys : TileSystem) (earlier tiles s t : List Place) → HasDistinctSites tiles → IsPartOf earlier tiles →
+HasOneExtension = (sys : TileSystem) (earlier tiles s t : List Place) → HasDistinctSites tiles →
     Extends sys earlier tiles s → Extends sys earlier tiles t → s ≡ t
 
 -- which the placements alone decide
@@ -25,34 +25,33 @@ SharesExtension = (sys : TileSystem) (earlier a b s : List Place) → SamePlacem
 -- a legal sequence goes on legally, with places of the tiles alone
 abbrev pub ExtendsLegally : Type 0
 ExtendsLegally = (sys : TileSystem) (earlier tiles s : List Place) → HasDistinctSites sys.seeds → HasDistinctSites tiles →
-    All (λ p. IsType sys p.tile) tiles → IsPartOf earlier tiles → IsLegal sys earlier → Extends sys earlier tiles s →
+    All (λ p. IsType sys p.tile) tiles → IsLegal sys earlier → Extends sys earlier tiles s →
     IsLegal sys s × IsPartOf s tiles
 
 -- the seeds go on in canonical order
 abbrev pub ExtendsSeedsCanonically : Type 0
-ExtendsSeedsCanonically = (sys : TileSystem) (tiles s : List Place) → IsPartOf sys.seeds tiles →
-    Extends sys sys.seeds tiles s ↔ IsCanonical sys tiles s
+ExtendsSeedsCanonically = (sys : TileSystem) (tiles s : List Place) → Extends sys sys.seeds tiles s ↔ IsCanonical sys tiles s
 
 -- what was listed is enough to say how it went on
 abbrev pub ExtendsOverItself : Type 0
-ExtendsOverItself = (sys : TileSystem) (earlier tiles s : List Place) → IsPartOf earlier tiles → Extends sys earlier tiles s → Extends sys earlier s s
+ExtendsOverItself = (sys : TileSystem) (earlier tiles s : List Place) → Extends sys earlier tiles s → Extends sys earlier s s
 
 -- every legal sequence over the tiles is a part of what is listed: this is their greatest producible part
 abbrev pub ExtendsToGreatest : Type 0
 ExtendsToGreatest = (sys : TileSystem) (earlier tiles s b : List Place) → HasDistinctSites sys.seeds → HasDistinctSites tiles →
-    All (λ p. IsType sys p.tile) tiles → IsPartOf earlier tiles → IsLegal sys earlier → Extends sys earlier tiles s →
+    All (λ p. IsType sys p.tile) tiles → IsLegal sys earlier → Extends sys earlier tiles s →
     IsLegal sys b → IsPartOf b tiles → IsPartOf b s
 
 -- so it has the placements of the tiles' canonical sequence, whatever came earlier
 abbrev pub ExtendsToCanonical : Type 0
 ExtendsToCanonical = (sys : TileSystem) (earlier tiles s c : List Place) → HasDistinctSites sys.seeds → HasDistinctSites tiles →
-    All (λ p. IsType sys p.tile) tiles → IsPartOf earlier tiles → IsLegal sys earlier → Extends sys earlier tiles s →
+    All (λ p. IsType sys p.tile) tiles → IsLegal sys earlier → Extends sys earlier tiles s →
     IsCanonical sys tiles c → SamePlacements s c
 
 -- over more tiles it goes on behind what was listed
 abbrev pub GoesOnOverMore : Type 0
 GoesOnOverMore = (sys : TileSystem) (earlier tiles s more : List Place) → HasDistinctSites earlier → HasDistinctSites tiles → HasDistinctSites more →
-    IsPartOf earlier tiles → IsPartOf tiles more → Extends sys earlier tiles s →
+    IsPartOf tiles more → Extends sys earlier tiles s →
     (t : List Place) × Extends sys s more t × (take (length s) t ≡ s)
 
 -- each frame is legal

@@ -20,7 +20,7 @@ list-requires c =
     let here : site_at sys.area n ≡ p.site = ap (λ a. site_at a n) (sym (c.area-area.ensures.area ∙ c.requires.can.area)) ∙ sym c.site-site.ensures.site in
     let placed : tile_at tiles p.site ≡ Some p.tile = sym (tile_here sys.area _ tiles n p.site c.requires.can.area here) ∙ sym c.tile.ensures ∙ c.unwrap-tile.ensures in
     let within : n < cell_count sys.area = omega (arith, c.in-Some.ensures.below, going.fit.bound) in
-    let fewer = more_room sys c.args.frames.now.places tiles s (record { listed = c.self.inside.listed; ready = c.self.inside.ready }) distinct c.requires.can.part c.requires.can.distinct c.requires.can.fits going n p within here c.in-Some.ensures.least placed (wide sys.area c.recall_valid.ensures.valid.box) in
+    let fewer = more_room sys c.args.frames.now.places tiles s (record { listed = c.self.inside.listed; ready = c.self.inside.ready }) distinct c.requires.can.distinct c.requires.can.fits going n p within here c.in-Some.ensures.least placed (wide sys.area c.recall_valid.ensures.valid.box) in
     let most : length tiles ≤ cell_count sys.area = count_in_box sys.area tiles distinct c.requires.can.fits.sites in
     omega (arith, fewer, most, c.requires.room, c.loop-number.invariant.room)
 
@@ -39,7 +39,7 @@ offer_beside-requires-clause-listed_fits c =
     let going : IsGoingOn sys c.args.frames.now.places tiles s (record { listed = c.self.inside.listed; ready = c.self.inside.ready }) = subst (λ (l : ListingValue). IsGoingOn sys c.args.frames.now.places tiles s l) (sym c.self.view_is) c.loop-number.invariant.going in
     let here : site_at sys.area n ≡ p.site = ap (λ a. site_at a n) (sym (c.area-area.ensures.area ∙ c.requires.can.area)) ∙ sym c.site-site.ensures.site in
     let placed : tile_at tiles p.site ≡ Some p.tile = sym (tile_here sys.area _ tiles n p.site c.requires.can.area here) ∙ sym c.tile.ensures ∙ c.unwrap-tile.ensures in
-    pushed_fits sys c.args.frames.now.places tiles s (record { listed = c.self.inside.listed; ready = c.self.inside.ready }) c.area-area.ensures.distinct c.requires.can.part c.requires.can.distinct c.requires.can.fits going p placed c.put_at.new.self.tiles c.put_at.ensures.placements
+    pushed_fits sys c.args.frames.now.places tiles s (record { listed = c.self.inside.listed; ready = c.self.inside.ready }) c.area-area.ensures.distinct c.requires.can.distinct c.requires.can.fits going p placed c.put_at.new.self.tiles c.put_at.ensures.placements
 
 pub loop-number-smaller : goal.loop-number-smaller
 loop-number-smaller c =
@@ -53,7 +53,7 @@ loop-number-smaller c =
     let here : site_at sys.area n ≡ p.site = ap (λ a. site_at a n) (sym (c.area-area.ensures.area ∙ c.requires.can.area)) ∙ sym c.site-site.ensures.site in
     let placed : tile_at tiles p.site ≡ Some p.tile = sym (tile_here sys.area _ tiles n p.site c.requires.can.area here) ∙ sym c.tile.ensures ∙ c.unwrap-tile.ensures in
     let within : n < cell_count sys.area = omega (arith, c.in-Some.ensures.below, going.fit.bound) in
-    let fewer = more_room sys c.args.frames.now.places tiles s (record { listed = c.self.inside.listed; ready = c.self.inside.ready }) distinct c.requires.can.part c.requires.can.distinct c.requires.can.fits going n p within here c.in-Some.ensures.least placed (wide sys.area c.recall_valid.ensures.valid.box) in
+    let fewer = more_room sys c.args.frames.now.places tiles s (record { listed = c.self.inside.listed; ready = c.self.inside.ready }) distinct c.requires.can.distinct c.requires.can.fits going n p within here c.in-Some.ensures.least placed (wide sys.area c.recall_valid.ensures.valid.box) in
     let longer : length c.list.new.self.places ≡ length (s ++ p ∷ []) = ap length c.list.ensures.places in
     let smaller : length tiles - length c.list.new.self.places < length tiles - length s = omega (arith, fewer, longer, length-append s (p ∷ [])) in
     smaller
@@ -71,7 +71,7 @@ loop-number-preserved c =
     let placed : tile_at tiles p.site ≡ Some p.tile = sym (tile_here sys.area _ tiles n p.site c.requires.can.area here) ∙ sym c.tile.ensures ∙ c.unwrap-tile.ensures in
     let within : n < cell_count sys.area = omega (arith, c.in-Some.ensures.below, going.fit.bound) in
     let put : ListingValue = record { listed = c.put_at.new.self; ready = c.remove.new.self } in
-    let more = more_going sys c.args.frames.now.places tiles s (record { listed = c.self.inside.listed; ready = c.self.inside.ready }) distinct c.requires.can.part c.requires.can.distinct c.requires.can.fits going n p within here c.in-Some.ensures.least placed
+    let more = more_going sys c.args.frames.now.places tiles s (record { listed = c.self.inside.listed; ready = c.self.inside.ready }) distinct c.requires.can.distinct c.requires.can.fits going n p within here c.in-Some.ensures.least placed
     put c.offer_beside.new.self c.remove.ensures.removes c.remove.ensures.bound c.put_at.ensures.area c.put_at.ensures.placements c.put_at.ensures.distinct c.put_at.ensures.here c.put_at.ensures.others
     c.offer_beside.ensures.adds c.offer_beside.ensures.has (wide sys.area c.recall_valid.ensures.valid.box)
     in
@@ -89,7 +89,7 @@ returns-clause-goes_on c =
     let tiles = c.args.seen.now.tiles in
     let s = c.loop-number.frames.places in
     let going : IsGoingOn sys c.args.frames.now.places tiles s (record { listed = c.self.inside.listed; ready = c.self.inside.ready }) = subst (λ (l : ListingValue). IsGoingOn sys c.args.frames.now.places tiles s l) (sym c.self.view_is) c.loop-number.invariant.going in
-    ends sys c.args.frames.now.places tiles s (record { listed = c.self.inside.listed; ready = c.self.inside.ready }) c.area-area.ensures.distinct c.requires.can.part c.requires.can.distinct c.requires.can.fits going c.in_default.ensures.none
+    ends sys c.args.frames.now.places tiles s (record { listed = c.self.inside.listed; ready = c.self.inside.ready }) c.area-area.ensures.distinct c.requires.can.distinct c.requires.can.fits going c.in_default.ensures.none
 
 pub returns-clause-rest : goal.returns-clause-rest
 returns-clause-rest c =
