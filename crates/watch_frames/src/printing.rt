@@ -1,10 +1,11 @@
 // The lines of frames.
-ghost use Rattle.std.specs.Prelude.{◌≡◌, ◌≤◌, All, length, drop, take, flat_map};
+ghost use Rattle.std.specs.Prelude.{◌≡◌, ◌≤◌, All, length, drop, take};
 ghost use Rattle.atam.specs.TileSystem.{IsType};
 ghost use Rattle.tile_io.specs.Chunks.{PassesOn};
 ghost use Rattle.tile_io.specs.Prints.{Prints};
 ghost use Rattle.seq_text.specs.GrowthLines.{place_lines};
-ghost use Rattle.watch_frames.specs.FrameText.{frames_text, span_lines, spans};
+ghost use Rattle.watch_frames.specs.FrameText.{frame_lines, frames_text};
+ghost use Rattle.watch_frames.specs.Inner.Spans.{span_lines};
 
 use crate::Frames;
 use itoa::Buffer;
@@ -43,7 +44,7 @@ fn put_frames<K: Sink>(
 ) -> Result<(), Failed>
     requires { All (λ p. IsType pieces.old p.tile) frames.now.places }
     ensures { PassesOn K.written K.faults sink.old sink.new chunk.old chunk.new result
-        (flat_map (span_lines pieces.old frames.now.places) (spans frames.now.counts)) }
+        (frame_lines pieces.old frames.now.places 1 0 frames.now.counts) }
 {
     let mut before = 0;
     for index in 0..frames.taken() {

@@ -4,8 +4,8 @@ use Rattle.std.proofs.lemmas.List.{take_all}
 use Rattle.atam.specs.TileSystem.{TileSystem}
 use Rattle.tile_io.proofs.Printing.{PassesOn-next, PassesOn-halted, PassesOn-text}
 use Rattle.watch_frames.specs.declared.printing.FrameSpan.{FrameSpan}
-use Rattle.watch_frames.specs.FrameText.{span_lines, spans}
-use Rattle.watch_frames.proofs.FrameSpans.{told_before, spans-length, spans-at}
+use Rattle.watch_frames.specs.Inner.Spans.{span_lines, spans}
+use Rattle.watch_frames.proofs.FrameSpans.{told_before, spans-length, spans-at, lines_of_spans}
 use Rattle.watch_frames.proofs.printing.put_frames.Goals as goal
 
 -- the frame that is printed is that with this index
@@ -28,7 +28,8 @@ returns-in_err-put_frame g c =
     let there = here counts k (k + 1) c.loop-index.before c.count-count.result d below refl c.loop-index.invariant.before c.count-count.ensures.value in
     let told : FrameSpan = record { number = k + 1; before = c.loop-index.before; count = c.count-count.result } in
     let one = ap (λ (sys : TileSystem). span_lines sys c.args.frames.now.places told) c.loop-index.invariant.same in
-    rw p.1 (PassesOn-halted line (spans counts) k d within c.loop-index.invariant.passes (PassesOn-text (one ∙ ap line there) c.in_err-put_frame.ensures.passes))
+    let all = lines_of_spans c.args.pieces.now c.args.frames.now.places 1 0 counts in
+    rw p.1 (PassesOn-text all (PassesOn-halted line (spans counts) k d within c.loop-index.invariant.passes (PassesOn-text (one ∙ ap line there) c.in_err-put_frame.ensures.passes)))
 
 pub loop-index-preserved : goal.loop-index-preserved
 loop-index-preserved g c =
@@ -53,4 +54,5 @@ returns g c =
     let counts = c.args.frames.now.counts in
     let line = span_lines c.args.pieces.now c.args.frames.now.places in
     let past : length (spans counts) ≤ c.loop-index.index = omega (arith, c.loop-index-test.false, c.taken-index-end.ensures, spans-length 1 0 counts) in
-    PassesOn-text (ap (flat_map line) (take_all c.loop-index.index (spans counts) past)) c.loop-index.invariant.passes
+    let all = lines_of_spans c.args.pieces.now c.args.frames.now.places 1 0 counts in
+    PassesOn-text (ap (flat_map line) (take_all c.loop-index.index (spans counts) past) ∙ all) c.loop-index.invariant.passes

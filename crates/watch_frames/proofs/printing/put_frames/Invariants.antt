@@ -1,7 +1,7 @@
 use Rattle.std.proofs.Common.{◌≡◌, take, flat_map, Ok}
 use Rattle.tile_io.specs.declared.outside.Failed.{Failed}
 use Rattle.tile_io.specs.Chunks.{PassesOn}
-use Rattle.watch_frames.specs.FrameText.{span_lines, spans}
+use Rattle.watch_frames.specs.Inner.Spans.{span_lines, spans}
 use Rattle.watch_frames.proofs.FrameSpans.{told_before}
 use Rattle.watch_frames.proofs.printing.put_frames.Given as goal
 
