@@ -419,17 +419,21 @@ whole_growth sys workers start old new grid wins grown valid all none grew count
     let seen_closed : IsClosedInBox sys new.scout.seen = closed_same sys new.scout.seen grid.tiles closes.scout.distinct distinct grew.seen grew.closed in
     let same : SamePlacements grown.grid.tiles new.scout.seen = out_seen sys new grid grown distinct grew.seen grew.closed closes in
     record {
-      area = closes.area;
-      distinct = closes.distinct;
-      inside = closes.inside;
-      producible = closes.producible;
-      closed = closed_same sys grown.grid.tiles new.scout.seen closes.distinct closes.scout.distinct same seen_closed;
-      numbers = closes.numbers;
-      idle = λ n within none_has.
-          let rests = grew.workers_win.others n (subst (λ m. Owns m n) (sym all) (bit_at_ones 64 n within))
-          (λ w l. let worker = subst (λ m. w < m) count l in λ e. none_has w worker (e ∙ ap (owned_number w) all ∙ number_of w (omega (arith, worker, few)))) in
-          closes.own_counts n (owns_all sys new.scout grown valid all_new closes n within) ∙ ap length (rests ∙ ap (placed_by n) none);
-      total = all_won sys new.scout grown valid all_new closes;
+      full = record {
+        distinct = closes.distinct;
+        inside = closes.inside;
+        producible = closes.producible;
+        closed = closed_same sys grown.grid.tiles new.scout.seen closes.distinct closes.scout.distinct same seen_closed;
+      };
+      placed = record {
+        area = closes.area;
+        numbers = closes.numbers;
+        idle = λ n within none_has.
+            let rests = grew.workers_win.others n (subst (λ m. Owns m n) (sym all) (bit_at_ones 64 n within))
+            (λ w l. let worker = subst (λ m. w < m) count l in λ e. none_has w worker (e ∙ ap (owned_number w) all ∙ number_of w (omega (arith, worker, few)))) in
+            closes.own_counts n (owns_all sys new.scout grown valid all_new closes n within) ∙ ap length (rests ∙ ap (placed_by n) none);
+        total = all_won sys new.scout grown valid all_new closes;
+      };
     }
 
 -- a number's wins are among what a seat has won

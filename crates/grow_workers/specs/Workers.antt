@@ -1,10 +1,9 @@
 -- Workers, their numbers and what they win.
 use Rattle.std.specs.Prelude.{◌≡◌, ◌≢◌, ℕ, zero, suc, ◌-◌, ◌^◌, ◌<◌, ◌+◌, ◌≤◌, true, List, ◌++◌, All, AllPairs, length, slice_index, sum}
-use Rattle.atam.specs.Sites.{InBox}
 use Rattle.atam.specs.TileSystem.{TileSystem}
-use Rattle.atam.specs.Placements.{SamePlacements, HasDistinctSites, IsPartOf}
+use Rattle.atam.specs.Placements.{SamePlacements, IsPartOf}
 use Rattle.atam.specs.declared.place.Place.{Place}
-use Rattle.atam.specs.Growth.{IsClosedInBox, IsProducible}
+use Rattle.atam.specs.Growth.{IsClosedInBox, IsFullGrowth}
 use Rattle.atam.specs.Canonical.{IsCanonical}
 use Rattle.assembly.specs.Grids.{TileGrid}
 use Rattle.grow_core.specs.declared.placed_tile.PlacedTile.{PlacedTile}
@@ -60,14 +59,14 @@ pub record IsSeenOrder (sys : TileSystem) (tiles : List Place) (seen : SeenOrder
   pub canonical : IsCanonical sys tiles seen.order
   pub clean : seen.clean ≡ true → CameExact sys seen.order
 
--- What `grow` leaves: a producible assembly in the box, closed in it. Only the workers' numbers have
--- placed tiles, and these are all tiles but the seeds.
-pub record IsGrownBy (sys : TileSystem) (workers : ℕ) (grown : GrownValue) : Type 0 where
+-- In a table over the system's box so many workers placed all tiles but the seeds, under their numbers alone.
+pub record WorkersPlaced (sys : TileSystem) (workers : ℕ) (grown : GrownValue) : Type 0 where
   pub area : grown.grid.area ≡ sys.area
-  pub distinct : HasDistinctSites grown.grid.tiles
-  pub inside : All (λ p. InBox sys.area p.site) grown.grid.tiles
-  pub producible : IsProducible sys grown.grid.tiles
-  pub closed : IsClosedInBox sys grown.grid.tiles
   pub numbers : length grown.won ≡ 64
   pub idle : (n : ℕ) → n < 64 → ((w : ℕ) → w < workers → n ≢ worker_number w) → slice_index grown.won n ≡ 0
   pub total : sum grown.won + length sys.seeds ≡ length grown.grid.tiles
+
+-- what `grow` leaves: a full growth, whose tiles so many workers placed
+pub record IsGrownBy (sys : TileSystem) (workers : ℕ) (grown : GrownValue) : Type 0 where
+  pub full : IsFullGrowth sys grown.grid.tiles
+  pub placed : WorkersPlaced sys workers grown

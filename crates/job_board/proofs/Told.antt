@@ -10,8 +10,6 @@ use Rattle.atam.proofs.Canon.{canonical_IsLegal, canonical_same, producible_type
 use Rattle.atam.proofs.Opening.{Fits-part}
 use Rattle.atam.specs.Verdicts.{NamesTypes}
 use Rattle.local_check.proofs.Verdicts.{verdict_types}
-use Rattle.site_table.specs.Seats.{GrownValue}
-use Rattle.grow_workers.specs.Workers.{IsGrownBy}
 use Rattle.seq_text.proofs.NamedTypes.{open_type}
 use Rattle.unique_law.specs.Outcomes.{Outcome}
 use Rattle.job_board.specs.Answers.{Answers}
@@ -19,10 +17,6 @@ use Rattle.job_board.specs.Answers.{Answers}
 -- it fits its system
 pub full_fits : (sys : TileSystem) (tiles : List Place) → IsFullGrowth sys tiles → Fits sys tiles
 full_fits sys tiles full = record { types = producible_types sys tiles full.producible; sites = full.inside }
-
--- so does what a table was closed with
-pub grown_full : (sys : TileSystem) (workers : ℕ) (grown : GrownValue) → IsGrownBy sys workers grown → IsFullGrowth sys grown.grid.tiles
-grown_full sys workers grown grew = record { distinct = grew.distinct; inside = grew.inside; producible = grew.producible; closed = grew.closed }
 
 -- the sequence has exactly its placements
 pub order_same : (sys : TileSystem) (tiles order : List Place) → HasDistinctSites sys.seeds → IsFullGrowth sys tiles → IsCanonical sys tiles order → SamePlacements order tiles

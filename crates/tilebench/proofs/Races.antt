@@ -1,10 +1,8 @@
 -- What workers win, one after another and together.
-use Rattle.std.proofs.Common.{◌≡◌, ◌≢◌, All, Bool, true, ◌∙◌, ◌<◌, ◌≤◌, ◌+◌, ◌-◌, ◌++◌, ℕ, zero, suc, List, [], ◌∷◌, length, drop, Some, refl, sym, ap, subst, arith, inl, inr, add-one}
+use Rattle.std.proofs.Common.{◌≡◌, ◌≢◌, Bool, true, ◌∙◌, ◌<◌, ◌≤◌, ◌+◌, ◌-◌, ◌++◌, ℕ, zero, suc, List, [], ◌∷◌, length, drop, Some, refl, sym, ap, subst, arith, inl, inr, add-one}
 use Rattle.std.specs.Prelude.{slice_get, slice_index, sum, sum_by, map, is_some}
 use Rattle.std.proofs.lemmas.Bool.{cases_lt}
 use Rattle.std.proofs.lemmas.List.Sums.{sum_by-append, sum_by-cons}
-use Rattle.atam.specs.declared.area.BoxArea.{BoxArea}
-use Rattle.atam.specs.Sites.{InBox}
 use Rattle.atam.specs.TileSystem.{TileSystem}
 use Rattle.site_table.specs.Seats.{GrownValue}
 use Rattle.grow_workers.specs.Workers.{IsGrownBy, worker_number}
@@ -17,7 +15,6 @@ use Rattle.tilebench.specs.Growths.{IsGrowth}
 use Rattle.tilebench.specs.Commands.Report.{IsReportText}
 use Rattle.tilebench.specs.Inner.Races.{won_together}
 use Rattle.tilebench.specs.Inner.Rooms.{GrowsTo, outcome_of}
-use Rattle.tilebench.proofs.Growths.{producible_fits}
 use Rattle.report.specs.Reports.{report_line}
 use Rattle.tile_io.specs.Lines.{line_of}
 
@@ -106,24 +103,19 @@ no_number n workers above below (suc w) within e = omega (arith, e, within, belo
 pub shares_of : (workers : ℕ) (sys : TileSystem) (table : GrownValue) (wins : List Win) → 1 ≤ workers → workers ≤ 16 → IsGrownBy sys workers table → AreWins workers table.won wins →
     sum_by (λ (win : Win). win.count) wins ≡ won_together table.won workers → AreShares workers sys table wins
 shares_of workers sys table wins some few grew won together =
-    let sums = won_in_all table.won workers grew.numbers some few (λ n above below. grew.idle n (omega (arith, below, some)) (no_number n workers above below)) in
-    let tiles = grew.total in
+    let sums = won_in_all table.won workers grew.placed.numbers some few (λ n above below. grew.placed.idle n (omega (arith, below, some)) (no_number n workers above below)) in
+    let tiles = grew.placed.total in
     record { won = won; all = omega (arith, together, sums, tiles) }
 
 -- the wins of all workers are told by their text
-pub race_told : (workers : ℕ) (sys : TileSystem) (table : GrownValue) (area : BoxArea) (wins : List Win) (total : ℕ) → 1 ≤ workers → workers ≤ 16 → IsGrownBy sys workers table →
-    area ≡ sys.area → All (λ p. InBox area p.site) table.grid.tiles → AreWins workers table.won wins → sum_by (λ (win : Win). win.count) wins ≡ won_together table.won workers →
+pub race_told : (workers : ℕ) (sys : TileSystem) (table : GrownValue) (wins : List Win) (total : ℕ) → 1 ≤ workers → workers ≤ 16 → IsGrownBy sys workers table →
+    AreWins workers table.won wins → sum_by (λ (win : Win). win.count) wins ≡ won_together table.won workers →
     total + length sys.seeds ≡ length table.grid.tiles → IsRaceText workers sys table true (race_text wins total)
-race_told workers sys table area wins total some few grew same inside won together all =
+race_told workers sys table wins total some few grew won together all =
     let shares = shares_of workers sys table wins some few grew won together in
     let sums = shares.all in
     record {
-      full = record {
-        distinct = grew.distinct;
-        inside = (producible_fits sys area table.grid.tiles same inside grew.producible).sites;
-        producible = grew.producible;
-        closed = grew.closed;
-      };
+      full = grew.full;
       wins = wins;
       shares = shares;
       total = total;

@@ -76,14 +76,13 @@ as_one_worker table = record { grid = table.grid; won = sum table.won ∷ zeros 
 grown_as_one_worker : (sys : TileSystem) (watching workers : ℕ) (table : GrownValue) → 1 ≤ workers → GrewBesideWatcher sys watching table → IsFullGrowth sys table.grid.tiles → IsGrownBy sys workers (as_one_worker table)
 unfolding as_one_worker
 grown_as_one_worker sys watching workers table some grew full = record {
-  area = grew.area;
-  distinct = full.distinct;
-  inside = full.inside;
-  producible = full.producible;
-  closed = full.closed;
-  numbers = ap suc (zeros_many 63);
-  idle = idle;
-  total = let all = grew.total in let rest = zeros_sum 63 in let first = sum_by-cons (λ (x : ℕ). x) (sum table.won) (zeros 63) in omega (arith, all, rest, first);
+  full = full;
+  placed = record {
+    area = grew.placed.area;
+    numbers = ap suc (zeros_many 63);
+    idle = idle;
+    total = let all = grew.placed.total in let rest = zeros_sum 63 in let first = sum_by-cons (λ (x : ℕ). x) (sum table.won) (zeros 63) in omega (arith, all, rest, first);
+  };
 }
   where
     idle : (n : ℕ) → n < 64 → ((w : ℕ) → w < workers → n ≢ worker_number w) → slice_index (as_one_worker table).won n ≡ 0

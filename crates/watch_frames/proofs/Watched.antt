@@ -20,11 +20,11 @@ use Rattle.grow_core.proofs.Numbers.{by_none}
 use Rattle.site_table.specs.Seats.{SeatValue, GrownValue, Closes}
 use Rattle.site_table.specs.Rule.{IsPossible}
 use Rattle.frontier_seat.proofs.Looked.{closed_same}
-use Rattle.grow_workers.specs.Workers.{GrewOn, WorkersWin, owned_number}
+use Rattle.grow_workers.specs.Workers.{GrewOn, WorkersWin, owned_number, worker_number}
 use Rattle.grow_workers.proofs.Splitting.{rest_is, rest_small}
 use Rattle.grow_workers.proofs.Winning.{all_won, ones-least, ones-worker, rejoined-owned}
 use Rattle.watch_frames.specs.Frames.{AreFrames}
-use Rattle.watch_frames.specs.Watched.{IsWatched, number_beside_watcher}
+use Rattle.watch_frames.specs.Watched.{IsWatched}
 
 -- what the growth has seen is all that stands, and the frames are a part of it
 pub is_watched : (sys : TileSystem) (many : ℕ) (places : List Place) (counts : List ℕ) (old kept given joined : SeatValue) (start grid : TileGrid) (wins : List ℕ) (out : GrownValue) →
@@ -65,8 +65,19 @@ no_tile sys kept possible rest = by_none 63 kept.mine (λ t in_mine placer.
     let own63 : Owns kept.owned 63 = subst (Owns kept.owned) placer own in
     omega (arith, own63, none))
 
--- which numbers the workers have on the other seat
-number_is : (w : ℕ) → w < 16 → owned_number w (2 ^ 63 - 1) ≡ number_beside_watcher w
+-- the workers beside a watcher, who counts as worker 1
+beside_watcher : ℕ → ℕ
+beside_watcher zero = zero
+beside_watcher (suc w) = suc (suc w)
+
+beside_fewer : (w workers : ℕ) → w < workers → beside_watcher w < workers + 1
+unfolding beside_watcher
+beside_fewer zero workers below = omega (arith, below)
+beside_fewer (suc w) workers below = omega (arith, below)
+
+-- which numbers they have on the other seat
+number_is : (w : ℕ) → w < 16 → owned_number w (2 ^ 63 - 1) ≡ worker_number (beside_watcher w)
+unfolding beside_watcher
 number_is zero few = ones-least 62 (lit≤ tt)
 number_is (suc w) few = let is = ones-worker w 62 (omega (arith, few)) (lit≤ tt) in omega (arith, is)
 
@@ -85,7 +96,7 @@ module _ (sys : TileSystem) (kept given joined : ScoutState) (out : GrownValue) 
   -- nor has a number that no worker has
   pub idle_won : (own : TileSystem) → IsPossible own kept → given.mine ≡ [] → (old : ScoutState) → old.owned ≡ kept.owned → old.mine ≡ [] →
       (wins : List ℕ) → WorkersWin old.mine kept.mine old.owned wins → (workers : ℕ) → length wins ≡ workers → workers ≤ 16 →
-      (n : ℕ) → n < 64 → ((w : ℕ) → w < workers → n ≢ number_beside_watcher w) →
+      (n : ℕ) → n < 64 → ((w : ℕ) → w < workers + 1 → n ≢ worker_number w) →
       get_or out.won n 0 ≡ 0
   idle_won own possible none old same_owned none_old wins win workers count few n within none_has = elim (cases_lt n 63) [
     | inl less ↦
@@ -93,7 +104,7 @@ module _ (sys : TileSystem) (kept given joined : ScoutState) (out : GrownValue) 
         let owns_old : Owns old.owned n = subst (λ (o : ℕ). Owns o n) (sym all) (bit_at_ones 63 n less) in
         let rests : placed_by n kept.mine ≡ placed_by n old.mine = win.others n owns_old
         (λ w below. let worker : w < workers = subst (λ (m : ℕ). w < m) count below in
-        λ e. none_has w worker (e ∙ ap (owned_number w) all ∙ number_is w (omega (arith, worker, few)))) in
+        λ e. none_has (beside_watcher w) (beside_fewer w workers worker) (e ∙ ap (owned_number w) all ∙ number_is w (omega (arith, worker, few)))) in
         let owns : Owns joined.owned n = subst (λ (o : ℕ). Owns o n) (sym (joined_owned kept given joined rest top union)) (bit_at_ones 64 n within) in
         let mine : joined.mine ≡ kept.mine = union.mine ∙ ap (λ (l : List PlacedTile). kept.mine ++ l) none ∙ append-nil kept.mine in
         closes.own_counts n owns ∙ ap (λ (l : List PlacedTile). length (placed_by n l)) mine ∙ ap length (rests ∙ ap (placed_by n) none_old)

@@ -92,7 +92,6 @@ fn raced_of(
         IsRaceText workers.count sys.now grown.now true (race_text raced.wins.items raced.total)) }
 {
     sys.recall_valid();
-    grown.grid().recall_sites();
     let seeds = sys.seeds().len() as u32;
     let wins = wins_of(alloc, workers, grown)?;
     Ok(Raced {

@@ -68,11 +68,13 @@ returns g c =
       watched = is_watched sys c.args.frames frames.places frames.counts c.split-kept.result.0 kept given joined c.in_ok-seen.seen c.in_ok-kept.grid c.in_ok-kept._wins.items c.close.result
           c.recall_valid.ensures.valid are taken c.end-given.ensures.part c.join-seat.ensures.union c.in_ok-seen.ensures.seeds grew c.recall_sites.ensures.distinct closes;
       grew = record {
-        area = closes.area;
-        numbers = closes.numbers;
+        placed = record {
+          area = closes.area;
+          numbers = closes.numbers;
+          idle = idle_won sys kept.scout given.scout joined.scout c.close.result rest top c.join-seat.ensures.union closes kept.sys c.recall_possible.ensures.possible none
+              c.split-kept.result.0.scout (sym grew.seat.owned) none_old c.in_ok-kept._wins.items grew.workers_win c.args.workers.count count few;
+          total = total sys kept.scout given.scout joined.scout c.close.result rest top c.join-seat.ensures.union closes c.recall_valid.ensures.valid;
+        };
         watcher = watcher_won sys kept.scout given.scout joined.scout c.close.result rest top c.join-seat.ensures.union closes kept.sys c.recall_possible.ensures.possible none;
-        idle = idle_won sys kept.scout given.scout joined.scout c.close.result rest top c.join-seat.ensures.union closes kept.sys c.recall_possible.ensures.possible none
-            c.split-kept.result.0.scout (sym grew.seat.owned) none_old c.in_ok-kept._wins.items grew.workers_win c.args.workers.count count few;
-        total = total sys kept.scout given.scout joined.scout c.close.result rest top c.join-seat.ensures.union closes c.recall_valid.ensures.valid;
       };
     }
