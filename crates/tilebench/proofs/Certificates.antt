@@ -31,15 +31,14 @@ use Rattle.cert_text.proofs.Printed.{reads_back}
 use Rattle.tilebench.specs.declared.commands.certify.Certification.{Certification}
 use Rattle.tilebench.specs.declared.reordering.Reordering.{Reordering}
 use Rattle.tilebench.specs.declared.reordering.Reordering.TheVariants.{Whole, SeedMissing, Stuck}
-use Rattle.tilebench.specs.Commands.Certify.{IsCertificateOfTiles, IsCertifyAnswer, IsRefutedBy, TellsCertificate}
+use Rattle.tilebench.specs.Commands.Certify.{IsCertificateOfTiles, IsCertifyAnswer, IsRefutedBy}
 use Rattle.tilebench.specs.declared.commands.certify.Certification.TheVariants.{Given, Refuted, Unordered}
 use Rattle.tilebench.specs.Commands.Replay.{TellsNoOrder}
 use Rattle.tilebench.specs.Inner.Certifications.{IsCertification, certification_text, is_given}
 use Rattle.tilebench.specs.Inner.Reorderings.{IsReordering, is_whole, reordering_text}
 use Rattle.tilebench.specs.Commands.Verify.{IsVerifyAnswer, is_verified}
 use Rattle.job_board.specs.AnswerText.{is_unique}
-use Rattle.tilebench.specs.Inputs.{IsAssemblyOf, IsSystemThen}
-use Rattle.seq_text.specs.GrowthText.{ReadsPlaces}
+use Rattle.tilebench.specs.Inputs.{IsSystemThen}
 use Rattle.cert_text.specs.CertificateText.{ReadsCertificate}
 
 -- what keeps tiles from having an order is told
@@ -48,18 +47,12 @@ no_order_told sys tiles (Whole order) reordered not_whole = absurd (cc not_whole
 no_order_told sys tiles (SeedMissing site) reordered not_whole = inl (site, reordered, refl)
 no_order_told sys tiles (Stuck left least) reordered not_whole = inr (left, least, reordered, refl)
 
--- the certificate, or what stands in its place
-certificate_told : (sys : TileSystem) (tiles : List Place) (certification : Certification) → IsCertification sys tiles certification →
-    TellsCertificate sys tiles (is_given certification) (certification_text sys certification)
-certificate_told sys tiles (Given entries) certified = (entries, certified, refl)
-certificate_told sys tiles (Refuted verdict) certified = inl (verdict, certified, refl)
-certificate_told sys tiles (Unordered reordering) certified = inr (no_order_told sys tiles reordering certified.0 certified.1)
-
--- and it is the answer
-pub certify_answer : (input : List ℕ) (sys : TileSystem) (places tiles : List Place) (certification : Certification) → IsSystemThen (ReadsPlaces true) input sys places → IsAssemblyOf places tiles →
-    IsCertification sys tiles certification → IsCertifyAnswer input (is_given certification) (certification_text sys certification)
-certify_answer input sys places tiles certification read assembly certified =
-    record { sys = sys; places = places; read = read; tiles = tiles; assembly = assembly; told = certificate_told sys tiles certification certified }
+-- the certificate, or what stands in its place, is the answer
+pub certify_answer : (sys : TileSystem) (tiles : List Place) (certification : Certification) → IsCertification sys tiles certification →
+    IsCertifyAnswer sys tiles (is_given certification) (certification_text sys certification)
+certify_answer sys tiles (Given entries) certified = (entries, certified, refl)
+certify_answer sys tiles (Refuted verdict) certified = inl (verdict, certified, refl)
+certify_answer sys tiles (Unordered reordering) certified = inr (no_order_told sys tiles reordering certified.0 certified.1)
 
 -- behind the spelling of the system the lines of a certificate read as its entries
 certificate_back : (sys : TileSystem) (order : List Place) (entries : List Entry) → IsValid sys → Fits sys order → IsCertificateOf sys order entries → AreEntries entries →
@@ -137,12 +130,9 @@ verified_yes (Rival m t) e = absurd (cc e)
 verified_yes (NotTerminal m t) e = absurd (cc e)
 
 -- the line of the verdict on what was read is the answer
-pub verify_answer : (input : List ℕ) (sys : TileSystem) (entries : List Entry) (verdict : CertVerdict) → IsSystemThen ReadsCertificate input sys entries → IsVerdict sys entries verdict →
-    verdict ≡ Yes ↔ ((s : List Place) × IsCertified sys entries s) → IsVerifyAnswer input (is_verified verdict) (verified_line sys verdict)
-verify_answer input sys entries verdict read judged certified = record {
-  sys = sys;
-  entries = entries;
-  read = read;
+pub verify_answer : (sys : TileSystem) (entries : List Entry) (verdict : CertVerdict) → IsVerdict sys entries verdict →
+    verdict ≡ Yes ↔ ((s : List Place) × IsCertified sys entries s) → IsVerifyAnswer sys entries (is_verified verdict) (verified_line sys verdict)
+verify_answer sys entries verdict judged certified = record {
   verdict = verdict;
   judged = judged;
   printed = refl;

@@ -1,6 +1,6 @@
 -- What `replay` answers to a text.
 use Rattle.tile_io.specs.Lines.{first_mark}
-use Rattle.std.proofs.Common.{◌≡◌, ◌∙◌, ◌++◌, [], ℕ, List, None, Err, refl, sym, ap, subst, append-nil, inl, inr, true}
+use Rattle.std.proofs.Common.{◌≡◌, ◌∙◌, ◌++◌, [], ℕ, List, None, Err, refl, sym, ap, subst, append-nil, inl, inr}
 use Rattle.atam.specs.declared.place.Place.{Place}
 use Rattle.atam.specs.Placements.{HasDistinctSites}
 use Rattle.atam.specs.TileSystem.{TileSystem, IsValid}
@@ -14,7 +14,7 @@ use Rattle.replay_order.specs.ReplayAnswers.{IsWholeOrder}
 use Rattle.seq_text.specs.GrowthLines.{place_lines}
 use Rattle.tilebench.specs.declared.reordering.Reordering.{Reordering}
 use Rattle.tilebench.specs.declared.reordering.Reordering.TheVariants.{Whole, SeedMissing, Stuck}
-use Rattle.tilebench.specs.Commands.Replay.{IsReplayAnswer, TellsReordering}
+use Rattle.tilebench.specs.Commands.Replay.{IsReplayAnswer}
 use Rattle.tilebench.specs.Inner.Reorderings.{IsReordering, is_whole, reordering_text}
 use Rattle.tilebench.proofs.ReadingBack.{placements_back}
 use Rattle.tile_io.specs.declared.mark.Mark.{Mark}
@@ -22,18 +22,17 @@ use Rattle.tile_io.specs.declared.fault.TextStop.{TextStop}
 use Rattle.tile_io.specs.Formats.{Format, ReadsOrStops}
 use Rattle.tile_text.specs.SystemText.{ReadsAny, FaultAny}
 use Rattle.tile_text.proofs.Eithers.{any_valid}
-use Rattle.tilebench.specs.Inputs.{FailsWithin, IsAssemblyOf, IsSystemThen}
+use Rattle.tilebench.specs.Inputs.{FailsWithin, IsSystemThen, ReadsAssembly}
 use Rattle.tilebench.specs.Inner.Gives.{Gives}
 use Rattle.tilebench.specs.Inner.Stops.{stop_of_text}
 use Rattle.tile_io.specs.declared.fault.TextStop.TheVariants as stops
-use Rattle.seq_text.specs.GrowthText.{ReadsPlaces}
 
--- the reordering of what was read is told
-order_told : (input : List ℕ) (sys : TileSystem) (places tiles : List Place) (reordering : Reordering) → IsSystemThen (ReadsPlaces true) input sys places →
-    IsReordering sys tiles reordering → TellsReordering sys tiles (is_whole reordering) (reordering_text sys reordering)
-order_told input sys places tiles (SeedMissing site) read reordered = inl (site, reordered, refl)
-order_told input sys places tiles (Stuck left least) read reordered = inr (left, least, reordered, refl)
-order_told input sys places tiles (Whole order) read whole =
+-- the reordering of what was read is the answer
+pub replay_answer : (input : List ℕ) (sys : TileSystem) (tiles : List Place) (reordering : Reordering) → IsSystemThen ReadsAssembly input sys tiles →
+    IsReordering sys tiles reordering → IsReplayAnswer sys tiles (is_whole reordering) (reordering_text sys reordering)
+replay_answer input sys tiles (SeedMissing site) read reordered = inl (site, reordered, refl)
+replay_answer input sys tiles (Stuck left least) read reordered = inr (left, least, reordered, refl)
+replay_answer input sys tiles (Whole order) read whole =
     let valid : IsValid sys = any_valid input _ read.end sys read.reads in
     let distinct : HasDistinctSites order = IsLegal-distinct sys order valid.distinct_seeds whole.legal in
     let lines = place_lines sys order in
@@ -43,12 +42,6 @@ order_told input sys places tiles (Whole order) read whole =
       printed = refl;
       reads_back = placements_back sys valid order None None lines (record { fits = whole.fits; open_site = tt; told = tt }) distinct (sym (append-nil (lines ++ []) ∙ append-nil lines));
     }
-
--- and is the answer
-pub replay_answer : (input : List ℕ) (sys : TileSystem) (places tiles : List Place) (reordering : Reordering) → IsSystemThen (ReadsPlaces true) input sys places → IsAssemblyOf places tiles →
-    IsReordering sys tiles reordering → IsReplayAnswer input (is_whole reordering) (reordering_text sys reordering)
-replay_answer input sys places tiles reordering read assembly reordered =
-    record { sys = sys; places = places; read = read; tiles = tiles; assembly = assembly; told = order_told input sys places tiles reordering read reordered }
 
 -- a canonical sequence of a producible assembly is all of it
 pub canonical_whole : (sys : TileSystem) (tiles s : List Place) → HasDistinctSites sys.seeds → HasDistinctSites tiles → Fits sys tiles →

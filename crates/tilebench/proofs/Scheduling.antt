@@ -19,10 +19,9 @@ use Rattle.grow_core.specs.Core.{CoreState, places, CoreInvariant}
 use Rattle.grow_core.specs.Steps.{place, CoreStep, CoreRun, no_such_scout, no_other_scout, same_scout, looks_outside, claims_outside, unsupported, one_number, no_memory, saw_none, saw_tile, won, held, divided, joined, stopped, stepped}
 use Rattle.seq_text.specs.SeenLines.{HasLine, seen_lines}
 use Rattle.tilebench.specs.declared.commands.schedule.Scheduled.{Scheduled}
-use Rattle.tilebench.specs.Commands.Schedule.{IsRunOf, IsScheduleAnswer}
-use Rattle.tilebench.specs.Inputs.{IsSystemThen}
-use Rattle.tilebench.specs.Inner.Rooms.{Schedules, replies_of}
-use Rattle.seq_text.specs.ScheduleText.{ReadsEvents}
+use Rattle.tilebench.specs.Commands.Schedule.{IsScheduleAnswer}
+use Rattle.tilebench.specs.Inner.Schedules.{IsRunOf}
+use Rattle.tilebench.specs.Inner.Rooms.{Schedules}
 use Rattle.seq_text.specs.GrowthLines.{place_lines}
 use Rattle.std.specs.List.{list_all}
 use Rattle.std.specs.Prelude.{◌++◌, is_ok}
@@ -88,15 +87,23 @@ core_fits sys s sound = record {
   sites = All-map (λ (q : Place). InBox sys.area q.site) (λ (t : PlacedTile). t.place) s.tiles sound.growth.history.inside;
 }
 
--- what the events of a schedule came to is the answer to its text
-pub schedule_answer : (input : List ℕ) (sys : TileSystem) (events : List Event) (scheduled : Scheduled) → IsSystemThen ReadsEvents input sys events → Schedules sys events scheduled →
-    IsScheduleAnswer input (list_all is_ok scheduled.replies.items) (seen_lines scheduled.sys scheduled.replies.items ++ place_lines scheduled.sys scheduled.order)
-schedule_answer input sys events scheduled read done = record {
-  sys = scheduled.sys;
-  events = events;
-  read = subst (λ (s : TileSystem). IsSystemThen ReadsEvents input s events) (sym done.same) read;
-  schedule = replies_of scheduled;
-  replied = done.replied;
-  printed = refl;
-  answer = refl;
-}
+-- what the events of a schedule came to is the answer to it
+pub schedule_answer : (sys : TileSystem) (events : List Event) (scheduled : Scheduled) → Schedules sys events scheduled →
+    IsScheduleAnswer scheduled.sys events (list_all is_ok scheduled.replies.items) (seen_lines scheduled.sys scheduled.replies.items ++ place_lines scheduled.sys scheduled.order)
+schedule_answer sys events scheduled done =
+    let replied = done.replied in
+    let Told : List (Result Seen CoreStop) → Type 0 = λ replies. All (HasLine scheduled.sys) replies in
+    let same = sym replied.run.replies_are in
+    record {
+      start = replied.start;
+      starts = replied.starts;
+      answered = replied.run.answered;
+      events_are = replied.run.events_are;
+      end = replied.end;
+      run = replied.run.run;
+      told = subst Told same replied.told;
+      order = scheduled.order;
+      canonical = replied.canonical;
+      printed = ap (λ (replies : List (Result Seen CoreStop)). seen_lines scheduled.sys replies ++ place_lines scheduled.sys scheduled.order) same;
+      answer = ap (λ (replies : List (Result Seen CoreStop)). list_all is_ok replies) same;
+    }

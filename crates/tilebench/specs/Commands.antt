@@ -1,6 +1,6 @@
 -- The table of commands: what each reads, takes, answers and refuses. Longer answers stand in files
 -- of their own below.
-use Rattle.std.specs.Prelude.{◌≡◌, true, List, Some, None}
+use Rattle.std.specs.Prelude.{◌≡◌, true, false, List, Some, None}
 use Rattle.command_line.specs.declared.commands.Command.{Command}
 use Rattle.command_line.specs.declared.commands.Command.TheVariants as command
 use Rattle.tile_io.specs.Formats.{Fault}
@@ -8,9 +8,9 @@ use Rattle.tile_io.specs.Lines.{first_mark}
 use Rattle.atam.specs.TileSystem.{IsValid}
 use Rattle.tile_text.specs.Spelling.{newest_spelling, spelling}
 use Rattle.tile_text.specs.SystemText.{FaultAny, ReadsAny}
-use Rattle.seq_text.specs.GrowthText.{grid_format, sequence_format}
-use Rattle.seq_text.specs.ScheduleText.{schedule_format}
-use Rattle.cert_text.specs.CertificateText.{certificate_format}
+use Rattle.seq_text.specs.GrowthText.{ReadsPlaces, grid_format, sequence_format}
+use Rattle.seq_text.specs.ScheduleText.{ReadsEvents, schedule_format}
+use Rattle.cert_text.specs.CertificateText.{ReadsCertificate, certificate_format}
 use Rattle.machine_text.specs.Machines.{IsMachine}
 use Rattle.machine_text.specs.MachineText.{ReadsMachine, machine_format}
 use Rattle.quadrant_compile.specs.Quadrants.{IsQuadrant}
@@ -21,8 +21,8 @@ use Rattle.counter_compile.specs.Counters.{counter_refusal, counter_system}
 use Rattle.job_board.specs.declared.job.Job.{Job}
 use Rattle.job_board.specs.BatchText.{FaultBatch}
 use Rattle.tilebench.specs.Growing.{TellsGrowth, TellsNoGrowth}
-use Rattle.tilebench.specs.Inputs.{IsBatch, alone}
-use Rattle.tilebench.specs.Rows.{RoomRow, making, reading}
+use Rattle.tilebench.specs.Inputs.{IsBatch, ReadsAssembly, alone}
+use Rattle.tilebench.specs.Rows.{RoomRow, answering, making, reading}
 use Rattle.tilebench.specs.Spelled.{SpellsMade, SpellsSystem}
 use Rattle.tilebench.specs.Commands.Batch.{IsBatchAnswer}
 use Rattle.tilebench.specs.Commands.Certify.{IsCertifyAnswer}
@@ -58,10 +58,9 @@ room_of (command.Report workers choice) =
     reading ReadsAny FaultAny alone (TellsGrowth (IsReportText workers.count) workers.count)
 room_of (command.Watch workers choice frames) =
     reading ReadsAny FaultAny alone (TellsWatchedGrowth workers.count frames.count)
-room_of command.Check = reading ReadsAny FaultAny sequence_format (TellsNoGrowth IsCheckAnswer)
-room_of command.Replay = reading ReadsAny FaultAny grid_format (TellsNoGrowth IsReplayAnswer)
-room_of command.Schedule =
-    reading ReadsAny FaultAny schedule_format (TellsNoGrowth IsScheduleAnswer)
+room_of command.Check = answering sequence_format (ReadsPlaces false) IsCheckAnswer
+room_of command.Replay = answering grid_format ReadsAssembly IsReplayAnswer
+room_of command.Schedule = answering schedule_format ReadsEvents IsScheduleAnswer
 room_of command.Format = reading ReadsAny FaultAny alone
     (TellsNoGrowth (SpellsMade ReadsAny IsValid (λ sys. sys) spelling))
 room_of command.Upgrade = reading ReadsAny FaultAny alone
@@ -70,10 +69,9 @@ room_of command.Turing = reading ReadsMachine (Fault machine_format) alone
     (TellsNoGrowth (SpellsMade ReadsMachine IsMachine compiled spelling))
 room_of command.Quadrant = reading ReadsQuadrant (Fault quadrant_format) alone
     (TellsNoGrowth (SpellsMade ReadsQuadrant IsQuadrant quadrant_system spelling))
-room_of command.Picture = reading ReadsAny FaultAny grid_format (TellsNoGrowth IsPictureAnswer)
-room_of command.Certify = reading ReadsAny FaultAny grid_format (TellsNoGrowth IsCertifyAnswer)
-room_of (command.Verify workers) =
-    reading ReadsAny FaultAny certificate_format (TellsNoGrowth IsVerifyAnswer)
+room_of command.Picture = answering grid_format ReadsAssembly IsPictureAnswer
+room_of command.Certify = answering grid_format ReadsAssembly IsCertifyAnswer
+room_of (command.Verify workers) = answering certificate_format ReadsCertificate IsVerifyAnswer
 room_of (command.Counter bits start) = making
     (λ grown is_yes text. (counter_refusal bits start ≡ None) × (grown ≡ None)
     × SpellsSystem spelling (counter_system bits start) text × (is_yes ≡ true))

@@ -9,5 +9,6 @@ pub mod Readings
 pub mod Rooms
 pub mod Reorderings
 pub mod Runs
+pub mod Schedules
 pub mod Stops
 pub mod Tells

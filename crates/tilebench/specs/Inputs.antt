@@ -1,5 +1,5 @@
 -- The input of a command, and its faults.
-use Rattle.std.specs.Prelude.{◌≡◌, ◌⊎◌, ◌<◌, ◌≤◌, ℕ, Bool, List, length, Option}
+use Rattle.std.specs.Prelude.{◌≡◌, ◌⊎◌, ◌<◌, ◌≤◌, ℕ, Bool, true, List, length, Option}
 use Rattle.std.specs.Io.KnownBytes.{Consumes, IsAtEnd}
 use Rattle.tile_io.specs.declared.fault.Cause.{Cause}
 use Rattle.tile_io.specs.declared.fault.Cause.TheVariants.{TooLong}
@@ -13,6 +13,7 @@ use Rattle.atam.specs.declared.place.Place.{Place}
 use Rattle.atam.specs.TileSystem.{TileSystem}
 use Rattle.atam.specs.Placements.{HasDistinctSites, SamePlacements}
 use Rattle.tile_text.specs.SystemText.{ReadsAny}
+use Rattle.seq_text.specs.GrowthText.{ReadsPlaces}
 use Rattle.job_board.specs.declared.job.Job.{Job}
 use Rattle.job_board.specs.BatchText.{ReadsBatch}
 
@@ -27,13 +28,17 @@ abbrev pub IsAlone : {Value : Type 0} → (List ℕ → Mark → Value → Mark 
 IsAlone IsText input value = IsTextThen IsText (λ value end. HasNoMore input end) input value
 
 -- the input is the text of a system and then of this item of it, to its end: a sequence;
--- placements, with one line for a site at most; the entries of a certificate; or events
+-- an assembly, with one line for a site at most; the entries of a certificate; or events
 abbrev pub IsSystemThen : {Item : Type 0} → (TileSystem → List ℕ → Mark → Item → Type 0) →
     List ℕ → TileSystem → Item → Type 0
 IsSystemThen Reads input sys item = IsTextThen ReadsAny (λ s end. Reads s input end item) input sys
 
--- the assembly has exactly the placements, one at each site
-pub record IsAssemblyOf (places tiles : List Place) : Type 0 where
+-- the text from a mark on, up to its end, reads as placements, and the assembly has exactly these,
+-- one at each site
+pub record ReadsAssembly (sys : TileSystem) (text : List ℕ) (from : Mark)
+    (tiles : List Place) : Type 0 where
+  pub places : List Place
+  pub reads : ReadsPlaces true sys text from places
   pub same : SamePlacements places tiles
   pub distinct : HasDistinctSites tiles
 

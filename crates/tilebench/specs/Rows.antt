@@ -4,9 +4,12 @@ use Rattle.tile_io.specs.declared.fault.Cause.{Cause}
 use Rattle.tile_io.specs.declared.fault.TextFault.{TextFault}
 use Rattle.tile_io.specs.declared.mark.Mark.{Mark}
 use Rattle.tile_io.specs.Formats.{Format}
+use Rattle.atam.specs.TileSystem.{TileSystem}
+use Rattle.tile_text.specs.SystemText.{FaultAny, ReadsAny}
 use Rattle.site_table.specs.Seats.{GrownValue}
 use Rattle.counter_compile.specs.declared.stop.CounterStop.{CounterStop}
-use Rattle.tilebench.specs.Inputs.{FailsInput, FailsWithin, IsReadable, IsWholeInput}
+use Rattle.tilebench.specs.Inputs.{FailsInput, FailsWithin, IsReadable, IsSystemThen, IsWholeInput}
+use Rattle.tilebench.specs.Growing.{TellsNoGrowth}
 
 pub record RoomRow : Type 1 where
   -- whether it reads the source, to its end; the input of one that does not is empty
@@ -31,6 +34,15 @@ reading IsText IsFault format Answers = record {
   fails = FailsWithin IsText IsFault format;
   refuses = λ stop. ⊥;
 }
+
+-- a command that reads the text of a system and then of an item of it, and hands out no growth: the
+-- format of the item, what it reads as, and the answers to the system and the item
+abbrev pub answering : {Line Item : Type 0} → (TileSystem → Format Line) →
+    (TileSystem → List ℕ → Mark → Item → Type 0) → (TileSystem → Item → Bool → List ℕ → Type 0) →
+    RoomRow
+answering {Line} {Item} format Reads Answers = reading ReadsAny FaultAny format (TellsNoGrowth
+    (λ input is_yes text. (sys : TileSystem) × (item : Item) × IsSystemThen Reads input sys item
+    × Answers sys item is_yes text))
 
 -- a command that reads nothing, and may refuse its numbers: the answers, and why it refuses
 abbrev pub making : (Option GrownValue → Bool → List ℕ → Type 0) → (CounterStop → Type 0) → RoomRow

@@ -16,13 +16,12 @@ ghost use Rattle.tilebench.specs.Inner.Fronts.{FailsAtFront, IsFront};
 ghost use Rattle.machine_text.specs.Machines.{IsMachine};
 ghost use Rattle.quadrant_compile.specs.Quadrants.{IsQuadrant};
 ghost use Rattle.job_board.specs.declared.limits.TheConstants.{MOST_JOBS};
-ghost use Rattle.atam.specs.declared.place.Place.{Place};
 ghost use Rattle.atam.specs.Assembly.{Fits};
 ghost use Rattle.seq_text.specs.GrowthText.{grid_format, sequence_format, ReadsPlaces};
 ghost use Rattle.cert_check.specs.Certificates.{places_of};
 ghost use Rattle.cert_text.specs.CertificateText.{certificate_format, ReadsCertificate};
-ghost use Rattle.tilebench.specs.Inputs.{FailsWithin, IsAlone, IsAssemblyOf, IsBatch};
-ghost use Rattle.tilebench.specs.Inputs.{IsSystemThen, alone};
+ghost use Rattle.tilebench.specs.Inputs.{FailsWithin, IsAlone, IsBatch, IsSystemThen};
+ghost use Rattle.tilebench.specs.Inputs.{ReadsAssembly, alone};
 ghost use Rattle.job_board.specs.BatchText.{FaultBatch};
 
 use crate::stop::Stop;
@@ -116,8 +115,7 @@ pub fn system_and_sequence<S: Source>(
 /// The same of a system and an assembly.
 pub fn system_and_grid<S: Source>(alloc: Global, source: &mut S) -> Result<(System, Grid), Stop>
     ensures read { GivesRead S.left S.faults
-        (HoldsWhole (λ input found. (places : List Place)
-        × IsSystemThen (ReadsPlaces true) input found.0 places × IsAssemblyOf places found.1.tiles))
+        (HoldsWhole (λ input found. IsSystemThen ReadsAssembly input found.0 found.1.tiles))
         (FailsWithin ReadsAny FaultAny grid_format) source.old source.new result }
     ensures later { S.faults source.old ≤ S.faults source.new }
     ensures area { IfOk result (λ found. found.1.area ≡ found.0.area) }

@@ -13,8 +13,7 @@ use Rattle.cert_check.specs.Certificates.{AreEntries, IsCertificateOf, IsGood}
 use Rattle.cert_text.specs.CertificateLines.{mark_lines}
 use Rattle.tilebench.specs.Commands.Replay.{TellsNoOrder}
 use Rattle.job_board.specs.AnswerText.{is_unique}
-use Rattle.tilebench.specs.Inputs.{IsAssemblyOf, IsSystemThen}
-use Rattle.seq_text.specs.GrowthText.{ReadsPlaces}
+use Rattle.tilebench.specs.Inputs.{IsSystemThen}
 use Rattle.cert_text.specs.CertificateText.{ReadsCertificate}
 
 -- The canonical order of the tiles is locally deterministic, and these entries are its certificate: at distinct sites, with no sides but the four. It is good, and behind the spelling of the system
@@ -37,18 +36,9 @@ pub record IsRefutedBy (sys : TileSystem) (tiles : List Place) (verdict : Verdic
 
 -- It is a yes, and the text is that of the certificate of the canonical order; or the verdict on it is a no, or there is no order,
 -- and the text tells that.
-abbrev pub TellsCertificate : TileSystem → List Place → Bool → List ℕ → Type 0
-TellsCertificate sys tiles true text =
+abbrev pub IsCertifyAnswer : TileSystem → List Place → Bool → List ℕ → Type 0
+IsCertifyAnswer sys tiles true text =
     (entries : List Entry) × IsCertificateOfTiles sys tiles entries × (text ≡ mark_lines sys entries)
-TellsCertificate sys tiles false text =
+IsCertifyAnswer sys tiles false text =
     ((verdict : Verdict) × IsRefutedBy sys tiles verdict × (text ≡ verdict_line sys verdict))
     ⊎ TellsNoOrder sys tiles text
-
--- the input is the text of a system and then of placements, and this is the text of their certificate, or of what keeps them from having one
-pub record IsCertifyAnswer (input : List ℕ) (is_yes : Bool) (text : List ℕ) : Type 0 where
-  pub sys : TileSystem
-  pub places : List Place
-  pub read : IsSystemThen (ReadsPlaces true) input sys places
-  pub tiles : List Place
-  pub assembly : IsAssemblyOf places tiles
-  pub told : TellsCertificate sys tiles is_yes text

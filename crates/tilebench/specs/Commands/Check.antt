@@ -9,8 +9,6 @@ use Rattle.local_check.specs.Judged.{IsJudged}
 use Rattle.seq_text.specs.LegalityLines.{legality_line}
 use Rattle.seq_text.specs.VerdictLines.{verdict_line}
 use Rattle.job_board.specs.AnswerText.{is_unique}
-use Rattle.tilebench.specs.Inputs.{IsSystemThen}
-use Rattle.seq_text.specs.GrowthText.{ReadsPlaces}
 
 -- the text of the judgement on a sequence
 abbrev pub judgement_text : TileSystem → Judged → List ℕ
@@ -22,12 +20,7 @@ abbrev pub is_judged_unique : Judged → Bool
 is_judged_unique (Legal verdict) = is_unique verdict
 is_judged_unique (Breach breach) = false
 
--- the input is the text of a system and then of a sequence, and this is the text of the judgement on it
-pub record IsCheckAnswer (input : List ℕ) (is_yes : Bool) (text : List ℕ) : Type 0 where
-  pub sys : TileSystem
-  pub sequence : List Place
-  pub read : IsSystemThen (ReadsPlaces false) input sys sequence
-  pub judgement : Judged
-  pub judged : IsJudged sys sequence judgement
-  pub printed : text ≡ judgement_text sys judgement
-  pub answer : is_yes ≡ is_judged_unique judgement
+-- this is the text of the judgement on the sequence
+abbrev pub IsCheckAnswer : TileSystem → List Place → Bool → List ℕ → Type 0
+IsCheckAnswer sys sequence is_yes text = (judgement : Judged) × IsJudged sys sequence judgement
+    × (text ≡ judgement_text sys judgement) × (is_yes ≡ is_judged_unique judgement)

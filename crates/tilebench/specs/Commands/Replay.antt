@@ -9,7 +9,7 @@ use Rattle.local_check.specs.Firsts.{IsFirstNot}
 use Rattle.tile_text.specs.Spelling.{spelling}
 use Rattle.seq_text.specs.GrowthLines.{place_lines}
 use Rattle.seq_text.specs.StuckLines.{stuck_line}
-use Rattle.tilebench.specs.Inputs.{IsAssemblyOf, IsSystemThen}
+use Rattle.tilebench.specs.Inputs.{IsSystemThen}
 use Rattle.seq_text.specs.GrowthText.{ReadsPlaces}
 
 -- the first seed that isn't there, in the system's order, is of this site
@@ -33,17 +33,7 @@ pub record TellsOrder (sys : TileSystem) (tiles : List Place) (text : List ℕ) 
   pub printed : text ≡ place_lines sys order
   pub reads_back : IsSystemThen (ReadsPlaces true) (spelling sys ++ text) sys order
 
--- it is a yes where all tiles are in order
-abbrev pub TellsReordering : TileSystem → List Place → Bool → List ℕ → Type 0
-TellsReordering sys tiles true text = TellsOrder sys tiles text
-TellsReordering sys tiles false text = TellsNoOrder sys tiles text
-
--- the input is the text of a system and then of placements, and this is the text of their canonical order, or of what keeps them
--- from having one
-pub record IsReplayAnswer (input : List ℕ) (is_yes : Bool) (text : List ℕ) : Type 0 where
-  pub sys : TileSystem
-  pub places : List Place
-  pub read : IsSystemThen (ReadsPlaces true) input sys places
-  pub tiles : List Place
-  pub assembly : IsAssemblyOf places tiles
-  pub told : TellsReordering sys tiles is_yes text
+-- the canonical order, which is a yes; or what keeps the tiles from having one
+abbrev pub IsReplayAnswer : TileSystem → List Place → Bool → List ℕ → Type 0
+IsReplayAnswer sys tiles true text = TellsOrder sys tiles text
+IsReplayAnswer sys tiles false text = TellsNoOrder sys tiles text

@@ -10,38 +10,21 @@ use Rattle.atam.specs.declared.event.CoreStop.{CoreStop}
 use Rattle.grow_core.specs.Core.{CoreState, places}
 use Rattle.grow_core.specs.Steps.{CoreRun, IsStart}
 use Rattle.seq_text.specs.GrowthLines.{place_lines}
-use Rattle.seq_text.specs.ScheduleText.{ReadsEvents}
 use Rattle.seq_text.specs.SeenLines.{seen_lines, HasLine}
-use Rattle.tilebench.specs.Inputs.{IsSystemThen}
 
--- the events one after another on the growth core, each with its reply
-pub record IsRunOf (sys : TileSystem) (start : CoreState) (events : List Event) (replies : List (Result Seen CoreStop)) (end : CoreState) : Type 0 where
-  pub answered : List (Event × Result Seen CoreStop)
-  pub events_are : map (λ p. p.0) answered ≡ events
-  pub replies_are : map (λ p. p.1) answered ≡ replies
-  pub run : CoreRun sys start answered end
-
--- the replies to the events of a schedule, and the tiles that came of them
-pub record ScheduleOutcome : Type 0 where
-  pub replies : List (Result Seen CoreStop)
-  pub order : List Place
-
--- From the start of the core, the replies to the events, none of which is want of memory; and then the canonical sequence of the core's tiles.
-pub record AreReplies (sys : TileSystem) (events : List Event) (schedule : ScheduleOutcome) : Type 0 where
+-- From a start of the growth core the events one after another, each with its reply, none of which
+-- is want of memory. The text is that of the replies, and then of the canonical sequence of the
+-- core's tiles: a yes where no event was refused.
+pub record IsScheduleAnswer (sys : TileSystem) (events : List Event) (is_yes : Bool)
+    (text : List ℕ) : Type 0 where
   pub start : CoreState
   pub starts : IsStart sys start
+  pub answered : List (Event × Result Seen CoreStop)
+  pub events_are : map (λ p. p.0) answered ≡ events
   pub end : CoreState
-  pub run : IsRunOf sys start events schedule.replies end
-  pub told : All (HasLine sys) schedule.replies
-  pub canonical : IsCanonical sys (places end.tiles) schedule.order
-
--- the input is the text of a system and then of these events, and this is the text of the replies
--- to them and of the tiles: a yes where no event was refused
-pub record IsScheduleAnswer (input : List ℕ) (is_yes : Bool) (text : List ℕ) : Type 0 where
-  pub sys : TileSystem
-  pub events : List Event
-  pub read : IsSystemThen ReadsEvents input sys events
-  pub schedule : ScheduleOutcome
-  pub replied : AreReplies sys events schedule
-  pub printed : text ≡ seen_lines sys schedule.replies ++ place_lines sys schedule.order
-  pub answer : is_yes ≡ list_all is_ok schedule.replies
+  pub run : CoreRun sys start answered end
+  pub told : All (HasLine sys) (map (λ p. p.1) answered)
+  pub order : List Place
+  pub canonical : IsCanonical sys (places end.tiles) order
+  pub printed : text ≡ seen_lines sys (map (λ p. p.1) answered) ++ place_lines sys order
+  pub answer : is_yes ≡ list_all is_ok (map (λ p. p.1) answered)

@@ -8,19 +8,15 @@ use Rattle.cert_check.specs.declared.verdict.CertVerdict.TheVariants.{Yes}
 use Rattle.cert_check.specs.Judgement.{IsVerdict}
 use Rattle.cert_check.specs.Laws.{IsCertified}
 use Rattle.cert_text.specs.CertificateLines.{verified_line}
-use Rattle.tilebench.specs.Inputs.{IsSystemThen}
-use Rattle.cert_text.specs.CertificateText.{ReadsCertificate}
 
 -- it is a yes where no check fails
 abbrev pub is_verified : CertVerdict → Bool
 is_verified Yes = true
 is_verified _ = false
 
--- the input is the text of a system and then of a certificate, and this is the line of the one verdict on it, whatever the number of workers
-pub record IsVerifyAnswer (input : List ℕ) (is_yes : Bool) (text : List ℕ) : Type 0 where
-  pub sys : TileSystem
-  pub entries : List Entry
-  pub read : IsSystemThen ReadsCertificate input sys entries
+-- this is the line of the one verdict on the certificate, whatever the number of workers
+pub record IsVerifyAnswer (sys : TileSystem) (entries : List Entry) (is_yes : Bool)
+    (text : List ℕ) : Type 0 where
   pub verdict : CertVerdict
   pub judged : IsVerdict sys entries verdict
   pub printed : text ≡ verified_line sys verdict

@@ -25,7 +25,7 @@ use Rattle.tilebench.specs.declared.commands.reports.Reported.{Reported}
 use Rattle.job_board.specs.AnswerText.{is_unique}
 use Rattle.tilebench.specs.Growths.{IsGrowth}
 use Rattle.report.specs.Reports.{report_line}
-use Rattle.tilebench.specs.Commands.Schedule.{AreReplies, ScheduleOutcome}
+use Rattle.tilebench.specs.Inner.Schedules.{AreReplies, ScheduleOutcome}
 
 -- the types of an outcome are those of the system
 pub record HasTypes (sys : TileSystem) (outcome : Outcome) : Type 0 where

@@ -8,7 +8,7 @@ ghost use Rattle.seq_text.specs.ScheduleText.{schedule_format, ReadsEvents};
 ghost use Rattle.seq_text.specs.SeenLines.{HasLine, seen_lines};
 ghost use Rattle.tilebench.specs.Inner.Gives.{Gives};
 ghost use Rattle.tilebench.specs.Inputs.{FailsWithin};
-ghost use Rattle.tilebench.specs.Commands.Schedule.{IsRunOf};
+ghost use Rattle.tilebench.specs.Inner.Schedules.{IsRunOf};
 ghost use Rattle.tilebench.specs.Inputs.{IsSystemThen};
 ghost use Rattle.tilebench.specs.Inner.CommandRows.{schedule_row};
 ghost use Rattle.tilebench.specs.Inner.Rooms.{HasLines, Schedules, replies_of};

@@ -1,18 +1,17 @@
 use Rattle.std.proofs.Math.Nat.{le_trans}
-use Rattle.std.proofs.Common.{◌∙◌, ℕ, List, Option, true}
+use Rattle.std.proofs.Common.{◌∙◌, ℕ, List, Option}
 use Rattle.std.proofs.lemmas.Result.{err_from_is_err_and}
-use Rattle.atam.specs.declared.place.Place.{Place}
 use Rattle.assembly.specs.Grids.{TileGrid}
 use Rattle.atam.specs.TileSystem.{TileSystem}
-use Rattle.seq_text.specs.GrowthText.{grid_format, ReadsPlaces}
-use Rattle.tilebench.specs.Inputs.{IsAssemblyOf, IsSystemThen}
+use Rattle.seq_text.specs.GrowthText.{grid_format}
+use Rattle.tilebench.specs.Inputs.{IsSystemThen, ReadsAssembly}
 use Rattle.tilebench.specs.Inner.Gives.{HoldsWhole}
 use Rattle.tilebench.proofs.Fronts.{blocks_stop, front_mark, front_stop, front_whole}
 use Rattle.tilebench.proofs.input.system_and_grid.Goals as goal
 
 -- what is read of the source
 Holds : Option (List ℕ) → Option (List ℕ) → TileSystem × TileGrid → Type 0
-Holds left left_after value = HoldsWhole (λ input (found : TileSystem × TileGrid). (places : List Place) × IsSystemThen (ReadsPlaces true) input found.0 places × IsAssemblyOf places found.1.tiles) left left_after value
+Holds left left_after value = HoldsWhole (λ input (found : TileSystem × TileGrid). IsSystemThen ReadsAssembly input found.0 found.1.tiles) left left_after value
 
 pub returns-in_err-sys-clause-read : goal.returns-in_err-sys-clause-read
 returns-in_err-sys-clause-read g c =
@@ -36,4 +35,4 @@ returns-clause-read g c =
     let whole = found.0.0 in
     let all = front_whole g.S.Source.left c.args.source.now c.front_of.new.source front read.0 c.read_grid_in_blocks.new.source whole found.0.1 in
     let grid = found.0.2 in
-    ((whole, all.0, (grid.places, record { end = front.end; reads = all.1; rest = grid.reads }, record { same = grid.same; distinct = c.in_ok-grid.ensures.distinct })), le_trans read.1 found.1)
+    ((whole, all.0, record { end = front.end; reads = all.1; rest = record { places = grid.places; reads = grid.reads; same = grid.same; distinct = c.in_ok-grid.ensures.distinct } }), le_trans read.1 found.1)

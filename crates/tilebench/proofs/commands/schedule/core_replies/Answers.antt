@@ -2,7 +2,7 @@ use Rattle.std.proofs.Common.{◌<◌, ◌+◌, [], take, List, Result, All, sym
 use Rattle.atam.specs.declared.event.Seen.{Seen}
 use Rattle.atam.specs.declared.event.CoreStop.{CoreStop}
 use Rattle.seq_text.specs.SeenLines.{HasLine}
-use Rattle.tilebench.specs.Commands.Schedule.{IsRunOf}
+use Rattle.tilebench.specs.Inner.Schedules.{IsRunOf}
 use Rattle.tilebench.proofs.Scheduling.{run_none, run_next, told_more}
 use Rattle.tilebench.proofs.commands.schedule.core_replies.Goals as goal
 

@@ -1,7 +1,7 @@
 use Rattle.std.proofs.Common.{◌≡◌, All, take}
 use Rattle.grow_core.specs.Core.{CoreInvariant}
 use Rattle.seq_text.specs.SeenLines.{HasLine}
-use Rattle.tilebench.specs.Commands.Schedule.{IsRunOf}
+use Rattle.tilebench.specs.Inner.Schedules.{IsRunOf}
 use Rattle.tilebench.proofs.commands.schedule.core_replies.Given as goal
 
 -- the events so far have been run, each with its reply

@@ -25,14 +25,13 @@ returns-in_err-judgement-clause-answer g c =
 pub returns-clause-answer : goal.returns-clause-answer
 returns-clause-answer g c =
     let read = c.in_ok-sys.ensures.read in
-    let input = read.0.0 in
-    let found = read.0.2 in (
+    let input = read.0.0 in (
       record {
         answer = record {
           input = input;
           whole = λ _. read.0.1;
           unread = λ no. absurd (cc no);
-          answer = record { none = refl; told = record { sys = c.in_ok-sys.sys; sequence = c.in_ok-sys.sequence; read = found; judgement = c.in_ok-judgement.judgement; judged = c.in_ok-judgement.ensures.judged; printed = refl; answer = refl } };
+          answer = record { none = refl; told = (c.in_ok-sys.sys, c.in_ok-sys.sequence, read.0.2, (c.in_ok-judgement.judgement, c.in_ok-judgement.ensures.judged, refl, refl)) };
         };
         prints = c.in_ok-judgement.ensures.types;
       },

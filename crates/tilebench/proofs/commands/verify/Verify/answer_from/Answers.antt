@@ -35,7 +35,7 @@ returns-clause-answer g c =
           unread = λ no. absurd (cc no);
           answer = record {
             none = refl;
-            told = verify_answer input c.in_ok-sys.sys c.in_ok-sys.certificate c.in_ok-verdict.verdict read.0.2 c.in_ok-verdict.ensures.judged c.in_ok-verdict.ensures.certified;
+            told = (c.in_ok-sys.sys, c.in_ok-sys.certificate, read.0.2, verify_answer c.in_ok-sys.sys c.in_ok-sys.certificate c.in_ok-verdict.verdict c.in_ok-verdict.ensures.judged c.in_ok-verdict.ensures.certified);
           };
         };
         prints = c.in_ok-verdict.ensures.types;
