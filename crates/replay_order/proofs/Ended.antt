@@ -48,8 +48,8 @@ module _ (sys : TileSystem) (tiles s : List Place) (fits : Fits sys tiles) (dist
   left_at : (q : Place) → IsLeft tiles s q → IsLeftAt tiles s q.site
   left_at q left = record {
     tile = q.tile;
-    placed = Contains-tile_at tiles q distinct left.placed;
-    unlisted = unlisted_empty sys tiles s canonical.begins distinct q left.placed left.unlisted;
+    placed = Contains-tile_at tiles q distinct left.0;
+    unlisted = unlisted_empty sys tiles s canonical.begins distinct q left.0 left.1;
   }
 
   inside : (q : Place) → Contains tiles q → InBox sys.area q.site
@@ -96,10 +96,8 @@ module _ (sys : TileSystem) (tiles s : List Place) (fits : Fits sys tiles) (dist
         canonical = canonical;
         leaves = record {
           counted = counted;
-          first = first;
-          first_left = record { placed = placed; unlisted = unlisted };
-          first_site = refl;
-          none_before = λ q left. found.least q.site (inside q left.placed) (left_at q left);
+          first = (first, (placed, unlisted), refl);
+          none_before = λ q left. found.least q.site (inside q left.0) (left_at q left);
         };
         unproducible = λ producible.
             unlisted ((producible_exactly sys tiles s distinct fits.types seeds_distinct canonical).0 producible first placed);
