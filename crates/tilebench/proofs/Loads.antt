@@ -38,7 +38,8 @@ use Rattle.unique_law.proofs.OneOutcome.{one_full_growth, yes_in_some_order}
 use Rattle.tilebench.specs.declared.growth.Growth.{Growth}
 use Rattle.job_board.specs.AnswerText.{is_unique}
 use Rattle.tilebench.specs.Growths.{IsGrowth}
-use Rattle.tilebench.specs.Commands.Load.{IsLoadAnswer, load_bits, load_start, load_system, load_tiles, load_text}
+use Rattle.tilebench.specs.Commands.Load.{IsLoadAnswer, load_bits, load_start, load_system, load_tiles}
+use Rattle.tilebench.specs.Inner.Loads.{load_text}
 use Rattle.tilebench.specs.Inner.Rooms.{GrowsTo, outcome_of}
 use Rattle.tilebench.proofs.Headlines.{growth_of_deterministic}
 

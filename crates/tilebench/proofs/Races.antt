@@ -1,19 +1,22 @@
 -- What workers win, one after another and together.
-use Rattle.std.proofs.Common.{◌≡◌, ◌≢◌, Bool, true, ◌∙◌, ◌<◌, ◌≤◌, ◌+◌, ◌-◌, ◌++◌, ℕ, zero, suc, List, [], ◌∷◌, length, drop, Some, refl, sym, ap, subst, arith, inl, inr, add-one}
+use Rattle.std.proofs.Common.{◌≡◌, ◌≢◌, Bool, true, ◌∙◌, ◌<◌, ◌≤◌, ◌+◌, ◌-◌, ◌++◌, ℕ, zero, suc, List, [], ◌∷◌, length, drop, codes, decimal, flat_map, Option, Some, unwrap_or, refl, sym, ap, subst, arith, inl, inr, add-one}
 use Rattle.std.specs.Prelude.{slice_get, slice_index, sum, sum_by, map, is_some}
+use Rattle.std.specs.List.{range_with_len}
 use Rattle.std.proofs.lemmas.Bool.{cases_lt}
-use Rattle.std.proofs.lemmas.List.Sums.{sum_by-append, sum_by-cons}
+use Rattle.std.proofs.lemmas.List.Folds.{flat_map-map}
+use Rattle.std.proofs.lemmas.List.Sums.{sum-map, sum_by-append, sum_by-cons}
+use Rattle.std.proofs.lemmas.Simd.{map-map}
 use Rattle.atam.specs.TileSystem.{TileSystem}
 use Rattle.site_table.specs.Seats.{GrownValue}
 use Rattle.grow_workers.specs.Workers.{IsGrownBy, worker_number}
 use Rattle.tilebench.specs.declared.wins.Win.{Win}
-use Rattle.tilebench.specs.Wins.{AreShares, AreWins}
-use Rattle.tilebench.specs.Commands.Race.{IsRaceText, race_text}
+use Rattle.tilebench.specs.Wins.{WonAll, won_by}
+use Rattle.tilebench.specs.Commands.Race.{IsRaceText}
 use Rattle.tilebench.specs.declared.growth.Growth.{Growth}
 use Rattle.job_board.specs.AnswerText.{is_unique}
 use Rattle.tilebench.specs.Growths.{IsGrowth}
 use Rattle.tilebench.specs.Commands.Report.{IsReportText}
-use Rattle.tilebench.specs.Inner.Races.{won_together}
+use Rattle.tilebench.specs.Inner.Races.{AreWins, race_text, win_line, won_together}
 use Rattle.tilebench.specs.Inner.Rooms.{GrowsTo, outcome_of}
 use Rattle.report.specs.Reports.{report_line}
 use Rattle.tile_io.specs.Lines.{line_of}
@@ -99,28 +102,61 @@ no_number : (n workers : ℕ) → 0 < n → n + workers ≤ 64 → (w : ℕ) →
 no_number n workers above below zero within e = omega (arith, e, above)
 no_number n workers above below (suc w) within e = omega (arith, e, within, below)
 
--- the wins of all workers are the tiles but for the seeds
-pub shares_of : (workers : ℕ) (sys : TileSystem) (table : GrownValue) (wins : List Win) → 1 ≤ workers → workers ≤ 16 → IsGrownBy sys workers table → AreWins workers table.won wins →
-    sum_by (λ (win : Win). win.count) wins ≡ won_together table.won workers → AreShares workers sys table wins
-shares_of workers sys table wins some few grew won together =
-    let sums = won_in_all table.won workers grew.placed.numbers some few (λ n above below. grew.placed.idle n (omega (arith, below, some)) (no_number n workers above below)) in
-    let tiles = grew.placed.total in
-    record { won = won; all = omega (arith, together, sums, tiles) }
+-- what a worker won, as the program lists it
+win_of : (ℕ → ℕ) → ℕ → Win
+win_of won w = record { worker = w; count = won w }
+
+-- the wins of workers in turn, from one of them on
+wins_from : (won : ℕ → ℕ) (wins : List Win) (from : ℕ) → ((w k : ℕ) → k ≡ from + w → w < length wins → slice_get wins w ≡ Some (win_of won k)) →
+    wins ≡ map (win_of won) (range_with_len from (length wins))
+unfolding win_of
+wins_from won [] from each = refl
+wins_from won (x ∷ wins) from each =
+    let first : x ≡ win_of won from = ap (λ (o : Option Win). unwrap_or o x) (each 0 from (omega arith) (omega arith)) in
+    let more = wins_from won wins (from + 1) (λ w k at within. each (suc w) k (omega (arith, at)) (omega (arith, within))) in
+    ap (λ (y : Win). y ∷ wins) first ∙ ap (λ (l : List Win). win_of won from ∷ l) more
+
+module _ (workers : ℕ) (table : GrownValue) (wins : List Win) (won : AreWins workers table.won wins) where
+  wins_are : wins ≡ map (win_of (won_by table)) (range_with_len 0 workers)
+  unfolding win_of
+  wins_are =
+      wins_from (won_by table) wins 0 (λ w k at within. let below : w < workers = omega (arith, within, won.count) in let same : w ≡ k = omega (arith, at) in
+      won.each w below ∙ ap (λ (n : ℕ). Some (win_of (won_by table) n)) same)
+      ∙ ap (λ (n : ℕ). map (win_of (won_by table)) (range_with_len 0 n)) won.count
+
+  -- their counts, their sum and their lines
+  counts_are : map (λ (win : Win). win.count) wins ≡ map (won_by table) (range_with_len 0 workers)
+  unfolding win_of
+  counts_are = ap (map (λ (win : Win). win.count)) wins_are ∙ map-map (λ (win : Win). win.count) (win_of (won_by table)) (range_with_len 0 workers)
+
+  sum_is : sum_by (λ (win : Win). win.count) wins ≡ sum_by (won_by table) (range_with_len 0 workers)
+  sum_is = sym (sum-map (λ (win : Win). win.count) wins) ∙ ap sum counts_are ∙ sum-map (won_by table) (range_with_len 0 workers)
+
+  lines_are : flat_map win_line wins ≡ flat_map (λ w. line_of (codes "won" ∷ decimal w ∷ decimal (won_by table w) ∷ [])) (range_with_len 0 workers)
+  unfolding win_of
+  lines_are = ap (flat_map win_line) wins_are ∙ flat_map-map win_line (win_of (won_by table)) (range_with_len 0 workers)
+
+  -- together they are the tiles but for the seeds
+  won_all : (sys : TileSystem) → 1 ≤ workers → workers ≤ 16 → IsGrownBy sys workers table → sum_by (λ (win : Win). win.count) wins ≡ won_together table.won workers → WonAll workers sys table
+  won_all sys some few grew together =
+      let sums = won_in_all table.won workers grew.placed.numbers some few (λ n above below. grew.placed.idle n (omega (arith, below, some)) (no_number n workers above below)) in
+      let tiles = grew.placed.total in
+      let same = sum_is in
+      omega (arith, together, sums, tiles, same)
 
 -- the wins of all workers are told by their text
 pub race_told : (workers : ℕ) (sys : TileSystem) (table : GrownValue) (wins : List Win) (total : ℕ) → 1 ≤ workers → workers ≤ 16 → IsGrownBy sys workers table →
     AreWins workers table.won wins → sum_by (λ (win : Win). win.count) wins ≡ won_together table.won workers →
     total + length sys.seeds ≡ length table.grid.tiles → IsRaceText workers sys table true (race_text wins total)
 race_told workers sys table wins total some few grew won together all =
-    let shares = shares_of workers sys table wins some few grew won together in
-    let sums = shares.all in
+    let won_them = won_all workers table wins won sys some few grew together in
+    let total_is : total ≡ sum_by (won_by table) (range_with_len 0 workers) = omega (arith, won_them, all) in
+    let last : ℕ → List ℕ = λ n. line_of (codes "total" ∷ decimal n ∷ []) in
     record {
       full = grew.full;
-      wins = wins;
-      shares = shares;
-      total = total;
-      sum_is = omega (arith, sums, all);
-      printed = refl;
+      all = won_them;
+      printed = ap (λ (lines : List ℕ). lines ++ last total) (lines_are workers table wins won)
+          ∙ ap (λ (n : ℕ). flat_map (λ w. line_of (codes "won" ∷ decimal w ∷ decimal (won_by table w) ∷ [])) (range_with_len 0 workers) ++ last n) total_is;
       answer = refl;
     }
 
@@ -129,12 +165,13 @@ pub report_told : (workers : ℕ) (sys : TileSystem) (table : GrownValue) (growt
     IsGrownBy sys workers table → GrowsTo sys table.grid.tiles growth → AreWins workers table.won wins → sum_by (λ (win : Win). win.count) wins ≡ won_together table.won workers →
     tiles ≡ length table.grid.tiles → text ≡ line_of (report_line growth.sys tiles (map (λ (win : Win). win.count) wins) (is_some growth.outside) (is_unique growth.verdict) ∷ []) → is_yes ≡ is_unique growth.verdict → IsReportText workers sys table is_yes text
 report_told workers sys table growth wins tiles text is_yes some few grew grows won together count printed answer =
-    let line : TileSystem → ℕ → List ℕ = λ s n. line_of (report_line s n (map (λ (win : Win). win.count) wins) (is_some growth.outside) (is_unique growth.verdict) ∷ []) in
+    let line : TileSystem → ℕ → List ℕ → List ℕ = λ s n counts. line_of (report_line s n counts (is_some growth.outside) (is_unique growth.verdict) ∷ []) in
+    let counts = map (λ (win : Win). win.count) wins in
     record {
       outcome = outcome_of growth;
       grown = subst (λ (s : TileSystem). IsGrowth s table.grid.tiles (outcome_of growth)) grows.same grows.grown;
-      wins = wins;
-      shares = shares_of workers sys table wins some few grew won together;
-      printed = printed ∙ ap (λ (s : TileSystem). line s tiles) grows.same ∙ ap (λ (n : ℕ). line sys n) count;
+      all = won_all workers table wins won sys some few grew together;
+      printed = printed ∙ ap (λ (s : TileSystem). line s tiles counts) grows.same ∙ ap (λ (n : ℕ). line sys n counts) count
+          ∙ ap (line sys (length table.grid.tiles)) (counts_are workers table wins won);
       answer = answer;
     }

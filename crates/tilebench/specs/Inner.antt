@@ -4,6 +4,7 @@ pub mod CommandRows
 pub mod CompiledTiles
 pub mod Fronts
 pub mod Gives
+pub mod Loads
 pub mod Races
 pub mod Readings
 pub mod Rooms

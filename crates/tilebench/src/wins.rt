@@ -1,7 +1,6 @@
 // What each worker of a growth won.
 ghost use Rattle.std.specs.Prelude.{◌≡◌, ◌<◌, ◌≤◌, sum_by, IfOk, slice_index};
-ghost use Rattle.tilebench.specs.Wins.{AreWins};
-ghost use Rattle.tilebench.specs.Inner.Races.{won_together};
+ghost use Rattle.tilebench.specs.Inner.Races.{AreWins, won_together};
 ghost use Rattle.grow_workers.specs.Workers.{worker_number};
 
 use fan_out::WorkerCount;

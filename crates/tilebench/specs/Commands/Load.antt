@@ -1,12 +1,9 @@
 -- `load`: a counter made from a number, and the summary of what it grows into.
 use Rattle.std.specs.Prelude.{◌≡◌, ℕ, ◌+◌, ◌-◌, ◌*◌, ◌/◌, ◌%◌, ◌^◌, min, Bool, true, List, [], ◌∷◌, ◌++◌, codes, decimal, length, Option, Some, None}
-use Rattle.atam.specs.declared.site.Site.{Site}
-use Rattle.atam.specs.declared.place.TypeId.{TypeId}
 use Rattle.atam.specs.TileSystem.{TileSystem}
 use Rattle.tile_io.specs.Lines.{line_of}
 use Rattle.site_table.specs.Seats.{GrownValue}
 use Rattle.grow_workers.specs.Workers.{IsGrownBy}
-use Rattle.atam.specs.declared.verdict.Verdict.{Verdict}
 use Rattle.atam.specs.declared.verdict.Verdict.TheVariants.{Yes}
 use Rattle.counter_compile.specs.Counters.{counter_refusal, counter_system, row_count}
 use Rattle.seq_text.specs.GrowthLines.{closed_line}
@@ -28,15 +25,9 @@ load_system number = counter_system (load_bits number) (load_start number)
 abbrev pub load_tiles : ℕ → ℕ
 load_tiles number = load_bits number * row_count (load_bits number) (load_start number)
 
--- the number with its counter's bits and start, the number of tiles, what is open outside the box, and the verdict
-abbrev pub load_text : ℕ → ℕ → ℕ → ℕ → TileSystem → Option (Site × TypeId) → Verdict → List ℕ
-load_text number bits start tiles sys outside verdict =
-    (line_of (codes "load" ∷ decimal number ∷ codes "bits" ∷ decimal bits
-    ∷ codes "start" ∷ decimal start ∷ []) ++ line_of (codes "tiles" ∷ decimal tiles ∷ []))
-    ++ (closed_line sys outside ++ verdict_line sys verdict)
-
 -- The counter of the number, which is not refused, was grown by four workers on a table, which is handed out. All its tiles stand, nothing is open outside its box, the verdict is yes,
--- and the text is that of the number.
+-- and the text is of the number alone: the number with its counter's bits and start, how many tiles
+-- stand, that nothing is open, and the verdict.
 pub record IsLoadAnswer (number : ℕ) (grown : Option GrownValue) (is_yes : Bool) (text : List ℕ) : Type 0 where
   pub accepted : counter_refusal (load_bits number) (load_start number) ≡ None
   pub table : GrownValue
@@ -47,6 +38,8 @@ pub record IsLoadAnswer (number : ℕ) (grown : Option GrownValue) (is_yes : Boo
   pub all : length table.grid.tiles ≡ load_tiles number
   pub closed : outcome.outside ≡ None
   pub unique : outcome.verdict ≡ Yes
-  pub printed : text ≡ load_text number (load_bits number) (load_start number) (load_tiles number)
-      (load_system number) None Yes
+  pub printed : text ≡ (line_of (codes "load" ∷ decimal number ∷ codes "bits"
+      ∷ decimal (load_bits number) ∷ codes "start" ∷ decimal (load_start number) ∷ [])
+      ++ line_of (codes "tiles" ∷ decimal (load_tiles number) ∷ []))
+      ++ (closed_line (load_system number) None ++ verdict_line (load_system number) Yes)
   pub answer : is_yes ≡ true

@@ -1,25 +1,18 @@
 -- `race`: how many tiles each worker won.
 use Rattle.std.specs.Prelude.{◌≡◌, ◌++◌, ℕ, Bool, true, List, [], ◌∷◌, codes, decimal, flat_map, sum_by}
+use Rattle.std.specs.List.{range_with_len}
 use Rattle.atam.specs.TileSystem.{TileSystem}
 use Rattle.atam.specs.Growth.{IsFullGrowth}
 use Rattle.tile_io.specs.Lines.{line_of}
 use Rattle.site_table.specs.Seats.{GrownValue}
-use Rattle.tilebench.specs.declared.wins.Win.{Win}
-use Rattle.tilebench.specs.Wins.{AreShares}
+use Rattle.tilebench.specs.Wins.{WonAll, won_by}
 
-abbrev pub win_line : Win → List ℕ
-win_line win = line_of (codes "won" ∷ decimal win.worker ∷ decimal win.count ∷ [])
-
--- a line for each worker, and one for all
-abbrev pub race_text : List Win → ℕ → List ℕ
-race_text wins total = flat_map win_line wins ++ line_of (codes "total" ∷ decimal total ∷ [])
-
--- this is the text of what each worker won
+-- this is the text of what each worker won: a line for each in turn, and one for all
 pub record IsRaceText (workers : ℕ) (sys : TileSystem) (table : GrownValue) (is_yes : Bool) (text : List ℕ) : Type 0 where
   pub full : IsFullGrowth sys table.grid.tiles
-  pub wins : List Win
-  pub shares : AreShares workers sys table wins
-  pub total : ℕ
-  pub sum_is : sum_by (λ win. win.count) wins ≡ total
-  pub printed : text ≡ race_text wins total
+  pub all : WonAll workers sys table
+  pub printed : text ≡ flat_map
+      (λ w. line_of (codes "won" ∷ decimal w ∷ decimal (won_by table w) ∷ []))
+      (range_with_len 0 workers) ++ line_of (codes "total"
+      ∷ decimal (sum_by (won_by table) (range_with_len 0 workers)) ∷ [])
   pub answer : is_yes ≡ true

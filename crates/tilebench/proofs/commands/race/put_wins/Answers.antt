@@ -1,7 +1,7 @@
 use Rattle.std.proofs.lemmas.Result.{err_from_is_err_and}
 use Rattle.tile_io.proofs.Printing.{PassesOn-next, PassesOn-halted}
 use Rattle.tilebench.specs.declared.wins.Win.{Win}
-use Rattle.tilebench.specs.Commands.Race.{win_line}
+use Rattle.tilebench.specs.Inner.Races.{win_line}
 use Rattle.tilebench.proofs.commands.race.put_wins.Goals as goal
 
 -- what stands past the end of the wins

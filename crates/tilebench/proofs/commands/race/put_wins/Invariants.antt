@@ -1,7 +1,7 @@
 use Rattle.std.proofs.Common.{take, flat_map, Ok}
 use Rattle.tile_io.specs.declared.outside.Failed.{Failed}
 use Rattle.tile_io.specs.Chunks.{PassesOn}
-use Rattle.tilebench.specs.Commands.Race.{win_line}
+use Rattle.tilebench.specs.Inner.Races.{win_line}
 use Rattle.tilebench.proofs.commands.race.put_wins.Given as goal
 
 -- the lines so far have been taken

@@ -1,7 +1,7 @@
 use Rattle.std.proofs.Common.{List, ap}
 use Rattle.tile_io.proofs.Printing.{Prints-flushed, Prints-text}
 use Rattle.tilebench.specs.declared.wins.Win.{Win}
-use Rattle.tilebench.specs.Commands.Race.{race_text}
+use Rattle.tilebench.specs.Inner.Races.{race_text}
 use Rattle.tilebench.proofs.commands.race.RacedReply.print.Goals as goal
 
 pub returns : goal.returns
