@@ -10,15 +10,15 @@ use Rattle.clap.specs.declared.parser.matches.ArgMatches.{ArgMatches}
 use Rattle.clap.proofs.WalkLemmas.{both}
 use Rattle.command_line.specs.declared.commands.CommandName.{CommandName}
 use Rattle.command_line.specs.declared.commands.CommandName.TheVariants.{Grow}
-use Rattle.command_line.specs.Commands.{arguments_of, command_app, command_word}
 use Rattle.command_line.specs.Numbers.{NumberArgument, number_rule}
 use Rattle.command_line.specs.Inner.Found.{FindsNumbers, IsExact}
+use Rattle.command_line.specs.Inner.Names.{name_app, name_arguments, name_word}
 use Rattle.command_line.proofs.NumberLemmas.{HasNumberArgument, argument_found, is_own_id, only_at}
 use Rattle.command_line.proofs.OptionLemmas.{app_with, append_none, push_more}
 
 -- clap's words for faults and for what is taken are about such commands
-pub app_simple : (name : CommandName) → is_simple_and_free (command_app name) ≡ true
-unfolding command_app
+pub app_simple : (name : CommandName) → is_simple_and_free (name_app name) ≡ true
+unfolding name_app
 app_simple Grow = refl
 app_simple _ = refl
 
@@ -34,16 +34,16 @@ with_rules word rules [] = ap (app_with word) (sym (append_none rules))
 with_rules word rules (argument ∷ arguments) =
     with_rules word (rules ++ number_rule argument ∷ []) arguments ∙ ap (app_with word) (push_more rules (number_rule argument) (map number_rule arguments))
 
-pub app_is : (name : CommandName) → command_app name ≡ app_with (command_word name) (map number_rule (arguments_of name))
-unfolding command_app
-app_is name = with_rules (command_word name) [] (arguments_of name)
+pub app_is : (name : CommandName) → name_app name ≡ app_with (name_word name) (map number_rule (name_arguments name))
+unfolding name_app
+app_is name = with_rules (name_word name) [] (name_arguments name)
 
 -- no two of these arguments have one id, from a place on, and none has an id of clap's own
 abbrev have_own_ids : List NumberArgument → ℕ → List NumberArgument → Bool
 have_own_ids all place [] = true
 have_own_ids all place (argument ∷ arguments) = only_at (map number_rule all) place argument.id && (is_own_id argument.id && have_own_ids all (suc place) arguments)
 
-own_ids : (name : CommandName) → have_own_ids (arguments_of name) 0 (arguments_of name) ≡ true
+own_ids : (name : CommandName) → have_own_ids (name_arguments name) 0 (name_arguments name) ≡ true
 own_ids Grow = refl
 own_ids _ = refl
 
@@ -89,8 +89,8 @@ has_from word front (argument ∷ arguments) own =
           (subst (λ (all : List NumberArgument). Rest all (length (front ++ argument ∷ []))) (push_more front argument arguments) others),
     )
 
-has_arguments : (name : CommandName) → HasArguments (command_app name) 0 (arguments_of name)
-has_arguments name = subst (λ (app : App). HasArguments app 0 (arguments_of name)) (sym (app_is name)) (has_from (command_word name) [] (arguments_of name) (own_ids name))
+has_arguments : (name : CommandName) → HasArguments (name_app name) 0 (name_arguments name)
+has_arguments name = subst (λ (app : App). HasArguments app 0 (name_arguments name)) (sym (app_is name)) (has_from (name_word name) [] (name_arguments name) (own_ids name))
 
 -- a parse finds a number for each argument of the command
 arguments_found : (command : Command) (found : ArgMatches) (app : App) → app_of command ≡ app → IsParsedFrom command found
@@ -100,12 +100,12 @@ arguments_found command found app is parsed place (argument ∷ arguments) has =
     (argument_found command found app is parsed place argument has.0, arguments_found command found app is parsed (suc place) arguments has.1)
 
 -- a parse finds what clap states, and a number for each argument
-pub command_parsed : (name : CommandName) (command : Command) (words : List Text) (found : ArgMatches) → app_of command ≡ command_app name
+pub command_parsed : (name : CommandName) (command : Command) (words : List Text) (found : ArgMatches) → app_of command ≡ name_app name
     → IsParsedFrom command found → HasMatchesOf (app_of command) words found
-    → IsExact (command_app name) words (found_of found) × FindsNumbers (arguments_of name) (found_of found)
+    → IsExact (name_app name) words (found_of found) × FindsNumbers (name_arguments name) (found_of found)
 unfolding IsExact
 command_parsed name command words found is parsed matches =
     let simple : is_simple (app_of command) ≡ true = ap is_simple is ∙ (both _ _ (app_simple name)).0 in (
       (matches simple).0 ∙ ap (λ (app : App). matches_of app words) is,
-      arguments_found command found (command_app name) is parsed 0 (arguments_of name) (has_arguments name),
+      arguments_found command found (name_app name) is parsed 0 (name_arguments name) (has_arguments name),
     )

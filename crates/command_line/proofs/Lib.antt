@@ -2,6 +2,7 @@ pub mod CallLemmas
 mod CommandLemmas
 mod FoundLemmas
 mod FrameCounts
+pub mod NameLemmas
 mod NumberLemmas
 mod NumberWordLemmas
 mod OptionLemmas

@@ -13,7 +13,8 @@ use Rattle.clap.specs.Walk.{Held, Walk, arg_by_id, arg_by_index, finished, has_r
 use Rattle.clap.specs.Takes.{built_takes, default_passes, is_given, is_valid, level_passes, positional_passes, settle_passes, turn_passes, walk_passes}
 use Rattle.clap.proofs.TakesLemmas.{leaf_takes}
 use Rattle.clap.proofs.WalkLemmas.{both}
-use Rattle.command_line.specs.Numbers.{AreInRange, NumberArgument, States, StatesValues, number_rule}
+use Rattle.command_line.specs.Numbers.{AreInRange, NumberArgument, States, number_rule}
+use Rattle.command_line.specs.Inner.Found.{StatesValues}
 use Rattle.command_line.proofs.OptionLemmas.{AreTaken, IsHeld, app_with, append_none, built_with, given_row, held_told, is_not, none_has, number_entry, number_held, other_bytes, push_more, same_bytes, still_new}
 use Rattle.command_line.proofs.TakenLemmas.{decimal_text, none_left, pass_more}
 

@@ -21,7 +21,8 @@ use Rattle.clap.specs.declared.parser.matches.ValueSource.TheVariants.{DefaultVa
 use Rattle.clap.proofs.TakesLemmas.{leaf_takes}
 use Rattle.clap.proofs.WalkLemmas.{both, find-map}
 use Rattle.command_line.specs.Commands.{plain_app}
-use Rattle.command_line.specs.Numbers.{AreInRange, GivesOptions, IsDefault, NumberArgument, States, StatesValues, may_be_left_out, number_rule, option_words}
+use Rattle.command_line.specs.Numbers.{AreInRange, GivesOptions, IsDefault, NumberArgument, States, may_be_left_out, number_rule, option_words}
+use Rattle.command_line.specs.Inner.Found.{StatesValues}
 use Rattle.command_line.proofs.TakenLemmas.{after, decimal_text, none_left, pass_more, value_passes, value_walked, waits}
 
 -- ---- the rules of options

@@ -1,16 +1,15 @@
 -- The commands, and the words of a command line that call for them.
-use Rattle.std.specs.Prelude.{◌≡◌, ◌≢◌, ◌⊎◌, ◌^◌, ◌-◌, ℕ, Bool, true, false, List, [], ◌∷◌, fold, Option, Some, None, Result, Err, IsOk, codes, decimal, bytes_eq, find, flat_map, map}
+use Rattle.std.specs.Prelude.{◌≡◌, ◌≢◌, ◌⊎◌, ◌^◌, ◌-◌, ◌++◌, ℕ, All, Bool, true, false, List, [], ◌∷◌, fold, Some, None, Result, Err, IsOk, codes, decimal, flat_map, map, slice_get}
 use Rattle.clap.specs.Words.{App, Text, fault_of, new_app, takes, with_rule}
 use Rattle.clap.specs.Simple.{on_top}
 use Rattle.clap.specs.declared.error.kind.ErrorKind.{ErrorKind}
 use Rattle.clap.specs.declared.error.kind.ErrorKind.TheVariants.{OutOfMemory}
+use Rattle.command_line.specs.declared.crew.Crew.{Crew}
 use Rattle.command_line.specs.declared.commands.Command.{Command}
 use Rattle.command_line.specs.declared.commands.Command.TheVariants.{Grow, Race, Report, Watch, Batch, Check, Replay, Schedule, Format, Upgrade, Turing, Quadrant, Picture, Certify, Verify, Counter, Load}
-use Rattle.command_line.specs.declared.commands.CommandName.{CommandName}
-use Rattle.command_line.specs.declared.commands.CommandName.TheVariants as name
 use Rattle.command_line.specs.declared.words_stop.WordsStop.{WordsStop}
 use Rattle.command_line.specs.declared.words_stop.WordsStop.TheVariants.{NoCommand, Usage, NoMemory}
-use Rattle.command_line.specs.Numbers.{AreInRange, GivesOptions, NumberArgument, StatesValues, may_be_left_out, number_rule, option_words}
+use Rattle.command_line.specs.Numbers.{AreInRange, GivesOptions, NumberArgument, States, may_be_left_out, number_rule, option_words}
 
 -- ---- the table
 
@@ -38,115 +37,103 @@ start_argument = record { id = codes "start"; default = None; least = 0; most = 
 abbrev pub load_argument : NumberArgument
 load_argument = record { id = codes "number"; default = None; least = 0; most = 2 ^ 64 - 1 }
 
--- the row of a command: the word that names it, and its arguments
-abbrev pub row_of : CommandName → Text × List NumberArgument
-row_of name.Grow = (codes "grow", workers_option ∷ choice_option ∷ [])
-row_of name.Race = (codes "race", workers_option ∷ choice_option ∷ [])
-row_of name.Report = (codes "report", workers_option ∷ choice_option ∷ [])
-row_of name.Watch = (codes "watch", workers_option ∷ choice_option ∷ frames_option ∷ [])
-row_of name.Batch = (codes "batch", workers_option ∷ [])
-row_of name.Check = (codes "check", [])
-row_of name.Replay = (codes "replay", [])
-row_of name.Schedule = (codes "schedule", [])
-row_of name.Format = (codes "format", [])
-row_of name.Upgrade = (codes "upgrade", [])
-row_of name.Turing = (codes "turing", [])
-row_of name.Quadrant = (codes "quadrant", [])
-row_of name.Picture = (codes "picture", [])
-row_of name.Certify = (codes "certify", [])
-row_of name.Verify = (codes "verify", workers_option ∷ [])
-row_of name.Counter = (codes "counter", bits_argument ∷ start_argument ∷ [])
-row_of name.Load = (codes "load", load_argument ∷ [])
+-- `--workers N` and `--choice N`, with their numbers
+abbrev pub crew_options : Crew → List (NumberArgument × ℕ)
+crew_options crew = (workers_option, crew.workers.count) ∷ (choice_option, crew.choice) ∷ []
 
--- what a command says: its name, and the values of its arguments, in their order
-abbrev pub said_by : Command → CommandName × List ℕ
-said_by (Grow workers choice) = (name.Grow, workers.count ∷ choice ∷ [])
-said_by (Race workers choice) = (name.Race, workers.count ∷ choice ∷ [])
-said_by (Report workers choice) = (name.Report, workers.count ∷ choice ∷ [])
-said_by (Watch workers choice frames) = (name.Watch, workers.count ∷ choice ∷ frames.count ∷ [])
-said_by (Batch workers) = (name.Batch, workers.count ∷ [])
-said_by Check = (name.Check, [])
-said_by Replay = (name.Replay, [])
-said_by Schedule = (name.Schedule, [])
-said_by Format = (name.Format, [])
-said_by Upgrade = (name.Upgrade, [])
-said_by Turing = (name.Turing, [])
-said_by Quadrant = (name.Quadrant, [])
-said_by Picture = (name.Picture, [])
-said_by Certify = (name.Certify, [])
-said_by (Verify workers) = (name.Verify, workers.count ∷ [])
-said_by (Counter bits start) = (name.Counter, bits ∷ start ∷ [])
-said_by (Load number) = (name.Load, number ∷ [])
-
--- the word that names a command
-abbrev pub command_word : CommandName → Text
-command_word name = (row_of name).0
+-- each command: the word that names it, and its arguments with their numbers, in their order
+abbrev pub said_by : Command → Text × List (NumberArgument × ℕ)
+said_by (Grow crew) = (codes "grow", crew_options crew)
+said_by (Race crew) = (codes "race", crew_options crew)
+said_by (Report crew) = (codes "report", crew_options crew)
+said_by (Watch crew frames) =
+    (codes "watch", crew_options crew ++ (frames_option, frames.count) ∷ [])
+said_by (Batch workers) = (codes "batch", (workers_option, workers.count) ∷ [])
+said_by Check = (codes "check", [])
+said_by Replay = (codes "replay", [])
+said_by Schedule = (codes "schedule", [])
+said_by Format = (codes "format", [])
+said_by Upgrade = (codes "upgrade", [])
+said_by Turing = (codes "turing", [])
+said_by Quadrant = (codes "quadrant", [])
+said_by Picture = (codes "picture", [])
+said_by Certify = (codes "certify", [])
+said_by (Verify workers) = (codes "verify", (workers_option, workers.count) ∷ [])
+said_by (Counter bits start) =
+    (codes "counter", (bits_argument, bits) ∷ (start_argument, start) ∷ [])
+said_by (Load number) = (codes "load", (load_argument, number) ∷ [])
 
 -- the arguments of a command
-abbrev pub arguments_of : CommandName → List NumberArgument
-arguments_of name = (row_of name).1
+abbrev pub arguments_of : Command → List NumberArgument
+arguments_of command = map (λ said. said.0) (said_by command).1
+
+-- and their numbers
+abbrev pub numbers_of : Command → List ℕ
+numbers_of command = map (λ said. said.1) (said_by command).1
 
 -- ---- what words call for
 
--- the command that the first word names
-abbrev pub command_named : List Text → Option CommandName
-command_named [] = None
-command_named (word ∷ words) = find (λ name. bytes_eq (command_word name) word)
-    (name.Grow ∷ name.Race ∷ name.Report ∷ name.Watch ∷ name.Batch ∷ name.Check ∷ name.Replay
-    ∷ name.Schedule ∷ name.Format ∷ name.Upgrade ∷ name.Turing ∷ name.Quadrant ∷ name.Picture
-    ∷ name.Certify ∷ name.Verify ∷ name.Counter ∷ name.Load ∷ [])
+-- the first word names the command
+abbrev pub IsNamed : List Text → Command → Type 0
+IsNamed words command = slice_get words 0 ≡ Some (said_by command).0
+
+-- no command is named: the first word is missing, or is that of none
+abbrev pub IsNoCommand : List Text → Type 0
+IsNoCommand words = (command : Command) → ¬ IsNamed words command
 
 -- a command without arguments, as clap reads it: clap's help flag is off, and there is no version flag
 abbrev pub plain_app : Text → App
 plain_app name = on_top (λ shape. record shape { disable_help_flag = true }) (new_app name)
 
--- the command, as clap reads it
-unfoldable pub command_app : CommandName → App
-command_app name = fold (λ app argument. with_rule app (number_rule argument)) (plain_app (command_word name)) (arguments_of name)
+-- the command, as clap reads it, whatever its numbers
+unfoldable pub command_app : Command → App
+command_app command =
+    fold (λ app said. with_rule app (number_rule said.0)) (plain_app (said_by command).0)
+    (said_by command).1
 
--- the first word names the command, clap finds no fault in the list, and states the values of the arguments
+-- the first word names the command, clap finds no fault in the list, and states its numbers
 pub record IsCallOf (words : List Text) (command : Command) : Type 0 where
-  pub named : command_named words ≡ Some (said_by command).0
-  pub accepted : fault_of (command_app (said_by command).0) words ≡ []
-  pub stated : StatesValues (command_app (said_by command).0) words
-      (arguments_of (said_by command).0) (said_by command).1
+  pub named : IsNamed words command
+  pub accepted : fault_of (command_app command) words ≡ []
+  pub stated : All (λ said. States (command_app command) words said.0.id said.1)
+      (said_by command).1
 
--- the first word names the command, and clap promises to take the list
-pub record IsTaken (words : List Text) (name : CommandName) : Type 0 where
-  pub named : command_named words ≡ Some name
-  pub taken : takes (command_app name) words ≡ true
+-- the first word names a command, and clap promises to take the list
+pub record IsTaken (words : List Text) : Type 0 where
+  pub command : Command
+  pub named : IsNamed words command
+  pub taken : takes (command_app command) words ≡ true
 
 -- the first word names a command, and clap finds a fault in the list, which it does not promise to take
 pub record IsUsage (words : List Text) : Type 0 where
-  pub name : CommandName
-  pub named : command_named words ≡ Some name
-  pub refused : fault_of (command_app name) words ≢ []
-  pub untaken : takes (command_app name) words ≡ false
+  pub command : Command
+  pub named : IsNamed words command
+  pub refused : fault_of (command_app command) words ≢ []
+  pub untaken : takes (command_app command) words ≡ false
 
 -- where clap promises to take the list, there is a command, or memory is wanting
 abbrev pub IsTakenUnlessMemory : List Text → Result Command WordsStop → Type 0
-IsTakenUnlessMemory words result = (name : CommandName) → IsTaken words name → IsOk result ⊎ (result ≡ Err NoMemory)
+IsTakenUnlessMemory words result = IsTaken words → IsOk result ⊎ (result ≡ Err NoMemory)
 
 -- the plainest words for a command with options: its word, and each option that is given, in any order, with its number in decimal digits without leading zeros
-pub record SpellsOptions (name : CommandName) (words : List Text) (numbers : List ℕ) : Type 0 where
+pub record SpellsOptions (words : List Text) (command : Command) : Type 0 where
   pub given : List (NumberArgument × ℕ)
-  pub gives : GivesOptions (arguments_of name) numbers given
-  pub words_are : words ≡ command_word name ∷ flat_map option_words given
+  pub gives : GivesOptions (arguments_of command) (numbers_of command) given
+  pub words_are : words ≡ (said_by command).0 ∷ flat_map option_words given
 
 -- the plainest words for a command whose numbers are words of their own: its word, and each number in decimal digits without leading zeros
-abbrev pub SpellsNumbers : CommandName → List Text → List ℕ → Type 0
-SpellsNumbers name words numbers = words ≡ command_word name ∷ map decimal numbers
+abbrev pub SpellsNumbers : List Text → Command → Type 0
+SpellsNumbers words command = words ≡ (said_by command).0 ∷ map decimal (numbers_of command)
 
 -- the plainest words for a command, whose arguments may be left out or not
-abbrev pub SpellsArguments : Bool → CommandName → List Text → List ℕ → Type 0
+abbrev pub SpellsArguments : Bool → List Text → Command → Type 0
 SpellsArguments true = SpellsOptions
 SpellsArguments false = SpellsNumbers
 
 -- the plainest words for a command
 abbrev pub Spells : List Text → Command → Type 0
-Spells words command = AreInRange (arguments_of (said_by command).0) (said_by command).1
-    × SpellsArguments (may_be_left_out (arguments_of (said_by command).0)) (said_by command).0 words
-    (said_by command).1
+Spells words command = AreInRange (arguments_of command) (numbers_of command)
+    × SpellsArguments (may_be_left_out (arguments_of command)) words command
 
 -- ---- refusals
 

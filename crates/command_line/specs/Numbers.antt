@@ -1,6 +1,6 @@
 -- Arguments that take a number, and what clap states for them.
 use Rattle.std.specs.Prelude.{◌≡◌, ◌⊎◌, ◌≤◌, ◌++◌, ℕ, List, [], ◌∷◌, Bool, Option, Some, codes, decimal, is_some, not, option_map}
-use Rattle.std.specs.List.{list_all, AllZip}
+use Rattle.std.specs.List.{list_all}
 use Rattle.std.specs.Str.Parse.{digits_value, without_leading_plus}
 use Rattle.clap.specs.Words.{App, Rule, Text, matches_of, new_rule, one_of}
 use Rattle.clap.specs.declared.builder.action.ArgAction.TheVariants.{Set}
@@ -59,7 +59,3 @@ number_rule argument = record (new_rule argument.id) {
 unfoldable pub States : App → List Text → Text → ℕ → Type 0
 States app words id number = (text : Text) × (one_of id (matches_of app words) ≡ Some text)
     × (number ≡ number_of_text text)
-
--- and these numbers for these arguments, in their order
-abbrev pub StatesValues : App → List Text → List NumberArgument → List ℕ → Type 0
-StatesValues app words = AllZip (λ argument value. States app words argument.id value)

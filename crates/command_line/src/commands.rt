@@ -1,10 +1,12 @@
 // The table of commands: their words, their arguments, and what a parse makes of them.
 ghost use Rattle.std.specs.Prelude.{◌≡◌, ◌^◌, ◌-◌, false, codes, IfOk, ◌∷◌, []};
 ghost use Rattle.clap.specs.Words.{app_of, found_of, rule_of};
-ghost use Rattle.command_line.specs.Commands.{arguments_of, bits_argument, choice_option, command_app, command_named, command_word, frames_option, load_argument, plain_app, start_argument, workers_option, said_by};
+ghost use Rattle.command_line.specs.Commands.{bits_argument, choice_option, frames_option, load_argument, numbers_of, plain_app, start_argument, workers_option};
 ghost use Rattle.command_line.specs.Numbers.{AreInRange, number_rule};
 ghost use Rattle.command_line.specs.Inner.Found.{FindsInRange, FindsNumber, FindsNumbers, HasValues};
+ghost use Rattle.command_line.specs.Inner.Names.{first_name, name_app, name_arguments, name_of, name_word};
 
+use crate::crew::Crew;
 use crate::frame_count::FrameCount;
 use crate::numbers::{number_argument, number_of};
 use clap::{Arg, ArgMatches};
@@ -14,31 +16,13 @@ use std::alloc::{AllocError, Global};
 /// A command of the program, with what its arguments say.
 #[derive(Clone, Copy, Debug, PartialEq, Eq)]
 pub enum Command {
-    /// `choice` is any number.
-    Grow {
-        workers: WorkerCount,
-        choice: u64,
-    },
-    /// The same as of `Grow`.
-    Race {
-        workers: WorkerCount,
-        choice: u64,
-    },
-    /// The same as of `Grow`.
-    Report {
-        workers: WorkerCount,
-        choice: u64,
-    },
-    /// The same as of `Grow`, and how many frames are taken meanwhile.
-    Watch {
-        workers: WorkerCount,
-        choice: u64,
-        frames: FrameCount,
-    },
+    Grow(Crew),
+    Race(Crew),
+    Report(Crew),
+    /// How many frames are taken while it grows.
+    Watch(Crew, FrameCount),
     /// Each job has a choice of its own in the input.
-    Batch {
-        workers: WorkerCount,
-    },
+    Batch { workers: WorkerCount },
     Check,
     Replay,
     Schedule,
@@ -48,21 +32,14 @@ pub enum Command {
     Quadrant,
     Picture,
     Certify,
-    Verify {
-        workers: WorkerCount,
-    },
+    Verify { workers: WorkerCount },
     /// Any numbers of their types: the counter's own limits are not looked at here.
-    Counter {
-        bits: u32,
-        start: u64,
-    },
+    Counter { bits: u32, start: u64 },
     /// `number` is any number.
-    Load {
-        number: u64,
-    },
+    Load { number: u64 },
 }
 
-/// Which command the first word names.
+// Which command the first word names.
 #[derive(Clone, Copy, Debug, PartialEq, Eq)]
 pub enum CommandName {
     Grow,
@@ -121,9 +98,9 @@ const START: &str = "start";
 const NUMBER: &str = "number";
 
 impl CommandName {
-    /// The word that names the command.
+    // The word that names the command.
     pub fn word(self) -> &'static str
-        ensures { result.now ≡ command_word self }
+        ensures { result.now ≡ name_word self }
     {
         match self {
             CommandName::Grow => "grow",
@@ -149,15 +126,15 @@ impl CommandName {
 
 // The command that a word names.
 pub fn command_named_by(word: &str) -> Option<CommandName>
-    ensures { result ≡ command_named (word.now ∷ []) }
+    ensures { result ≡ first_name (word.now ∷ []) }
 {
     NAMES.iter().copied().find(|name| name.word() == word)
 }
 
 // The command as clap reads it.
-#[tactic(auto, unfolding(crate::specs::Commands::command_app))]
+#[tactic(auto, unfolding(crate::specs::Inner::Names::name_app))]
 pub fn clap_command<'a>(alloc: Global, name: CommandName) -> Result<clap::Command<'a>, AllocError>
-    ensures { IfOk result (λ command. app_of command ≡ command_app name) }
+    ensures { IfOk result (λ command. app_of command ≡ name_app name) }
 {
     let word: &'a str = name.word();
     match name {
@@ -183,29 +160,16 @@ pub fn clap_command<'a>(alloc: Global, name: CommandName) -> Result<clap::Comman
 
 // The command of a name, with the values that a parse found for its arguments.
 pub fn command_found(name: CommandName, found: &ArgMatches) -> Command
-    requires { FindsNumbers (arguments_of name) (found_of found.now) }
-    ensures name { (said_by result).0 ≡ name }
-    ensures values { HasValues (arguments_of name) (said_by result).1 (found_of found.now) }
-    ensures range { AreInRange (arguments_of name) (said_by result).1 }
+    requires { FindsNumbers (name_arguments name) (found_of found.now) }
+    ensures name { name_of result ≡ name }
+    ensures values { HasValues (name_arguments name) (numbers_of result) (found_of found.now) }
+    ensures range { AreInRange (name_arguments name) (numbers_of result) }
 {
     match name {
-        CommandName::Grow => Command::Grow {
-            workers: workers_found(found),
-            choice: number_of(found, CHOICE),
-        },
-        CommandName::Race => Command::Race {
-            workers: workers_found(found),
-            choice: number_of(found, CHOICE),
-        },
-        CommandName::Report => Command::Report {
-            workers: workers_found(found),
-            choice: number_of(found, CHOICE),
-        },
-        CommandName::Watch => Command::Watch {
-            workers: workers_found(found),
-            choice: number_of(found, CHOICE),
-            frames: frames_found(found),
-        },
+        CommandName::Grow => Command::Grow(crew_found(found)),
+        CommandName::Race => Command::Race(crew_found(found)),
+        CommandName::Report => Command::Report(crew_found(found)),
+        CommandName::Watch => Command::Watch(crew_found(found), frames_found(found)),
         CommandName::Batch => Command::Batch {
             workers: workers_found(found),
         },
@@ -284,6 +248,19 @@ fn load_argument<'a>(alloc: Global) -> Arg<'a>
     ensures local { result.global ≡ false }
 {
     number_argument(alloc, NUMBER, None, 0, u64::MAX)
+}
+
+// The numbers of workers and of the choice that a parse found.
+fn crew_found(found: &ArgMatches) -> Crew
+    requires workers { FindsInRange (found_of found.now) (codes "workers") 1 16 }
+    requires choice { FindsInRange (found_of found.now) (codes "choice") 0 (2 ^ 64 - 1) }
+    ensures workers { FindsNumber (found_of found.now) (codes "workers") result.workers.count }
+    ensures choice { FindsNumber (found_of found.now) (codes "choice") result.choice }
+{
+    Crew {
+        workers: workers_found(found),
+        choice: number_of(found, CHOICE),
+    }
 }
 
 // The number of workers that a parse found.

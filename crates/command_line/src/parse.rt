@@ -1,8 +1,8 @@
 // What clap makes of the words of a command.
 ghost use Rattle.std.specs.Prelude.{◌≡◌, ◌≢◌, true, false, [], Ok, Err, map, string_bytes, IfOk};
 ghost use Rattle.clap.specs.Words.{IsParsedFrom, HasMatchesOf, app_of, fault_of, found_of, is_simple_and_free, takes};
-ghost use Rattle.command_line.specs.Commands.{arguments_of, command_app};
 ghost use Rattle.command_line.specs.Inner.Found.{FindsNumbers, IsExact};
+ghost use Rattle.command_line.specs.Inner.Names.{name_app, name_arguments};
 
 use crate::commands::{CommandName, clap_command};
 use crate::words_stop::WordsStop;
@@ -16,14 +16,14 @@ pub fn matches_of<'a>(
     words: &'a [String],
 ) -> Result<ArgMatches<'a>, WordsStop>
     ensures accepted { IfOk result (λ found.
-        fault_of (command_app name) (map string_bytes words.entry.now) ≡ []) }
+        fault_of (name_app name) (map string_bytes words.entry.now) ≡ []) }
     ensures exact { IfOk result (λ found.
-        IsExact (command_app name) (map string_bytes words.entry.now) (found_of found)) }
-    ensures numbers { IfOk result (λ found. FindsNumbers (arguments_of name) (found_of found)) }
+        IsExact (name_app name) (map string_bytes words.entry.now) (found_of found)) }
+    ensures numbers { IfOk result (λ found. FindsNumbers (name_arguments name) (found_of found)) }
     ensures refused { result ≡ Err WordsStop.Usage
-        → fault_of (command_app name) (map string_bytes words.entry.now) ≢ [] }
+        → fault_of (name_app name) (map string_bytes words.entry.now) ≢ [] }
     ensures untaken { result ≡ Err WordsStop.Usage
-        → takes (command_app name) (map string_bytes words.entry.now) ≡ false }
+        → takes (name_app name) (map string_bytes words.entry.now) ≡ false }
     ensures named { result ≢ Err WordsStop.NoCommand }
 {
     parsed(clap_command(alloc, name)?, words)

@@ -1,7 +1,8 @@
 // From a list of words to a command.
-ghost use Rattle.std.specs.Prelude.{◌≡◌, ◌≢◌, ◌↔◌, Ok, Err, None, Some, map, string_bytes, IfOk};
-ghost use Rattle.command_line.specs.Commands.{IsCallOf, IsUsage, IsTakenUnlessMemory, command_named, arguments_of, said_by};
+ghost use Rattle.std.specs.Prelude.{◌≡◌, ◌≢◌, ◌↔◌, Ok, Err, Some, map, string_bytes, IfOk};
+ghost use Rattle.command_line.specs.Commands.{IsCallOf, IsNoCommand, IsTakenUnlessMemory, IsUsage, arguments_of, numbers_of};
 ghost use Rattle.command_line.specs.Numbers.{AreInRange};
+ghost use Rattle.command_line.specs.Inner.Names.{first_name};
 
 use crate::commands::{Command, CommandName, command_found, command_named_by};
 use crate::parse::matches_of;
@@ -14,9 +15,9 @@ use std::alloc::Global;
 pub fn command_of(alloc: Global, words: &[String]) -> Result<Command, WordsStop>
     ensures called { IfOk result (IsCallOf (map string_bytes words.now)) }
     ensures range { IfOk result (λ command.
-        AreInRange (arguments_of (said_by command).0) (said_by command).1) }
+        AreInRange (arguments_of command) (numbers_of command)) }
     ensures no_command { (result ≡ Err WordsStop.NoCommand)
-        ↔ (command_named (map string_bytes words.now) ≡ None) }
+        ↔ IsNoCommand (map string_bytes words.now) }
     ensures usage { result ≡ Err WordsStop.Usage → IsUsage (map string_bytes words.now) }
 
     // Words that clap promises to take are taken, or memory is wanting.
@@ -30,7 +31,7 @@ pub fn command_of(alloc: Global, words: &[String]) -> Result<Command, WordsStop>
 
 // The command that the first word names.
 fn named_command(words: &[String]) -> Option<CommandName>
-    ensures { result ≡ command_named (map string_bytes words.now) }
+    ensures { result ≡ first_name (map string_bytes words.now) }
 {
     match words.first() {
         Some(word) => command_named_by(word.as_str()),
@@ -40,10 +41,10 @@ fn named_command(words: &[String]) -> Option<CommandName>
 
 // Reads the words of the command that the first of them names.
 fn read_words(alloc: Global, name: CommandName, words: &[String]) -> Result<Command, WordsStop>
-    requires { command_named (map string_bytes words.now) ≡ Some name }
+    requires { first_name (map string_bytes words.now) ≡ Some name }
     ensures called { IfOk result (IsCallOf (map string_bytes words.now)) }
     ensures range { IfOk result (λ command.
-        AreInRange (arguments_of (said_by command).0) (said_by command).1) }
+        AreInRange (arguments_of command) (numbers_of command)) }
     ensures named { result ≢ Err WordsStop.NoCommand }
     ensures usage { result ≡ Err WordsStop.Usage → IsUsage (map string_bytes words.now) }
     ensures taken { IsTakenUnlessMemory (map string_bytes words.now) result }

@@ -121,9 +121,9 @@ const GROWING: [(&str, Grower, u32, u64); 14] = [
 // The command, the number of workers and the choice of a command that grows.
 fn growing(command: Command) -> Option<(Grower, u32, u64)> {
     match command {
-        Command::Grow { workers, choice } => Some((Grower::Grow, workers.get(), choice)),
-        Command::Race { workers, choice } => Some((Grower::Race, workers.get(), choice)),
-        Command::Report { workers, choice } => Some((Grower::Report, workers.get(), choice)),
+        Command::Grow(crew) => Some((Grower::Grow, crew.workers.get(), crew.choice)),
+        Command::Race(crew) => Some((Grower::Race, crew.workers.get(), crew.choice)),
+        Command::Report(crew) => Some((Grower::Report, crew.workers.get(), crew.choice)),
         _ => None,
     }
 }

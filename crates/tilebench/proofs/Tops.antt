@@ -4,11 +4,11 @@ use Rattle.tile_io.specs.Faults.{Rose}
 use Rattle.fan_out.specs.declared.worker_count.WorkerCount.{WorkerCount}
 use Rattle.command_line.specs.declared.commands.Command.{Command}
 use Rattle.command_line.specs.declared.commands.Command.TheVariants.{Batch, Grow, Watch}
-use Rattle.command_line.specs.declared.commands.CommandName.{CommandName}
+use Rattle.command_line.specs.declared.crew.Crew.{Crew}
 use Rattle.command_line.specs.declared.frame_count.FrameCount.{FrameCount}
 use Rattle.command_line.specs.declared.words_stop.WordsStop.{WordsStop}
 use Rattle.command_line.specs.declared.words_stop.WordsStop.TheVariants.{NoCommand, Usage, NoMemory}
-use Rattle.command_line.specs.Commands.{IsCallOf, IsTaken, IsUsage, command_named, words_stop_name, said_by}
+use Rattle.command_line.specs.Commands.{IsCallOf, IsNoCommand, IsTaken, IsUsage, words_stop_name}
 use Rattle.command_line.proofs.CallLemmas.{call_once, taken_not_usage}
 use Rattle.site_table.specs.Seats.{GrownValue}
 use Rattle.tilebench.specs.declared.status.Ran.{Ran}
@@ -86,22 +86,22 @@ module _ {S K E : Type 0} (left : S → Option (List ℕ)) (read_faults : S → 
       call_said : (is_yes : Bool) → IsCallOf words other → ran.status ≡ answer_status is_yes → Gains written out_faults (Said is_yes) out out_after
       call_said is_yes calls is = status_said calls is_yes (subst Run is run.ends)
 
-    pub call_grown : (workers : WorkerCount) (choice : ℕ) (is_yes : Bool) → IsCallOf words (Grow workers choice) → ran.status ≡ answer_status is_yes →
+    pub call_grown : (crew : Crew) (is_yes : Bool) → IsCallOf words (Grow crew) → ran.status ≡ answer_status is_yes →
         Gains written out_faults (AnswersInput IsHeadline (left source) (left after) is_yes) out out_after
-    call_grown workers choice is_yes = call_said (Grow workers choice) (AnswersInput IsHeadline (left source) (left after)) (headline_of workers ran.grown (left source) (left after)) is_yes
+    call_grown crew is_yes = call_said (Grow crew) (AnswersInput IsHeadline (left source) (left after)) (headline_of crew.workers ran.grown (left source) (left after)) is_yes
 
-    pub call_watched : (workers : WorkerCount) (choice : ℕ) (frames : FrameCount) (is_yes : Bool) → IsCallOf words (Watch workers choice frames) → ran.status ≡ answer_status is_yes →
+    pub call_watched : (crew : Crew) (frames : FrameCount) (is_yes : Bool) → IsCallOf words (Watch crew frames) → ran.status ≡ answer_status is_yes →
         Gains written out_faults (AnswersInput (IsWatchedHeadline frames.count) (left source) (left after) is_yes) out out_after
-    call_watched workers choice frames is_yes =
-        call_said (Watch workers choice frames) (AnswersInput (IsWatchedHeadline frames.count) (left source) (left after)) (watched_headline_of workers frames ran.grown (left source) (left after)) is_yes
+    call_watched crew frames is_yes =
+        call_said (Watch crew frames) (AnswersInput (IsWatchedHeadline frames.count) (left source) (left after)) (watched_headline_of crew.workers frames ran.grown (left source) (left after)) is_yes
 
     pub call_batched : (workers : WorkerCount) (is_yes : Bool) → IsCallOf words (Batch workers) → ran.status ≡ answer_status is_yes →
         Gains written out_faults (AnswersInput IsBatchHeadline (left source) (left after) is_yes) out out_after
     call_batched workers is_yes =
         call_said (Batch workers) (AnswersInput IsBatchHeadline (left source) (left after)) (batch_headline_of workers ran.grown (left source) (left after)) is_yes
 
-    pub call_named : command_named words ≡ None → ⊥
-    call_named unnamed = let other : None ≡ Some (said_by command).0 = sym unnamed ∙ called.named in cc
+    pub call_named : IsNoCommand words → ⊥
+    call_named unnamed = unnamed command called.named
 
     pub call_complete : IsDue words (left source) → ¬ Rose (read_faults source) (read_faults after) → ¬ Rose (out_faults out) (out_faults out_after) →
         ¬ Rose (err_faults err) (err_faults err_after) → IsAnswered ran.status ⊎ (ran.status ≡ status.NoMemory)
@@ -135,7 +135,7 @@ module _ {S K E : Type 0} (left : S → Option (List ℕ)) (read_faults : S → 
   words_ended text refused s (inr cut) same =
       subst Unanswered (sym cut.is) (inr (record { text = text; said = inr refused; front = cut.front; fault = cut.fault }, same), refl)
 
-  pub stop_ended : (stop : WordsStop) → (stop ≡ NoCommand → command_named words ≡ None) → (stop ≡ Usage → IsUsage words) → (s : Status) →
+  pub stop_ended : (stop : WordsStop) → (stop ≡ NoCommand → IsNoCommand words) → (stop ≡ Usage → IsUsage words) → (s : Status) →
       Refuses told err_faults err err_after (stop_of_words stop) s → out_after ≡ out → Ended source s None
   stop_ended NoCommand unnamed refused s refuses same = words_ended (refused_words (words_stop_name NoCommand)) (no_command (unnamed refl) refl) s refuses same
   stop_ended Usage unnamed refused s refuses same = words_ended (refused_words (words_stop_name Usage)) (usage (refused refl) refl) s refuses same
@@ -180,11 +180,11 @@ module _ {E : Type 0} (told : E → Option (List ℕ)) (err_faults : E → ℕ) 
   stop_later Usage s writes = written_later told err_faults err err_after status.Words s (refused_words (words_stop_name Usage)) writes
   stop_later NoMemory s (is, same) = let equal : err_faults err_after ≡ err_faults err = ap err_faults same in omega arith
 
-  pub stop_complete : (stop : WordsStop) (s : Status) → (stop ≡ NoCommand → command_named words ≡ None) → (stop ≡ Usage → IsUsage words) →
-      Refuses told err_faults err err_after (stop_of_words stop) s → (name : CommandName) → IsTaken words name → s ≡ status.NoMemory
-  stop_complete NoCommand s unnamed refused refuses name taken = let other : None ≡ Some name = sym (unnamed refl) ∙ taken.named in cc
-  stop_complete Usage s unnamed refused refuses name taken = absurd (taken_not_usage words name taken (refused refl))
-  stop_complete NoMemory s unnamed refused (is, same) name taken = is
+  pub stop_complete : (stop : WordsStop) (s : Status) → (stop ≡ NoCommand → IsNoCommand words) → (stop ≡ Usage → IsUsage words) →
+      Refuses told err_faults err err_after (stop_of_words stop) s → IsTaken words → s ≡ status.NoMemory
+  stop_complete NoCommand s unnamed refused refuses taken = absurd (unnamed refl taken.command taken.named)
+  stop_complete Usage s unnamed refused refuses taken = absurd (taken_not_usage words taken (refused refl))
+  stop_complete NoMemory s unnamed refused (is, same) taken = is
 
 -- an error is of one stop
 pub same_stop : {T : Type 0} (stop other : WordsStop) → (let Stopped : WordsStop → Result T WordsStop = λ s. Err s in Stopped stop ≡ Stopped other) → stop ≡ other

@@ -50,14 +50,14 @@ pub mod Verify
 pub mod Watch
 
 abbrev pub room_of : Command → RoomRow
-room_of (command.Grow workers choice) =
-    reading ReadsAny FaultAny alone (TellsGrowth IsGrowthText workers.count)
-room_of (command.Race workers choice) =
-    reading ReadsAny FaultAny alone (TellsGrowth (IsRaceText workers.count) workers.count)
-room_of (command.Report workers choice) =
-    reading ReadsAny FaultAny alone (TellsGrowth (IsReportText workers.count) workers.count)
-room_of (command.Watch workers choice frames) =
-    reading ReadsAny FaultAny alone (TellsWatchedGrowth workers.count frames.count)
+room_of (command.Grow crew) =
+    reading ReadsAny FaultAny alone (TellsGrowth IsGrowthText crew.workers.count)
+room_of (command.Race crew) =
+    reading ReadsAny FaultAny alone (TellsGrowth (IsRaceText crew.workers.count) crew.workers.count)
+room_of (command.Report crew) = reading ReadsAny FaultAny alone
+    (TellsGrowth (IsReportText crew.workers.count) crew.workers.count)
+room_of (command.Watch crew frames) =
+    reading ReadsAny FaultAny alone (TellsWatchedGrowth crew.workers.count frames.count)
 room_of command.Check = answering sequence_format (ReadsPlaces false) IsCheckAnswer
 room_of command.Replay = answering grid_format ReadsAssembly IsReplayAnswer
 room_of command.Schedule = answering schedule_format ReadsEvents IsScheduleAnswer

@@ -3,7 +3,7 @@ use Rattle.std.specs.Prelude.{◌≡◌, ◌↔◌, ◌⊎◌, ◌++◌, ℕ, Bo
 use Rattle.std.specs.List.{AllZip, list_all}
 use Rattle.atam.specs.declared.verdict.Verdict.TheVariants.{NotTerminal}
 use Rattle.tilebench.specs.declared.status.Status.TheVariants.{Done, No, Words, Text, ReadFault, WriteFault, NoMemory}
-use Rattle.tilebench.specs.Terms.{Command, CommandName, CounterStop, IsCallOf, IsTaken, IsUsage, command_named, counter_stop_name, refused_words, room_of}
+use Rattle.tilebench.specs.Terms.{Command, CounterStop, IsCallOf, IsNoCommand, IsTaken, IsUsage, counter_stop_name, refused_words, room_of}
 use Rattle.tilebench.specs.Terms.{Status, TextFault, Rose, Gains, GainsFront, AnswersLeft, FailsLeft, IsReadyFor, refused_text}
 use Rattle.tilebench.specs.Terms.{GrownValue, Outcome, IsOutcome, IsSystemThen, ReadsPlaces, spelling, Place, TileSystem, ReadsAny, IsAlone, IsGrowth, IsLegal, SamePlacements, growth_text}
 use Rattle.tilebench.specs.Terms.{IsClosedInBox, IsLeastOpenOutside, IsLocallyDeterministic, IsDeterministicInBox, IsDeterministicInSomeOrder, GrowsInto, IsWatchAnswer}
@@ -19,7 +19,7 @@ pub record IsAnswer (words : List (List ℕ)) (left left_after : Option (List �
 -- A refusal of the words, by its reason.
 pub data IsWordsRefusal (words : List (List ℕ)) (text : List ℕ) : Type 0 where
   -- the first word names no command
-  no_command : command_named words ≡ None → text ≡ refused_words (codes "NoCommand") →
+  no_command : IsNoCommand words → text ≡ refused_words (codes "NoCommand") →
       IsWordsRefusal words text
   -- clap finds a fault in the list, and does not promise to take it
   usage : IsUsage words → text ≡ refused_words (codes "Usage") → IsWordsRefusal words text
@@ -58,8 +58,7 @@ module _ {S K E : Type 0} (read_faults : S → ℕ) (written : K → Option (Lis
 -- An answer is due: clap promises to take the words, and the command that they call for refuses none of its numbers and, if it reads the source, takes what is left of it: that is known, short,
 -- and reads as the command's input.
 pub record IsDue (words : List (List ℕ)) (left : Option (List ℕ)) : Type 0 where
-  pub name : CommandName
-  pub taken : IsTaken words name
+  pub taken : IsTaken words
   pub ready : (command : Command) → IsCallOf words command → IsReadyFor (room_of command) left
 
 -- The growth answer: the input is the text of one system, and the text is that of a growth of it, of which this holds.

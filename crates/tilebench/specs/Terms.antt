@@ -21,8 +21,7 @@ pub use Rattle.job_board.specs.Answers.{AnswerEach}
 pub use Rattle.job_board.specs.AnswerText.{batch_text, growth_text, is_unique}
 pub use Rattle.counter_compile.specs.declared.stop.CounterStop.{CounterStop}
 pub use Rattle.command_line.specs.declared.commands.Command.{Command}
-pub use Rattle.command_line.specs.declared.commands.CommandName.{CommandName}
-pub use Rattle.command_line.specs.Commands.{IsCallOf, IsTaken, IsUsage, command_named}
+pub use Rattle.command_line.specs.Commands.{IsCallOf, IsNoCommand, IsTaken, IsUsage}
 pub use Rattle.tilebench.specs.declared.status.Status.{Status}
 pub use Rattle.tilebench.specs.Commands.{room_of}
 pub use Rattle.tilebench.specs.Rows.{AnswersLeft, FailsLeft, IsReadyFor}

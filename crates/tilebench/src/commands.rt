@@ -20,7 +20,7 @@ mod upgrade;
 mod verify;
 mod watch;
 
-use crate::resources::{Crew, Resources};
+use crate::resources::Resources;
 use crate::run::{run, run_in_blocks};
 use crate::status::Ran;
 use command_line::Command;
@@ -40,21 +40,10 @@ pub fn run_command<R: Threads + Wait + Sync, G: Gate, S: Source, K: Sink, E: Sin
         source.old source.new out.old out.new err.old err.new result }
 {
     match command {
-        Command::Grow { workers, choice } => {
-            grow::Grow(Crew { workers, choice }).run(resources, source, out, err)
-        }
-        Command::Race { workers, choice } => {
-            race::Race(Crew { workers, choice }).run(resources, source, out, err)
-        }
-        Command::Report { workers, choice } => {
-            reports::Report(Crew { workers, choice }).run(resources, source, out, err)
-        }
-        Command::Watch {
-            workers,
-            choice,
-            frames,
-        } => {
-            let crew = Crew { workers, choice };
+        Command::Grow(crew) => grow::Grow(crew).run(resources, source, out, err),
+        Command::Race(crew) => race::Race(crew).run(resources, source, out, err),
+        Command::Report(crew) => reports::Report(crew).run(resources, source, out, err),
+        Command::Watch(crew, frames) => {
             watch::Watch { crew, frames }.run(resources, source, out, err)
         }
         Command::Batch { workers } => batch::Batch { workers }.run(resources, source, out, err),

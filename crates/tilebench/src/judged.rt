@@ -6,9 +6,10 @@ ghost use Rattle.grow_workers.specs.Workers.{IsGrownBy, IsSeenOrder};
 ghost use Rattle.tilebench.specs.Inner.Rooms.{IsJudgedGrowth};
 
 use crate::order::{grow_ordered, known_or_found_order};
-use crate::resources::{Crew, Resources};
+use crate::resources::Resources;
 use assembly::{Grid, Sequence};
 use atam::Verdict;
+use command_line::Crew;
 use fan_out::WorkerCount;
 use grow_workers::SeenOrder;
 use local_check::{LaidOut, judge_grown};

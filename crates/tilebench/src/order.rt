@@ -7,8 +7,9 @@ ghost use Rattle.type_index.specs.Indexes.{IsIndexOf};
 ghost use Rattle.grow_workers.specs.Workers.{IsGrownBy, IsSeenOrder};
 ghost use Rattle.replay_order.specs.ReplayAnswers.{IsWholeOrder};
 
-use crate::resources::{Crew, Resources};
+use crate::resources::Resources;
 use assembly::Grid;
+use command_line::Crew;
 use fan_out::WorkerCount;
 use grow_workers::{Lent, SeenOrder, grow_by_index, grow_seeing_order};
 use replay_order::replay_producible_by;

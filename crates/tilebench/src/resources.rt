@@ -1,5 +1,4 @@
-// What a run is lent, and how it is to grow systems.
-use fan_out::WorkerCount;
+// What a run is lent.
 use std::alloc::Global;
 
 /// The runtime that starts threads, the allocator, and the gate that each worker passes before its
@@ -9,11 +8,4 @@ pub struct Resources<'a, R, G> {
     pub rt: &'a R,
     pub alloc: Global,
     pub gate: &'a G,
-}
-
-/// By how many workers a system is grown, and what they choose by.
-#[derive(Clone, Copy, Debug, PartialEq, Eq)]
-pub struct Crew {
-    pub workers: WorkerCount,
-    pub choice: u64,
 }

@@ -1,10 +1,11 @@
 // The top call: all that the program does, over any source, sinks and gate.
-ghost use Rattle.std.specs.Prelude.{◌≡◌, ◌≢◌, ◌⊎◌, ◌≤◌, ℕ, Bool, None, map, string_bytes};
+ghost use Rattle.std.specs.Prelude.{◌≡◌, ◌≢◌, ◌⊎◌, ◌≤◌, Bool, map, string_bytes};
 ghost use Rattle.tile_io.specs.Faults.{Rose};
 ghost use Rattle.fan_out.specs.declared.worker_count.WorkerCount.{WorkerCount};
 ghost use Rattle.command_line.specs.declared.commands.Command.TheVariants.{Batch, Grow, Watch};
+ghost use Rattle.command_line.specs.declared.crew.Crew.{Crew};
 ghost use Rattle.command_line.specs.declared.frame_count.FrameCount.{FrameCount};
-ghost use Rattle.command_line.specs.Commands.{IsCallOf, command_named};
+ghost use Rattle.command_line.specs.Commands.{IsCallOf, IsNoCommand};
 ghost use Rattle.tilebench.specs.Gains.{Gains};
 ghost use Rattle.tilebench.specs.Headline.{Ends, IsAnswer, IsDue, IsTextRefusal, IsWordsRefusal};
 ghost use Rattle.tilebench.specs.Headline.{IsBatchHeadline, IsHeadline, IsWatchedHeadline};
@@ -46,15 +47,15 @@ pub fn tilebench<R: Threads + Wait + Sync, S: Source, K: Sink, E: Sink, G: Gate>
         source.old source.new out.old out.new err.old err.new result.status result.grown }
 
     // What `grow` printed.
-    ensures growth { (workers : WorkerCount) (choice : ℕ) (is_yes : Bool)
-        → IsCallOf (map string_bytes words.now) (Grow workers choice)
+    ensures growth { (crew : Crew) (is_yes : Bool)
+        → IsCallOf (map string_bytes words.now) (Grow crew)
         → result.status ≡ answer_status is_yes
         → Gains K.written K.faults
         (AnswersInput IsHeadline (S.left source.old) (S.left source.new) is_yes) out.old out.new }
 
     // What `watch` printed.
-    ensures watched { (workers : WorkerCount) (choice : ℕ) (frames : FrameCount) (is_yes : Bool)
-        → IsCallOf (map string_bytes words.now) (Watch workers choice frames)
+    ensures watched { (crew : Crew) (frames : FrameCount) (is_yes : Bool)
+        → IsCallOf (map string_bytes words.now) (Watch crew frames)
         → result.status ≡ answer_status is_yes
         → Gains K.written K.faults
         (AnswersInput (IsWatchedHeadline frames.count)
@@ -76,7 +77,7 @@ pub fn tilebench<R: Threads + Wait + Sync, S: Source, K: Sink, E: Sink, G: Gate>
         → IsReadingCall (map string_bytes words.now) }
     ensures no_memory { result.status ≡ Status.NoMemory
         → (source.new ≡ source.old) ⊎ IsReadingCall (map string_bytes words.now) }
-    ensures no_command { command_named (map string_bytes words.now) ≡ None
+    ensures no_command { IsNoCommand (map string_bytes words.now)
         → (result.status ≡ Status.Words) ⊎ (result.status ≡ Status.WriteFault) }
 
     // Counts of faults never fall.

@@ -1,14 +1,19 @@
 -- What a parse finds for arguments that take a number.
 use Rattle.std.specs.Prelude.{◌≡◌, ℕ, Bool, false, List, [], ◌∷◌, Some}
+use Rattle.std.specs.List.{AllZip}
 use Rattle.clap.specs.Words.{Accepts, App, Text, matches_of, one_text, read_as, reading_of, rows_of}
 use Rattle.clap.specs.declared.builder.value_parser.ValueParser.{ValueParser}
 use Rattle.clap.specs.declared.builder.value_parser.ValueParser.TheVariants.{Unsigned}
 use Rattle.clap.specs.declared.parser.matches.Found.{Found}
-use Rattle.command_line.specs.Numbers.{NumberArgument, number_of_text}
+use Rattle.command_line.specs.Numbers.{NumberArgument, States, number_of_text}
 
 -- the parse found what clap states for these words
 unfoldable pub IsExact : App → List Text → Found → Type 0
 IsExact app words found = rows_of found ≡ matches_of app words
+
+-- clap states these numbers for these arguments, in their order
+abbrev pub StatesValues : App → List Text → List NumberArgument → List ℕ → Type 0
+StatesValues app words = AllZip (λ argument value. States app words argument.id value)
 
 -- the parse found a text for the id that the parser accepts
 abbrev pub FindsText : Found → Text → Bool → ValueParser → Type 0

@@ -17,11 +17,12 @@ ghost use Rattle.tile_io.specs.Lines.{line_of};
 
 use crate::growth::{Growth, growth_of};
 use crate::judged::grow_judged;
-use crate::resources::{Crew, Resources};
+use crate::resources::Resources;
 use crate::room::{Reply, Room};
 use crate::run::run_by;
 use crate::status::Ran;
 use crate::stop::Stop;
+use command_line::Crew;
 use counter_compile::{CounterStop, compile_counter};
 use fan_out::WorkerCount;
 use itoa::Buffer;

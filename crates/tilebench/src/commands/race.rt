@@ -14,12 +14,13 @@ ghost use Rattle.tilebench.specs.Inner.CommandRows.{race_row};
 
 use crate::input::read_alone;
 use crate::order::grow_by_crew;
-use crate::resources::{Crew, Resources};
+use crate::resources::Resources;
 use crate::room::{Reply, Room};
 use crate::run::run_by;
 use crate::status::Ran;
 use crate::stop::Stop;
 use crate::wins::{Win, wins_of};
+use command_line::Crew;
 use fan_out::WorkerCount;
 use itoa::Buffer;
 use site_table::Grown;

@@ -49,7 +49,7 @@ returns-in-Err-clause-ends g c =
     stop (λ is. c.in-Err.ensures.no_command.0 (ap Err is)) (λ is. c.in-Err.ensures.usage (ap Err is)) status refuses refl
 
 pub returns-in-Err-clause-growth : goal.returns-in-Err-clause-growth
-returns-in-Err-clause-growth g c = λ workers choice is_yes _ is.
+returns-in-Err-clause-growth g c = λ crew is_yes _ is.
     let stop = c.in-Err.stop in
     let status = c.refuse.result in
     let Told : Stop → Type 0 = λ told. Refuses g.E.Sink.written g.E.Sink.faults c.args.err.now c.refuse.new.err told status in
@@ -57,7 +57,7 @@ returns-in-Err-clause-growth g c = λ workers choice is_yes _ is.
     absurd (stop_no_answer g.E.Sink.written g.E.Sink.faults (map string_bytes c.args.words.now) c.args.err.now c.refuse.new.err stop status is_yes refuses is)
 
 pub returns-in-Err-clause-watched : goal.returns-in-Err-clause-watched
-returns-in-Err-clause-watched g c = λ workers choice frames is_yes _ is.
+returns-in-Err-clause-watched g c = λ crew frames is_yes _ is.
     let stop = c.in-Err.stop in
     let status = c.refuse.result in
     let Told : Stop → Type 0 = λ told. Refuses g.E.Sink.written g.E.Sink.faults c.args.err.now c.refuse.new.err told status in
@@ -105,4 +105,4 @@ returns-in-Err-clause-complete g c = λ due _ _ _.
     let Told : Stop → Type 0 = λ told. Refuses g.E.Sink.written g.E.Sink.faults c.args.err.now c.refuse.new.err told status in
     let refuses : Refuses g.E.Sink.written g.E.Sink.faults c.args.err.now c.refuse.new.err (stop_of_words stop) status = subst Told c.from.ensures c.refuse.ensures in
     inr (stop_complete g.E.Sink.written g.E.Sink.faults (map string_bytes c.args.words.now) c.args.err.now c.refuse.new.err stop status
-    (λ is. c.in-Err.ensures.no_command.0 (ap Err is)) (λ is. c.in-Err.ensures.usage (ap Err is)) refuses due.name due.taken)
+    (λ is. c.in-Err.ensures.no_command.0 (ap Err is)) (λ is. c.in-Err.ensures.usage (ap Err is)) refuses due.taken)
