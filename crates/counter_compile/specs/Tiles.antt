@@ -12,7 +12,8 @@ use Rattle.counter_compile.specs.declared.label.Label.TheVariants.{BitWest, Bit,
 use Rattle.design.specs.TileSets.{TileSet}
 
 abbrev pub digit : Bool → ℕ
-digit b = if b then 1 else 0
+digit true = 1
+digit false = 0
 
 -- The table of the sides of each kind, for the first number v: north, east, south, west. A row that
 -- adds shows nothing upwards at the west end past the last number.

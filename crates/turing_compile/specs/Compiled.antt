@@ -10,10 +10,6 @@ use Rattle.turing_compile.specs.declared.kind.Label.{Label}
 use Rattle.turing_compile.specs.declared.kind.Label.TheVariants.{Symbol, Acting, Rightward, Leftward, HeadRightward, HeadLeftward, Joint}
 use Rattle.turing_compile.specs.Tiles.{side}
 
--- the name of a state or a symbol, among all
-abbrev pub name_at : List (List ℕ) → ℕ → List ℕ
-name_at names i = slice_index_or names i []
-
 module _ (M : TuringMachine) where
   -- the pairs of a state and a symbol, by state and then by symbol
   abbrev pub pairs : List (ℕ × ℕ)
@@ -37,9 +33,15 @@ module _ (M : TuringMachine) where
   abbrev pub past_acting : ℕ
   past_acting = length M.symbols + length (ruled pairs)
 
-  -- the name of a state and a symbol
+  -- the names of a state, of a symbol, and of both
+  abbrev pub state_name : ℕ → List ℕ
+  state_name q = slice_index_or M.states q []
+
+  abbrev pub symbol_name : ℕ → List ℕ
+  symbol_name a = slice_index_or M.symbols a []
+
   abbrev pub pair_name : ℕ → ℕ → List ℕ
-  pair_name q a = name_at M.states q ++ codes ":" ++ name_at M.symbols a
+  pair_name q a = state_name q ++ codes ":" ++ symbol_name a
 
   -- the table of kinds: the place of each in the list of kinds, and its name
   abbrev pub kind_row : Kind → ℕ × List ℕ
@@ -48,20 +50,20 @@ module _ (M : TuringMachine) where
   kind_row (FromLeft q a) = (past_actions + pair_number (q, a), codes "R:" ++ pair_name q a)
   kind_row (FromRight q a) =
       (past_actions + length pairs + pair_number (q, a), codes "L:" ++ pair_name q a)
-  kind_row (RightOf a) = (past_actions + 2 * length pairs + a, codes "r:" ++ name_at M.symbols a)
+  kind_row (RightOf a) = (past_actions + 2 * length pairs + a, codes "r:" ++ symbol_name a)
   kind_row (LeftOf a) =
-      (past_actions + 2 * length pairs + length M.symbols + a, codes "l:" ++ name_at M.symbols a)
+      (past_actions + 2 * length pairs + length M.symbols + a, codes "l:" ++ symbol_name a)
 
   -- The table of labels: the place of each in the list of labels, its strength and its name. Those
   -- that hold a tile alone have strength 2.
   abbrev pub label_row : Label → ℕ × ℕ × List ℕ
-  label_row (Symbol a) = (a, 1, codes "s:" ++ name_at M.symbols a)
+  label_row (Symbol a) = (a, 1, codes "s:" ++ symbol_name a)
   label_row (Acting q a) = (length M.symbols + rules_before (q, a), 2, codes "h:" ++ pair_name q a)
   label_row Rightward = (past_acting, 1, codes "r")
   label_row Leftward = (past_acting + 1, 1, codes "l")
-  label_row (HeadRightward q) = (past_acting + 2 + q, 1, codes "R:" ++ name_at M.states q)
+  label_row (HeadRightward q) = (past_acting + 2 + q, 1, codes "R:" ++ state_name q)
   label_row (HeadLeftward q) =
-      (past_acting + 2 + length M.states + q, 1, codes "L:" ++ name_at M.states q)
+      (past_acting + 2 + length M.states + q, 1, codes "L:" ++ state_name q)
   label_row (Joint i) = (past_acting + 1 + 2 * length M.states + i, 2, codes "c:" ++ decimal i)
 
   abbrev pub tiles_of : TileSet Kind Label

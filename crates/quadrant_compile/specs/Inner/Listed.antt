@@ -4,7 +4,7 @@ use Rattle.atam.specs.declared.area.BoxArea.{BoxArea}
 use Rattle.quadrant_compile.specs.declared.tile.Kind.{Kind}
 use Rattle.quadrant_compile.specs.declared.tile.Label.{Label}
 use Rattle.quadrant_compile.specs.Quadrants.{RuleQuadrant}
-use Rattle.quadrant_compile.specs.QuadrantSystems.{kind_row, label_row, tiles_of, quadrant_system}
+use Rattle.quadrant_compile.specs.QuadrantSystems.{tiles_of, quadrant_system}
 
 abbrev pub kinds : RuleQuadrant → List Kind
 kinds q = (tiles_of q).kinds
@@ -17,18 +17,18 @@ area_of q = (quadrant_system q).area
 
 -- the places in the lists of kinds and of labels
 abbrev pub kind_number : RuleQuadrant → Kind → ℕ
-kind_number q k = (kind_row q k).0
+kind_number q k = ((tiles_of q).kind_row k).0
 
 abbrev pub label_number : RuleQuadrant → Label → ℕ
-label_number q g = (label_row q g).0
+label_number q g = ((tiles_of q).label_row g).0
 
 -- and the names
 abbrev pub kind_name : RuleQuadrant → Kind → List ℕ
-kind_name q k = (kind_row q k).1
+kind_name q k = ((tiles_of q).kind_row k).1
 
 abbrev pub label_name : RuleQuadrant → Label → List ℕ
-label_name q g = (label_row q g).2
+label_name q g = ((tiles_of q).label_row g).2
 
 -- how strong a label is
 abbrev pub strength : RuleQuadrant → Label → ℕ
-strength q g = (label_row q g).1
+strength q g = ((tiles_of q).label_row g).1
