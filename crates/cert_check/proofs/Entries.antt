@@ -15,7 +15,7 @@ use Rattle.atam.proofs.Boxes.{same_site_tells}
 use Rattle.atam.proofs.Lists.{some_or_none, slice_get-Contains, Contains-slice_get, Contains-here, Contains-there}
 use Rattle.atam.proofs.Placements.{tile_at-place, tile_at-past, Contains-tile_at}
 use Rattle.cert_check.specs.declared.entry.Entry.{Entry}
-use Rattle.cert_check.specs.Certificates.{states, places_of, entry_at, states_at}
+use Rattle.cert_check.specs.Certificates.{states, places_of, entry_at}
 
 -- a neighbour is another site
 pub neighbor-other : (m : Site) (d : Side) → neighbor m d ≢ m
@@ -102,11 +102,11 @@ module _ (c : List Entry) (distinct : HasDistinctSites (places_of c)) where
   ]
 
   -- the sides that are stated at its site are its own
-  pub states_at-is : (e : Entry) (m : Site) (d : Side) → Contains c e → e.place.site ≡ m → states_at c m d ≡ states e d
+  pub states_at-is : (e : Entry) (m : Site) (d : Side) → Contains c e → e.place.site ≡ m → option_map_or (λ f. states f d) (entry_at c m) false ≡ states e d
   states_at-is e m d contains here = ap (λ o. option_map_or (λ f. states f d) o false) (entry_at-is e m contains here)
 
   -- and where nothing stands none are
-  pub states_at-none : (m : Site) (d : Side) → tile_at (places_of c) m ≡ None → states_at c m d ≡ false
+  pub states_at-none : (m : Site) (d : Side) → tile_at (places_of c) m ≡ None → option_map_or (λ f. states f d) (entry_at c m) false ≡ false
   states_at-none m d empty = elim (some_or_none (entry_at c m)) [
     | inl none ↦ ap (λ o. option_map_or (λ f. states f d) o false) none
     | inr some ↦

@@ -41,13 +41,9 @@ pub record AreEntries (c : List Entry) : Type 0 where
 abbrev pub entry_at : List Entry → Site → Option Entry
 entry_at c m = find (λ e. same_site e.place.site m) c
 
--- whether the entry at a site states a side; none does where there is no entry
-abbrev pub states_at : List Entry → Site → Side → Bool
-states_at c m d = option_map_or (λ e. states e d) (entry_at c m) false
-
--- whether the entry beside a site in direction d states the side towards it
+-- whether an entry stands beside a site in direction d, and states the side towards it
 abbrev pub is_waiting : List Entry → Site → Side → Bool
-is_waiting c m d = states_at c (neighbor m d) (opposite d)
+is_waiting c m d = option_map_or (λ e. states e (opposite d)) (entry_at c (neighbor m d)) false
 
 -- the bond of an entry's tile on a stated side, and their sum
 unfoldable pub stated_bond : TileSystem → List Entry → Entry → Side → ℕ
