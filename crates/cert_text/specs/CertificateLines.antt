@@ -4,10 +4,10 @@ use Rattle.std.specs.List.{slice_index_or}
 use Rattle.std.specs.Fmt.{signed_decimal}
 use Rattle.tile_io.specs.Lines.{line_of}
 use Rattle.atam.specs.declared.site.Side.{Side}
-use Rattle.atam.specs.declared.site.Side.TheVariants.{North, East, South, West}
 use Rattle.atam.specs.declared.site.Site.{Site}
 use Rattle.atam.specs.TileSystem.{TileSystem, IsType, type_name}
 use Rattle.cert_check.specs.declared.entry.Entry.{Entry}
+use Rattle.cert_check.specs.Certificates.{bit_of}
 use Rattle.cert_check.specs.declared.verdict.CertVerdict.{CertVerdict}
 use Rattle.cert_check.specs.declared.verdict.CertVerdict.TheVariants.{Yes, NoSeed, SeedSides, BadInput, NotExact, LooseBond, Rival, NotTerminal}
 
@@ -28,10 +28,7 @@ mark_lines sys c = flat_map (mark_line sys) c
 
 -- the letter of a side
 abbrev pub side_letter : Side → List ℕ
-side_letter North = codes "N"
-side_letter East = codes "E"
-side_letter South = codes "S"
-side_letter West = codes "W"
+side_letter d = slice_index_or side_words (bit_of d) []
 
 -- the number of the check that fails, the site where it fails, and what fails there, if that is told
 abbrev pub failed_check : List ℕ → Site → List (List ℕ) → List ℕ
