@@ -17,11 +17,11 @@ pub record IsBreach (sys : TileSystem) (s : List Place) (i : ℕ) (P : Place →
   pub there : slice_get s i ≡ Some place
   pub told : P place
 
--- It is legal; or the seeds aren't at its head; or this is the first place behind them whose site is
--- taken, or whose site is empty and whose pull, this one, is less than the temperature.
+-- It is legal; or it has fewer places than there are seeds, or begins with others than the seeds in
+-- their order; or this is the first place behind them whose site is taken, or whose site is empty and
+-- whose pull, this one, is less than the temperature.
 abbrev pub IsLegalityAnswer : TileSystem → List Place → Legality → Type 0
 IsLegalityAnswer sys seq Legal = IsLegal sys seq
--- fewer places than there are seeds, or others than the seeds in their order
 IsLegalityAnswer sys seq WrongSeed = take (length sys.seeds) seq ≢ sys.seeds
 IsLegalityAnswer sys seq (SiteTaken index) =
     IsBreach sys seq index (λ p. (t : TypeId) × (tile_at (take index seq) p.site ≡ Some t))
