@@ -59,7 +59,8 @@ pub record IsSeenOrder (sys : TileSystem) (tiles : List Place) (seen : SeenOrder
   pub canonical : IsCanonical sys tiles seen.order
   pub clean : seen.clean ≡ true → CameExact sys seen.order
 
--- In a table over the system's box so many workers placed all tiles but the seeds, under their numbers alone.
+-- In a table over the system's box so many workers placed all tiles but the seeds, under their
+-- numbers alone.
 pub record WorkersPlaced (sys : TileSystem) (workers : ℕ) (grown : GrownValue) : Type 0 where
   pub area : grown.grid.area ≡ sys.area
   pub numbers : length grown.won ≡ 64

@@ -1,5 +1,5 @@
 -- What is known of a full growth and its canonical sequence.
-use Rattle.std.proofs.Common.{ℕ, All, List, IfSome}
+use Rattle.std.proofs.Common.{All, List, IfSome}
 use Rattle.atam.specs.declared.place.Place.{Place}
 use Rattle.atam.specs.TileSystem.{TileSystem, IsType}
 use Rattle.atam.specs.Assembly.{Fits}

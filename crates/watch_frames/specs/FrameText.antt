@@ -6,13 +6,14 @@ use Rattle.atam.specs.TileSystem.{TileSystem}
 use Rattle.seq_text.specs.GrowthLines.{place_lines}
 use Rattle.watch_frames.specs.Watched.{IsWatched}
 
--- The frames with these counts, from one with this number on, behind so many places: of each its number and how many
--- places it has, and then the places that it adds.
+-- The frames with these counts, from one with this number on, behind so many places: of each its
+-- number and how many places it has, and then the places that it adds.
 abbrev pub frame_lines : TileSystem → List Place → ℕ → ℕ → List ℕ → List ℕ
 frame_lines sys places number before [] = []
 frame_lines sys places number before (count ∷ counts) =
     line_of (codes "frame" ∷ decimal number ∷ decimal count ∷ [])
-    ++ place_lines sys (drop before (take count places)) ++ frame_lines sys places (number + 1) count counts
+    ++ place_lines sys (drop before (take count places))
+    ++ frame_lines sys places (number + 1) count counts
 
 -- all frames, of which the first one tells of all its places, and then that all is grown
 abbrev pub frames_text : TileSystem → List Place → List ℕ → List ℕ

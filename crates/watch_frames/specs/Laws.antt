@@ -30,11 +30,13 @@ ExtendsLegally = (sys : TileSystem) (earlier tiles s : List Place) → HasDistin
 
 -- the seeds go on in canonical order
 abbrev pub ExtendsSeedsCanonically : Type 0
-ExtendsSeedsCanonically = (sys : TileSystem) (tiles s : List Place) → Extends sys sys.seeds tiles s ↔ IsCanonical sys tiles s
+ExtendsSeedsCanonically = (sys : TileSystem) (tiles s : List Place) →
+    Extends sys sys.seeds tiles s ↔ IsCanonical sys tiles s
 
 -- what was listed is enough to say how it went on
 abbrev pub ExtendsOverItself : Type 0
-ExtendsOverItself = (sys : TileSystem) (earlier tiles s : List Place) → Extends sys earlier tiles s → Extends sys earlier s s
+ExtendsOverItself = (sys : TileSystem) (earlier tiles s : List Place) →
+    Extends sys earlier tiles s → Extends sys earlier s s
 
 -- every legal sequence over the tiles is a part of what is listed: this is their greatest producible part
 abbrev pub ExtendsToGreatest : Type 0

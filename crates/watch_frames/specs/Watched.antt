@@ -15,8 +15,8 @@ pub record IsWatched (sys : TileSystem) (many : ℕ) (places : List Place) (coun
   pub part : IsPartOf places tiles
   pub full : IsFullGrowth sys tiles
 
--- What so many workers grew beside a watcher, who counts as worker 1, and so has the number 63, but placed none.
--- Worker 0 has 0 then, and worker w from 1 on has 63 - w.
+-- What so many workers grew beside a watcher, who counts as worker 1, and so has the number 63, but
+-- placed none. Of those who grow worker 0 has 0 then, and worker w from 1 on has 63 - w.
 pub record GrewBesideWatcher (sys : TileSystem) (workers : ℕ) (out : GrownValue) : Type 0 where
   pub placed : WorkersPlaced sys (workers + 1) out
   pub watcher : slice_index out.won 63 ≡ 0

@@ -9,7 +9,8 @@ use Rattle.watch_frames.specs.declared.printing.FrameSpan.{FrameSpan}
 -- the frames with these counts, from one with this number on, behind so many places
 abbrev pub spans_from : ℕ → ℕ → List ℕ → List FrameSpan
 spans_from number before [] = []
-spans_from number before (count ∷ counts) = record { number = number; before = before; count = count } ∷ spans_from (number + 1) count counts
+spans_from number before (count ∷ counts) =
+    record { number = number; before = before; count = count } ∷ spans_from (number + 1) count counts
 
 -- the first one tells of all its places
 abbrev pub spans : List ℕ → List FrameSpan
