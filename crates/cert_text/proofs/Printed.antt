@@ -32,7 +32,7 @@ use Rattle.seq_text.proofs.Printed.{behind_text}
 use Rattle.cert_check.specs.declared.entry.Entry.{Entry}
 use Rattle.cert_check.specs.Certificates.{places_of}
 use Rattle.cert_text.specs.CertificateLines.{mark_lines, mark_line}
-use Rattle.cert_text.specs.CertificateText.{certificate_table, certificate_format, mark_row, ReadsCertificate}
+use Rattle.cert_text.specs.CertificateText.{certificate_table, certificate_format, ReadsCertificate}
 use Rattle.cert_text.specs.PrintedCertificates.{MayBePrinted, ReadsBack, printed_input}
 use Rattle.cert_text.proofs.SidesWords.{sides_word, sides_told}
 

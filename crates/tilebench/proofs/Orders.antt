@@ -1,6 +1,6 @@
 -- What `replay` answers to a text.
 use Rattle.tile_io.specs.Lines.{first_mark}
-use Rattle.std.proofs.Common.{◌≡◌, ◌∙◌, ◌++◌, [], ℕ, List, None, Err, refl, sym, ap, subst, append-nil, inl, inr}
+use Rattle.std.proofs.Common.{◌∙◌, ◌++◌, [], ℕ, List, None, Err, refl, sym, append-nil, inl, inr}
 use Rattle.atam.specs.declared.place.Place.{Place}
 use Rattle.atam.specs.Placements.{HasDistinctSites}
 use Rattle.atam.specs.TileSystem.{TileSystem, IsValid}

@@ -1,5 +1,5 @@
 -- From the run of a command, or a stop at the words, to the clauses of the top call.
-use Rattle.std.proofs.Common.{◌≡◌, ◌≢◌, ◌⊎◌, ◌≤◌, ◌∙◌, ℕ, Bool, true, false, List, Option, Some, None, Result, Err, refl, sym, ap, subst, arith, inl, inr}
+use Rattle.std.proofs.Common.{◌≡◌, ◌≢◌, ◌⊎◌, ◌≤◌, ℕ, Bool, true, false, List, Option, None, Result, Err, refl, sym, ap, subst, arith, inl, inr}
 use Rattle.tile_io.specs.Faults.{Rose}
 use Rattle.fan_out.specs.declared.worker_count.WorkerCount.{WorkerCount}
 use Rattle.command_line.specs.declared.commands.Command.{Command}

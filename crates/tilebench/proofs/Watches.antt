@@ -1,6 +1,6 @@
 -- What is told of a watched growth, and how it stands to what is told of a growth.
 use Rattle.tile_text.specs.SystemText.{ReadsAny}
-use Rattle.std.proofs.Common.{◌≡◌, ◌≢◌, ◌∙◌, ◌++◌, ◌<◌, ◌≤◌, ℕ, zero, suc, Bool, true, All, List, [], ◌∷◌, length, Option, Some, unwrap_or, ap, refl, subst, sym, arith, inl, inr}
+use Rattle.std.proofs.Common.{◌≡◌, ◌≢◌, ◌∙◌, ◌++◌, ◌<◌, ◌≤◌, ℕ, zero, suc, Bool, All, List, [], ◌∷◌, length, Option, Some, unwrap_or, ap, refl, subst, sym, arith, inl, inr}
 use Rattle.std.specs.Prelude.{slice_index, sum}
 use Rattle.std.proofs.lemmas.List.Sums.{sum_by-cons}
 use Rattle.atam.specs.declared.place.Place.{Place}

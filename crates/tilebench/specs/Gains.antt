@@ -1,5 +1,5 @@
 -- What a sink gains.
-use Rattle.std.specs.Prelude.{◌≡◌, ℕ, List, Option}
+use Rattle.std.specs.Prelude.{ℕ, List, Option}
 use Rattle.std.specs.Io.KnownBytes.{Appends}
 use Rattle.tile_io.specs.Faults.{Rose}
 use Rattle.tile_io.specs.Prints.{AppendsFront}

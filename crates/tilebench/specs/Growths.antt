@@ -1,5 +1,5 @@
 -- What a system grows into.
-use Rattle.std.specs.Prelude.{ℕ, Bool, true, false, List, ◌++◌}
+use Rattle.std.specs.Prelude.{List}
 use Rattle.atam.specs.declared.place.Place.{Place}
 use Rattle.atam.specs.TileSystem.{TileSystem}
 use Rattle.replay_order.specs.ReplayAnswers.{IsWholeOrder}

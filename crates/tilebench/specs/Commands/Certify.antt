@@ -38,7 +38,8 @@ pub record IsRefutedBy (sys : TileSystem) (tiles : List Place) (verdict : Verdic
 -- and the text tells that.
 abbrev pub IsCertifyAnswer : TileSystem → List Place → Bool → List ℕ → Type 0
 IsCertifyAnswer sys tiles true text =
-    (entries : List Entry) × IsCertificateOfTiles sys tiles entries × (text ≡ mark_lines sys entries)
+    (entries : List Entry) × IsCertificateOfTiles sys tiles entries
+    × (text ≡ mark_lines sys entries)
 IsCertifyAnswer sys tiles false text =
     ((verdict : Verdict) × IsRefutedBy sys tiles verdict × (text ≡ verdict_line sys verdict))
     ⊎ TellsNoOrder sys tiles text

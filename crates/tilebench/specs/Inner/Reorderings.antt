@@ -1,5 +1,5 @@
 -- What the program says of an order, or of what keeps tiles from having one.
-use Rattle.std.specs.Prelude.{◌≡◌, ℕ, Bool, true, false, List, codes, decimal}
+use Rattle.std.specs.Prelude.{ℕ, Bool, true, false, List, codes, decimal}
 use Rattle.atam.specs.declared.place.Place.{Place}
 use Rattle.atam.specs.TileSystem.{TileSystem}
 use Rattle.replay_order.specs.ReplayAnswers.{IsWholeOrder, IsStuckAt}

@@ -1,5 +1,5 @@
 use Rattle.std.proofs.Math.Nat.{le_trans}
-use Rattle.std.proofs.Common.{◌∙◌, ℕ, List, Option, false}
+use Rattle.std.proofs.Common.{ℕ, List, Option, false}
 use Rattle.std.proofs.lemmas.Result.{err_from_is_err_and}
 use Rattle.atam.specs.declared.place.Place.{Place}
 use Rattle.atam.specs.TileSystem.{TileSystem}
