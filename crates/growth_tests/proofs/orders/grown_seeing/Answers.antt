@@ -10,6 +10,6 @@ returns-clause-fits g c =
     let sys = c.args.sys.now in
     let grown = c.in_ok-grown.grown in
     record {
-      types = producible_types sys grown.grid.tiles c.in_ok-grown.ensures.growth.producible;
-      sites = subst (λ (a : BoxArea). All (λ p. InBox a p.site) grown.grid.tiles) c.in_ok-grown.ensures.growth.area (subst (λ (g : TileGrid). All (λ p. InBox g.area p.site) g.tiles) c.grid.ensures c.recall_sites.ensures.inside);
+      types = producible_types sys grown.grid.tiles c.in_ok-grown.ensures.growth.full.producible;
+      sites = subst (λ (a : BoxArea). All (λ p. InBox a p.site) grown.grid.tiles) c.in_ok-grown.ensures.growth.placed.area (subst (λ (g : TileGrid). All (λ p. InBox g.area p.site) g.tiles) c.grid.ensures c.recall_sites.ensures.inside);
     }
