@@ -1,5 +1,5 @@
 // What entries looked like that passed their checks.
-ghost use Rattle.std.specs.Prelude.{◌≡◌, ◌<◌, IfOk, IfSome, IsTrue, option_and_then};
+ghost use Rattle.std.specs.Prelude.{◌≡◌, ◌↔◌, ◌<◌, IfOk, IfSome, IsTrue, option_and_then};
 ghost use Rattle.atam.specs.TileSystem.{IsType, side_glue};
 ghost use Rattle.atam.specs.Assembly.{Fits};
 ghost use Rattle.type_index.specs.Codes.{code_of};
@@ -59,7 +59,7 @@ impl Look {
     // Whether the other one is the same.
     #[inline(always)]
     fn is_same(&self, other: &Look) -> bool
-        ensures { IsTrue result → self.now ≡ other.now }
+        ensures { IsTrue result ↔ (self.now ≡ other.now) }
     {
         self.key == other.key && self.sides == other.sides && self.waits.is_same(&other.waits)
     }

@@ -64,7 +64,8 @@ pub record IsSeenOrder (sys : TileSystem) (tiles : List Place) (seen : SeenOrder
 pub record WorkersPlaced (sys : TileSystem) (workers : ℕ) (grown : GrownValue) : Type 0 where
   pub area : grown.grid.area ≡ sys.area
   pub numbers : length grown.won ≡ 64
-  pub idle : (n : ℕ) → n < 64 → ((w : ℕ) → w < workers → n ≢ worker_number w) → slice_index grown.won n ≡ 0
+  pub idle : (n : ℕ) → n < 64 → ((w : ℕ) → w < workers → n ≢ worker_number w) →
+      slice_index grown.won n ≡ 0
   pub total : sum grown.won + length sys.seeds ≡ length grown.grid.tiles
 
 -- what `grow` leaves: a full growth, whose tiles so many workers placed

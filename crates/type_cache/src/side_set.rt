@@ -1,5 +1,5 @@
 // A set of sides.
-ghost use Rattle.std.specs.Prelude.{◌≡◌, ◌≤◌, ◌<◌, List, IsTrue};
+ghost use Rattle.std.specs.Prelude.{◌≡◌, ◌↔◌, ◌≤◌, ◌<◌, List, IsTrue};
 ghost use Rattle.atam.specs.declared.limits.TheConstants.{MOST_STRENGTH};
 ghost use Rattle.atam.specs.declared.place.Place.{Place};
 ghost use Rattle.atam.specs.declared.site.Site.{Site};
@@ -112,7 +112,7 @@ impl SideSet {
     /// Whether the other set has the same sides.
     #[inline(always)]
     pub fn is_same(&self, other: &SideSet) -> bool
-        ensures { IsTrue result → self.now ≡ other.now }
+        ensures { IsTrue result ↔ (self.now ≡ other.now) }
     {
         self.bits == other.bits
     }

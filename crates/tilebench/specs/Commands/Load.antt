@@ -25,9 +25,9 @@ load_system number = counter_system (load_bits number) (load_start number)
 abbrev pub load_tiles : ℕ → ℕ
 load_tiles number = load_bits number * row_count (load_bits number) (load_start number)
 
--- The counter of the number, which is not refused, was grown by four workers on a table, which is handed out. All its tiles stand, nothing is open outside its box, the verdict is yes,
--- and the text is of the number alone: the number with its counter's bits and start, how many tiles
--- stand, that nothing is open, and the verdict.
+-- The counter of the number, which is not refused, was grown by four workers on a table, which is handed out. All its
+-- tiles stand, nothing is open outside its box, the verdict is yes, and the text is of the number alone: the number with
+-- its counter's bits and start, how many tiles stand, that nothing is open, and the verdict.
 pub record IsLoadAnswer (number : ℕ) (grown : Option GrownValue) (is_yes : Bool) (text : List ℕ) : Type 0 where
   pub accepted : counter_refusal (load_bits number) (load_start number) ≡ None
   pub table : GrownValue

@@ -12,4 +12,4 @@ returns-in-Some c same =
     let known = subst Table (sym c.self.view_is) c.requires.known in
     let items = c.self.inside.last.items in
     let read = slice_get_read items (length items) tile.0 c.index.result.now refl (omega (arith, known.count, c.requires.kind)) c.index.ensures in
-    subst (λ (look : Look). PassesLooking sys tile look) (c.is_same.ensures same) (known.each tile c.in-Some.last (read ∙ ap (λ o. Some o) c.in-Some.is))
+    subst (λ (look : Look). PassesLooking sys tile look) (c.is_same.ensures.0 same) (known.each tile c.in-Some.last (read ∙ ap (λ o. Some o) c.in-Some.is))

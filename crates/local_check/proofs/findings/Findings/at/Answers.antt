@@ -34,7 +34,7 @@ returns-then-is_same-clause-finding c =
       west = glue_at sys whole (neighbor site West) East;
     } in
     let faces : FacesSite sys whole site glues = record { north = refl; east = refl; south = refl; west = refl } in
-    let stood : last.before ≡ c.args.before.now = c.if-is_same.ensures search rules in
+    let stood : last.before ≡ c.args.before.now = c.if-is_same.ensures.0 search rules in
     let Stood : SideSet → Type 0 = λ sides. IsFinding sys whole site tile sides seeks last.finding in
     let Sought : Bool → Type 0 = λ b. IsFinding sys whole site tile last.before b last.finding in
     subst Stood stood (subst Sought (ap (λ table. table.seeks) c.self.view_is)

@@ -31,7 +31,7 @@ returns-then-is_same-clause-glance c =
       west = glue_at sys tiles (neighbor site West) East;
     } in
     let faces : FacesSite sys tiles site glues = record { north = refl; east = refl; south = refl; west = refl } in
-    let same : last.beside ≡ c.beside-beside.result = c.if-is_same.ensures search rules in
+    let same : last.beside ≡ c.beside-beside.result = c.if-is_same.ensures.0 search rules in
     known.each tile last read tiles site glues faces
     (subst (IsKeyOf glues) (sym c.if-last-key.true) (c.key_beside-key.ensures glues faces)) (same ∙ (c.beside-beside.ensures tiles site c.beside_at-tiles.ensures))
 
