@@ -96,8 +96,11 @@ class Building:
         began, at_once = time.time(), self.owner().jobs
         open(self.log, "wb").close()
         progress = Progress(self.top, self.log, at_once)
-        for words in (["all", "check", "--jobs", str(at_once)], ["run", "--", "grow"]):
-            if self.step(words, progress):
+        # `rt all` proves some crates at a time, each by one process; `rt run` proves one at a time, by as many as it gains from
+        many = ["all", "check", "--jobs", str(at_once)], progress.is_at_last
+        last = ["run", "--", "grow"], lambda: False
+        for words, is_enough in [last] if progress.is_at_last() else [many, last]:
+            if self.step(words, progress, is_enough):
                 self.tell_failure()
                 return False
         # a source that was written meanwhile is newer
@@ -105,12 +108,12 @@ class Building:
         say("the program is proved and built. Calls start at once from now on")
         return True
 
-    def step(self, words, progress):
-        """The status of a command of rt."""
+    def step(self, words, progress, is_enough):
+        """The status of a command of rt, which goes on until it ends or is enough."""
         with open(f"{self.top}/examples/single.tiles", "rb") as single, open(self.log, "ab") as log:
             streams = {"stdin": single, "stdout": log if words[0] == "all" else subprocess.DEVNULL, "stderr": log}
             ran = subprocess.Popen(["rt", *words], cwd=self.crate, **streams)
-            return wait_for(ran, progress.text)
+            return wait_for(ran, progress.text, is_enough)
 
     def tell_failure(self):
         """Says what failed, by the log: the end of what was said of each crate that failed, or of all."""

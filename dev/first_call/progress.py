@@ -49,12 +49,13 @@ class Crate:
                     self.functions += len(FUNCTION.findall(it.read()))
         self.newest = max([self.newest, *(it.newest for it in below)])
         self.work = self.functions + CRATE + (0 if name != "program" else PROGRAM)
-        self.share, self.is_moving = 0.0, False
+        self.share, self.is_built, self.is_moving = 0.0, False, False
 
     def look(self, done):
         """Sees how much is done, where `done` are the crates that the build has ended."""
         stamp = f"{self.folder}/out/rlib/stamp"
-        if self.name in done or (os.path.exists(stamp) and os.stat(stamp).st_mtime > self.newest):
+        self.is_built = os.path.exists(stamp) and os.stat(stamp).st_mtime > self.newest
+        if self.is_built or self.name in done:
             self.share, self.is_moving = 1.0, False
         elif all(it.share == 1 for it in self.below):
             before, self.modules = self.modules, modules(self.folder)
@@ -98,6 +99,13 @@ class Progress:
     def done(self):
         """The work that is done, in functions."""
         return sum(it.work - it.left() for it in self.crates.values())
+
+    def is_at_last(self):
+        """Whether one library at most is left, and is begun: nothing can be proved beside it, and what it keeps spares the next
+        command a first pass."""
+        self.look()
+        left = [it for it in self.crates.values() if not it.is_built]
+        return len(left) <= 2 and all(it.modules for it in left[:-1])
 
     def longest(self):
         """The most work that is left of crates of which each stands on the next, so that they are proved one by one."""

@@ -37,15 +37,17 @@ def say(text):
     print(f"tilebench: {text}", file=sys.stderr, flush=True)
 
 
-def wait_for(process, text):
-    """The status of a process of this call, once it has ended, with the line of progress that `text` makes meanwhile. A signal
-    ends the process too."""
+def wait_for(process, text, is_enough=lambda: False):
+    """The status of a process of this call, once it has ended, with the line of progress that `text` makes meanwhile; 0 where
+    `is_enough` says that it need not go on, which ends it. A signal ends the process too."""
     try:
         while True:
             try:
                 return process.wait(timeout=1)
             except subprocess.TimeoutExpired:
                 line.show(text)
+                if is_enough():
+                    return 0
     finally:
         # (`rt` then ends all that it started)
         if process.poll() is None:
