@@ -4,14 +4,19 @@ import os
 import re
 import subprocess
 import sys
+import tempfile
 import time
 from typing import NamedTuple
 
-from progress import Progress
+import apart
+from progress import APART, Progress
 from talk import line, say, wait_for
 
 # what the check of a crate takes of memory, in KiB
 EACH = 1_700_000
+# what rt says of a crate that failed, and of one above it
+LACKING = re.compile(r"^rt: \w+ NOT PROVED: its library .*\n", re.M)
+FAILED = re.compile(r"^(?:rt: )?(\w+)(?:: failed \(-?\d+\)| NOT PROVED)$", re.M)
 
 
 class Owner(NamedTuple):
@@ -91,37 +96,66 @@ class Building:
         return not subprocess.run([f"{self.top}/tilebench", "--is-built"], check=False).returncode
 
     def build(self):
-        """Proves the program and all below it, and builds it, which ends with a run. Answers whether all went well."""
+        """Proves the program and all below it, builds it and runs it once. Answers whether all went well."""
         say("proving and building the program. Ctrl-C ends it: what was proved stays, and the next call goes on there")
-        began, at_once = time.time(), self.owner().jobs
-        open(self.log, "wb").close()
+        began = time.time()
+        # where a developer's checks have left their work, it spares more than a folder apart does
+        is_apart = not apart.has_checks(self.top) and apart.is_kept() and apart.runs_as_nobody()
+        if not (self.build_apart if is_apart else self.build_here)(began):
+            self.tell_failure()
+            return False
+        say("the program is proved and built. Calls start at once from now on")
+        return True
+
+    def build_apart(self, began):
+        """Builds in a folder apart, with what earlier builds and gates on this machine have passed. Answers whether all went well."""
+        folder = tempfile.mkdtemp(prefix="tilebench-")
+        try:
+            self.begin_log(f"tilebench proves in {folder}\n")
+            apart.lay(self.top, folder)
+            progress = Progress(self.top, self.log, self.owner().jobs)
+            if self.step(["ci"], folder, progress):
+                return False
+            apart.hand_over(folder, self.top, began)
+            return True
+        finally:
+            apart.remove(folder)
+
+    def build_here(self, began):
+        """Builds in the checkout, with what checks in it have kept. Answers whether all went well."""
+        self.begin_log("")
+        at_once = self.owner().jobs
         progress = Progress(self.top, self.log, at_once)
         # `rt all` proves some crates at a time, each by one process; `rt run` proves one at a time, by as many as it gains from
         many = ["all", "check", "--jobs", str(at_once)], progress.is_at_last
         last = ["run", "--", "grow"], lambda: False
         for words, is_enough in [last] if progress.is_at_last() else [many, last]:
-            if self.step(words, progress, is_enough):
-                self.tell_failure()
+            if self.step(words, self.crate, progress, is_enough):
                 return False
         # a source that was written meanwhile is newer
         os.utime(self.program, (began, began))
-        say("the program is proved and built. Calls start at once from now on")
         return True
 
-    def step(self, words, progress, is_enough):
+    def begin_log(self, text):
+        """Begins the log of a build."""
+        with open(self.log, "w", encoding="utf-8") as it:
+            it.write(text)
+
+    def step(self, words, folder, progress, is_enough=lambda: False):
         """The status of a command of rt, which goes on until it ends or is enough."""
         with open(f"{self.top}/examples/single.tiles", "rb") as single, open(self.log, "ab") as log:
-            streams = {"stdin": single, "stdout": log if words[0] == "all" else subprocess.DEVNULL, "stderr": log}
-            ran = subprocess.Popen(["rt", *words], cwd=self.crate, **streams)
+            streams = {"stdin": single, "stdout": subprocess.DEVNULL if words[0] == "run" else log, "stderr": log}
+            ran = subprocess.Popen(["rt", *words], cwd=folder, **streams)
             return wait_for(ran, progress.text, is_enough)
 
     def tell_failure(self):
         """Says what failed, by the log: the end of what was said of each crate that failed, or of all."""
         with open(self.log, encoding="utf-8", errors="replace") as it:
-            said = it.read()
+            said = re.sub(LACKING, "", it.read())
+        found = APART.match(said)
+        said = said.replace(found[1], self.top) if found else said
         parts = dict(re.findall(r"^== (\w+)\n((?:(?!== ).*\n)*)", said, re.M))
-        failed = re.findall(r"^(\w+): failed \(-?\d+\)$", parts.get("summary", ""), re.M)
-        for name in failed or [""]:
+        for name in [it for it in FAILED.findall(said) if it in parts] or [""]:
             text = parts.get(name, said)
             print(*[f"== {name}"] * bool(name), *text.splitlines()[-30:], sep="\n", file=sys.stderr)
         say(f"the build failed; its log is {self.log}")
