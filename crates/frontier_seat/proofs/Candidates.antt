@@ -1,8 +1,9 @@
--- All lists of the types that attach at a site are of one length.
-use Rattle.std.proofs.Common.{◌≤◌, ◌<◌, ℕ, refl, suc, get_or, ap, List, [], ◌∷◌, length, Contains, arith}
+-- The types that attach at a site: all lists of them are of one length, and which of them an item is.
+use Rattle.std.proofs.Common.{◌≡◌, ◌≤◌, ◌<◌, ◌∙◌, ℕ, refl, suc, get_or, sym, subst, ap, Option, slice_get, List, [], ◌∷◌, length, Contains, arith}
 use Rattle.std.specs.List.{AllPairs}
 use Rattle.std.proofs.lemmas.List.Elements.{All-contains}
 use Rattle.std.proofs.lemmas.Map.Made.{Contains-tail}
+use Rattle.std.proofs.lemmas.Option.{slice_get-get_or}
 use Rattle.atam.specs.declared.site.Site.{Site}
 use Rattle.atam.specs.declared.place.TypeId.{TypeId}
 use Rattle.atam.specs.declared.place.Place.{Place}
@@ -10,6 +11,7 @@ use Rattle.atam.specs.TileSystem.{TileSystem}
 use Rattle.atam.specs.Growth.{IsCandidate}
 use Rattle.attach_rule.specs.Candidates.{AreCandidates}
 use Rattle.type_index.proofs.Seconds.{least_first}
+use Rattle.frontier_seat.specs.Inner.Looks.{IsOpenType}
 use Rattle.frontier_seat.specs.Inner.Pickers.{HasMoreThan}
 
 abbrev Sorted : List TypeId → Type 0
@@ -39,3 +41,15 @@ pub has_place : (sys : TileSystem) (tiles : List Place) (m : Site) (types : List
 has_place sys tiles m types n are more =
     let few = no_fewer more.types types more.are.sorted are.sorted (λ t in_types. are.complete t (All-contains (IsCandidate sys tiles m) more.types t more.are.each in_types)) in
     omega (arith, few, more.more)
+
+-- an item of such a list attaches
+pub open_at : (sys : TileSystem) (tiles : List Place) (m : Site) (types : List TypeId) (n : ℕ) (found : Option TypeId) → AreCandidates sys tiles m types → n < length types → found ≡ slice_get types n → IsOpenType sys tiles m found
+open_at sys tiles m types n found are within is =
+    let any : TypeId = record { 0 = 0 } in
+    subst (IsOpenType sys tiles m) (sym (is ∙ slice_get-get_or types n any within)) (are.each n any within)
+
+-- and so does the first one, if any does
+pub open_first : (sys : TileSystem) (tiles : List Place) (m : Site) (types : List TypeId) (found : Option TypeId) → AreCandidates sys tiles m types → found ≡ slice_get types 0 → IsOpenType sys tiles m found
+open_first sys tiles m [] found are is =
+    subst (IsOpenType sys tiles m) (sym is) (λ t attaches. let none = are.complete t attaches in absurd (omega (arith, none.1)))
+open_first sys tiles m (t ∷ types) found are is = open_at sys tiles m (t ∷ types) 0 found are (omega arith) is

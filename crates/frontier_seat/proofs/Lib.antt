@@ -5,3 +5,4 @@ pub mod Ordering
 pub mod ClosedRows
 pub mod Logged
 pub mod Candidates
+mod Scouts

@@ -1,9 +1,12 @@
-use Rattle.std.proofs.Common.{◌≡◌, ◌<◌, Bool, MatchBool, length, ap, subst, arith}
+use Rattle.std.proofs.Common.{◌≡◌, ◌<◌, ◌∙◌, Bool, MatchBool, length, inl, inr, ap, sym, subst, arith}
 use Rattle.atam.specs.declared.area.BoxArea.{BoxArea}
+use Rattle.atam.specs.Sites.{IsBox}
 use Rattle.assembly.specs.Cells.{cell_count}
+use Rattle.number_set.specs.Numbers.{IsIn}
 use Rattle.number_set.proofs.Counting.{count_below-removes}
 use Rattle.frontier_seat.specs.declared.growing.Growing.{Growing}
-use Rattle.frontier_seat.specs.Inner.Looks.{ClaimsPick}
+use Rattle.frontier_seat.specs.Inner.Listings.{ListedSites}
+use Rattle.frontier_seat.specs.Inner.Looks.{ClaimsPick, ListsOpen}
 use Rattle.frontier_seat.proofs.Listing.{spot_here, taken_spot}
 use Rattle.frontier_seat.proofs.Looked.{few_tiles, goes_further, goes_nowhere, less_work}
 use Rattle.frontier_seat.proofs.grower.Grower.spend.Goals as goal
@@ -86,3 +89,35 @@ loop-left-preserved g c =
       made = omega (arith, made, count);
       cost = omega (arith, cost, before);
     }
+
+pub look-seen-requires-clause-can : goal.look-seen-requires-clause-can
+look-seen-requires-clause-can g c =
+    let can = c.loop-left.invariant.can in
+    record { box = can.box; system = can.system; seat = can.seat; growing = can.growing; picker = can.picker; area = c.take.ensures.area ∙ can.area }
+
+pub site-site-requires-clause-limits : goal.site-site-requires-clause-limits
+site-site-requires-clause-limits g c = subst IsBox (sym c.requires.can.box) c.recall_valid.ensures.valid.box
+
+pub returns-in_default-clause-can : goal.returns-in_default-clause-can
+returns-in_default-clause-can g c =
+    let can = c.loop-left.invariant.can in
+    record { box = can.box; system = can.system; seat = can.seat; growing = can.growing; picker = can.picker; area = c.take.ensures.area ∙ can.area }
+
+pub returns-in_default-clause-lists : goal.returns-in_default-clause-lists
+returns-in_default-clause-lists g c =
+    subst (λ (w : ListedSites). ListsOpen c.args.lent.sys.now c.loop-left.self.growing.grid.tiles w.numbers) (sym c.in_default.ensures.same) c.loop-left.invariant.lists
+
+pub returns-in_default-clause-done : goal.returns-in_default-clause-done
+returns-in_default-clause-done g c = inl (λ n listed. c.in_default.ensures.none n (subst (λ (w : ListedSites). IsIn w.numbers n) c.in_default.ensures.same listed))
+
+pub returns-in_default-clause-most : goal.returns-in_default-clause-most
+returns-in_default-clause-most g c = omega (arith, c.loop-left.invariant.made)
+
+pub returns-in_default-clause-cost : goal.returns-in_default-clause-cost
+returns-in_default-clause-cost g c = c.loop-left.invariant.cost
+
+pub returns-clause-done : goal.returns-clause-done
+returns-clause-done g c = inr (omega (arith, c.loop-left.invariant.made, c.loop-left-test.false))
+
+pub returns-clause-most : goal.returns-clause-most
+returns-clause-most g c = omega (arith, c.loop-left.invariant.made)

@@ -1,11 +1,17 @@
-use Rattle.std.proofs.Common.{Bool, MatchBool, arith, sym, subst}
+use Rattle.std.proofs.Common.{◌∙◌, Bool, MatchBool, length, arith, ap, sym, subst}
 use Rattle.atam.specs.Growth.{IsClosedInBox}
 use Rattle.frontier_seat.specs.declared.bursting.Burst.{Burst}
 use Rattle.frontier_seat.specs.declared.growing.Growing.{Growing}
-use Rattle.frontier_seat.specs.Growths.{EndsBurst, GrowsOn}
+use Rattle.atam.specs.TileSystem.{TileSystem}
+use Rattle.frontier_seat.specs.declared.grower.Grower.{Grower}
+use Rattle.frontier_seat.specs.declared.grower.Setting.{Setting}
+use Rattle.frontier_seat.specs.Growths.{EndsBurst, GrowsOn, IsGrowing}
+use Rattle.frontier_seat.specs.Inner.Listings.{ListedSites}
+use Rattle.frontier_seat.specs.Inner.Looks.{ListsOpen, MayList}
 use Rattle.site_table.specs.Rule.{IsPossible}
 use Rattle.site_table.proofs.Closing.{finally}
 use Rattle.frontier_seat.proofs.Looked.{few_tiles, closed_seen, ended_open}
+use Rattle.frontier_seat.proofs.Scouts.{can_begin, keeps, of_system}
 use Rattle.frontier_seat.proofs.scout.Scout.burst.Goals as goal
 use Rattle.frontier_seat.proofs.scout.Scout.burst.Goals.{then-open, else-open}
 
@@ -50,3 +56,48 @@ returns-clause-ends g c =
 
 pub returns-clause-room : goal.returns-clause-room
 returns-clause-room g c = few_tiles c.args.sys.now c.is_open-open.new.self.growing c.is_open-open.ensures.can.growing
+
+pub list-requires-clause-growing : goal.list-requires-clause-growing
+list-requires-clause-growing g c = subst (λ (s : TileSystem). IsGrowing s c.self.inside.grower.growing) (of_system c.self.inside.grower.growing c.args.self.now c.args.table.now c.args.sys.now c.self.view_is c.requires.seat c.requires.system) c.self.invariant.0
+
+pub list-requires-clause-area : goal.list-requires-clause-area
+list-requires-clause-area g c = c.self.invariant.2 ∙ ap (λ (s : TileSystem). s.area) (of_system c.self.inside.grower.growing c.args.self.now c.args.table.now c.args.sys.now c.self.view_is c.requires.seat c.requires.system)
+
+pub list-requires-clause-may : goal.list-requires-clause-may
+list-requires-clause-may g c =
+    let grower = c.self.inside.grower in
+    subst (λ (s : TileSystem). MayList s grower.growing.grid.tiles c.self.inside.listed grower.work.numbers) (of_system c.self.inside.grower.growing c.args.self.now c.args.table.now c.args.sys.now c.self.view_is c.requires.seat c.requires.system) c.self.invariant.3
+
+pub spend-requires-clause-can : goal.spend-requires-clause-can
+spend-requires-clause-can g c =
+    let inv = c.self.invariant in
+    let lent : Setting = record { sys = c.args.sys; table = c.args.table; area = c.area-area.result } in
+    let grower : Grower = record { growing = c.self.inside.grower.growing; picker = c.self.inside.grower.picker; work = c.cut.new.self } in
+    can_begin lent grower c.args.self.now c.area-area.ensures.area c.requires.system c.requires.seat c.self.view_is inv.0 inv.1 (ap (λ (w : ListedSites). w.area) c.cut.ensures ∙ c.list.ensures.area ∙ inv.2)
+
+pub spend-requires-clause-lists : goal.spend-requires-clause-lists
+spend-requires-clause-lists g c =
+    subst (λ (w : ListedSites). ListsOpen c.args.sys.now c.self.inside.grower.growing.grid.tiles w.numbers) (sym c.cut.ensures) c.list.ensures.lists
+
+pub is_open-open-requires-clause-can : goal.is_open-open-requires-clause-can
+is_open-open-requires-clause-can g c = c.spend.ensures.can
+
+pub is_open-open-requires-clause-lists : goal.is_open-open-requires-clause-lists
+is_open-open-requires-clause-lists g c = c.spend.ensures.lists
+
+pub invariant_of-self : goal.invariant_of-self
+invariant_of-self g c =
+    let lent : Setting = record { sys = c.args.sys; table = c.args.table; area = c.area-area.result } in
+    keeps lent c.is_open-open.new.self c.is_open-open.ensures.can c.is_open-open.ensures.lists
+
+pub returns-clause-seen : goal.returns-clause-seen
+returns-clause-seen g c = c.is_open-open.ensures.can.growing.seen
+
+pub returns-clause-cost : goal.returns-clause-cost
+returns-clause-cost g c =
+    let before = ap (λ (h : Growing). length h.grid.tiles) c.self.view_is in
+    let after = ap (λ (h : Growing). length h.grid.tiles) c.is_open-open.ensures.same in
+    omega (arith, c.spend.ensures.cost, before, after)
+
+pub returns-clause-few : goal.returns-clause-few
+returns-clause-few g c = omega (arith, c.spend.ensures.cost, c.spend.ensures.most)

@@ -1,4 +1,4 @@
-use Rattle.std.proofs.Common.{◌+◌, ◌*◌, ◌∙◌, refl, sym, subst}
+use Rattle.std.proofs.Common.{◌+◌, ◌*◌, ◌∙◌, refl, sym, subst, arith}
 use Rattle.atam.specs.declared.area.BoxArea.{BoxArea}
 use Rattle.atam.specs.Sites.{width_of}
 use Rattle.frontier_seat.specs.Inner.Listings.{AreEmptySites, ListsFrontierTo}
@@ -22,3 +22,16 @@ loop-row-preserved c =
       lists = frontier_to area tiles numbers (row * width_of area + width_of area) ((row + 1) * width_of area) (sym (row_more row (row + 1) (width_of area) refl))
           (subst (λ (a : BoxArea). ListsFrontierTo a tiles numbers (row * width_of a + width_of a)) before c.list_row.ensures.lists);
     }
+
+pub loop-row-init : goal.loop-row-init
+loop-row-init c = record {
+  area = refl;
+  empty = λ n listed. absurd (c.requires.none n listed);
+  lists = λ k n d t below. let never : ⊥ = omega (arith, below) in absurd never;
+}
+
+pub list_row-requires-clause-empty : goal.list_row-requires-clause-empty
+list_row-requires-clause-empty c = subst (λ (a : BoxArea). AreEmptySites a c.args.grid.now.tiles c.loop-row.self.numbers) (sym c.loop-row.invariant.area) c.loop-row.invariant.empty
+
+pub returns-clause-empty : goal.returns-clause-empty
+returns-clause-empty c = c.loop-row.invariant.empty
