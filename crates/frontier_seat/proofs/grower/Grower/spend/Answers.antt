@@ -4,12 +4,18 @@ use Rattle.atam.specs.Sites.{IsBox}
 use Rattle.assembly.specs.Cells.{cell_count}
 use Rattle.number_set.specs.Numbers.{IsIn}
 use Rattle.number_set.proofs.Counting.{count_below-removes}
+use Rattle.frontier_seat.specs.declared.grower.Grower.{Grower}
+use Rattle.frontier_seat.specs.declared.grower.Setting.{Setting}
 use Rattle.frontier_seat.specs.declared.growing.Growing.{Growing}
 use Rattle.frontier_seat.specs.Inner.Listings.{ListedSites}
-use Rattle.frontier_seat.specs.Inner.Looks.{ClaimsPick, ListsOpen}
+use Rattle.frontier_seat.specs.Inner.Looks.{CanLook, ClaimsPick, ListsOpen}
 use Rattle.frontier_seat.proofs.Listing.{spot_here, taken_spot}
 use Rattle.frontier_seat.proofs.Looked.{few_tiles, goes_further, goes_nowhere, less_work}
 use Rattle.frontier_seat.proofs.grower.Grower.spend.Goals as goal
+
+-- whichever sites are listed
+can_beside : (lent : Setting) (grower : Grower) (work : ListedSites) → CanLook lent grower → work.area ≡ grower.work.area → CanLook lent (record { growing = grower.growing; picker = grower.picker; work = work })
+can_beside lent grower work can same = record { box = can.box; system = can.system; seat = can.seat; growing = can.growing; picker = can.picker; area = same ∙ can.area }
 
 pub loop-left-init : goal.loop-left-init
 loop-left-init g c = record {
@@ -91,17 +97,13 @@ loop-left-preserved g c =
     }
 
 pub look-seen-requires-clause-can : goal.look-seen-requires-clause-can
-look-seen-requires-clause-can g c =
-    let can = c.loop-left.invariant.can in
-    record { box = can.box; system = can.system; seat = can.seat; growing = can.growing; picker = can.picker; area = c.take.ensures.area ∙ can.area }
+look-seen-requires-clause-can g c = can_beside c.args.lent c.loop-left.self c.take.new.self c.loop-left.invariant.can c.take.ensures.area
 
 pub site-site-requires-clause-limits : goal.site-site-requires-clause-limits
 site-site-requires-clause-limits g c = subst IsBox (sym c.requires.can.box) c.recall_valid.ensures.valid.box
 
 pub returns-in_default-clause-can : goal.returns-in_default-clause-can
-returns-in_default-clause-can g c =
-    let can = c.loop-left.invariant.can in
-    record { box = can.box; system = can.system; seat = can.seat; growing = can.growing; picker = can.picker; area = c.take.ensures.area ∙ can.area }
+returns-in_default-clause-can g c = can_beside c.args.lent c.loop-left.self c.take.new.self c.loop-left.invariant.can c.take.ensures.area
 
 pub returns-in_default-clause-lists : goal.returns-in_default-clause-lists
 returns-in_default-clause-lists g c =
